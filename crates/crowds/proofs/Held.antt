@@ -1,30 +1,16 @@
--- What a crowd comes to: how many takes, and how many paths.
-use Rattle.std.proofs.Common.{◌≡◌, ℕ, ◌*◌, ◌<◌, ◌≤◌, ◌==◌, Bool, true, false, cond, List, [], ◌∷◌, ◌++◌, length, map, refl, sym, ap, subst, ◌∙◌, arith, inl, inr, ◌⊎◌, get_or}
-use Rattle.std.specs.Prelude.{count_by, nat_lt}
-use Rattle.std.specs.List.{sum_by}
-use Rattle.std.specs.Ordering.{eq_by_cmp}
-use Rattle.std.specs.FinMap as finmap
+-- The result of a crowd: how many takes, and how many paths.
+use Rattle.std.proofs.Common.{[], ◌*◌, ◌++◌, ◌<◌, ◌==◌, ◌∙◌, ◌∷◌, ◌≡◌, ◌≤◌, ◌⊎◌, ap, arith, Bool, cond, false, get_or, inl, inr, length, List, map, nat_lt, refl, subst, sym, true, ℕ}
+use Rattle.std.proofs.Math.Dec.{leb}
 use Rattle.std.proofs.lemmas.Bool.{and_parts, ltb-true}
 use Rattle.std.proofs.lemmas.Bool.Decides.{leb_tells}
-use Rattle.std.proofs.Math.Dec.{leb}
 use Rattle.std.proofs.lemmas.List.Sums.{sum_by-cons}
 use Rattle.std.proofs.lemmas.Option.{slice_get-get_or}
-use Rattle.list_laws.specs.Members.{IsAmong, IsAmong-append_cases, IsAmong-append_left, IsAmong-append_right}
-use Rattle.load_places.specs.Places.{place_cmp}
-use Rattle.edit_sums.specs.declared.entries.Edit.{Edit}
-use Rattle.edit_sums.specs.GreatestLaws.{tied}
-use Rattle.edit_sums.specs.Sums.{edits_of}
-use Rattle.replica_store.specs.Replicas.{Replicated}
-use Rattle.node_histories.specs.declared.events.HistoryEvent.{HistoryEvent}
-use Rattle.node_histories.specs.declared.events.HistoryEvent.TheVariants.{Opening, Edited, Absorbed}
-use Rattle.node_histories.specs.Histories.{IsLegal, all_edits, edits_in, store_of, takes_in}
-use Rattle.shared_node.specs.Seats.{SeatNow, AllAgree}
-use Rattle.crowds.specs.Crowds.{crowd_place, crowd_places, edit_at, places_with}
-use Rattle.crowds.specs.Workers.{is_own, own_edits, HaveWorked}
-use Rattle.crowds.proofs.Listed.{in_places, from_places}
-use Rattle.crowds.proofs.Ours.{is_ours, all_pass, ours_many, sum_same}
-use Rattle.crowds.proofs.Own.{own_grows}
-use Rattle.crowds.proofs.SamePaths.{AreAmongPlaces, same_places}
+use Rattle.std.specs.List.{sum_by}
+use Rattle.std.specs.Ordering.{eq_by_cmp}
+use Rattle.std.specs.Prelude.{count_by}
+use Rattle.crowds.proofs.Prelude.{Absorbed, all_edits, AllAgree, crowd_place, crowd_places, Edit, edit_at, Edited, edits_in, edits_of, HaveWorked, HistoryEvent, is_own, IsAmong, IsAmong-append_cases, IsAmong-append_left, IsAmong-append_right, IsLegal, Opening, own_edits, place_cmp, places_with, Replicated, SeatNow, store_of, takes_in, tied}
+use Rattle.crowds.proofs.{Listed.from_places, Listed.in_places, Ours.all_pass, Ours.is_ours, Ours.ours_many, Ours.sum_same, Own.own_grows, SamePaths.AreAmongPlaces, SamePaths.same_places}
+use Rattle.std.specs.FinMap as finmap
 
 -- the edits of an event of the crowd are at a worker's path
 edits_in_ours : (workers : ℕ) (x : HistoryEvent) (e : Edit) → is_ours workers x ≡ true → IsAmong e (edits_in x) → (k : ℕ) × (k < workers) × (e.place ≡ crowd_place k)
@@ -86,7 +72,7 @@ module _ (workers edits : ℕ) (seats : List SeatNow) (count : length seats ≡ 
         let grows = own_grows k s.seen h (agree k s is).0 in
         omega (arith, own, grows)
 
-    -- the takes behind the opening are all of the crowd
+    -- all takes after the opening are the crowd's
     all_ours : (q : Replicated) (t : List HistoryEvent) → h ≡ Opening q ∷ t → (x : HistoryEvent) → IsAmong x t → is_ours workers x ≡ true
     all_ours q t is =
         let many = ours_many workers edits h own_all in

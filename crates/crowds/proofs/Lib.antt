@@ -1,3 +1,4 @@
+pub mod Prelude
 mod Paths
 mod Made
 mod SamePaths

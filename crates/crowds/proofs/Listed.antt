@@ -1,13 +1,10 @@
 -- The paths of a crowd, each by its worker.
-use Rattle.std.proofs.Common.{◌≡◌, ℕ, zero, suc, ◌+◌, ◌<◌, ◌≤◌, ◌==◌, Bool, true, false, List, [], ◌∷◌, map, refl, sym, ap, subst, ◌∙◌, arith, inl, inr, ◌⊎◌}
-use Rattle.std.specs.Prelude.{if◌then◌else◌}
-use Rattle.std.specs.List.{range_with_len}
+use Rattle.std.proofs.Common.{[], ◌+◌, ◌<◌, ◌==◌, ◌∙◌, ◌∷◌, ◌≡◌, ◌≤◌, ◌⊎◌, ap, arith, Bool, false, if◌then◌else◌, inl, inr, List, map, refl, subst, suc, sym, true, zero, ℕ}
+use Rattle.std.proofs.Math.Dec.{leb}
 use Rattle.std.proofs.lemmas.Bool.{ne_eqb}
 use Rattle.std.proofs.lemmas.Bool.Decides.{leb_tells}
-use Rattle.std.proofs.Math.Dec.{leb}
-use Rattle.list_laws.specs.Members.{IsAmong}
-use Rattle.edit_sums.specs.declared.entries.Edit.{Edit}
-use Rattle.crowds.specs.Crowds.{crowd_place, crowd_places, edit_at}
+use Rattle.std.specs.List.{range_with_len}
+use Rattle.crowds.proofs.Prelude.{crowd_place, crowd_places, Edit, edit_at, IsAmong}
 
 among_map : {X Y : Type 0} (f : X → Y) (x : X) (xs : List X) → IsAmong x xs → IsAmong (f x) (map f xs)
 among_map f x [] a = absurd a
@@ -32,7 +29,7 @@ from_range a zero k h = absurd h
 from_range a (suc n) k (inl e) = omega arith
 from_range a (suc n) k (inr h) = let r = from_range (a + 1) n k h in omega arith
 
--- the edit at the path of a worker, where there are edits
+-- there is an edit at the path of a worker, if there are edits
 pub in_places : (workers edits k : ℕ) → k < workers → 0 < edits → IsAmong (edit_at (crowd_place k)) (map edit_at (crowd_places workers edits))
 in_places workers edits k lt some =
     let is : (edits == 0) ≡ false = ne_eqb edits 0 (λ same. absurd (omega arith)) in

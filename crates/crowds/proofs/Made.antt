@@ -1,12 +1,7 @@
--- What was made of a text that is lawful.
-use Rattle.std.proofs.Common.{◌≡◌, ℕ, Bool, true, false, List, ◌⊎◌, inl, inr, Ok, Err}
-use Rattle.std.specs.Prelude.{if◌then◌else◌}
-use Rattle.load_path.specs.Paths.{PathParts, path_of}
+-- What is made of a valid text.
+use Rattle.std.proofs.Common.{◌≡◌, ◌⊎◌, Bool, Err, false, if◌then◌else◌, inl, inr, List, Ok, true, ℕ}
+use Rattle.crowds.proofs.Prelude.{Content, File, file_of, is_file, path_of, PathParts}
 use Rattle.load_path.specs.declared.paths.PathFault.TheVariants as path
-use Rattle.edit_sums.specs.Contents.{file_of}
-use Rattle.edit_sums.specs.Limits.{is_file}
-use Rattle.edit_sums.specs.declared.contents.Content.{Content}
-use Rattle.edit_sums.specs.declared.contents.Content.TheVariants.{File}
 use Rattle.edit_sums.specs.declared.contents.ContentFault.TheVariants as content
 
 pub file_is : (made : Content) (bytes : List ℕ) → ((Ok made ≡ Err content.Memory) ⊎ (Ok made ≡ file_of bytes)) → made ≡ File bytes

@@ -1,22 +1,16 @@
--- All takes of a node are those of its crowd, where there are as many.
-use Rattle.std.proofs.Common.{◌≡◌, ℕ, zero, suc, ◌+◌, ◌*◌, ◌<◌, ◌≤◌, ◌==◌, Bool, true, false, cond, List, [], ◌∷◌, length, Some, refl, ap, subst, arith, inl, inr, ◌⊎◌}
-use Rattle.std.specs.Prelude.{◌&&◌, nat_lt, slice_get, count_by}
-use Rattle.std.specs.List.{sum_by}
-use Rattle.std.specs.Ordering.{eq_by_cmp}
-use Rattle.std.proofs.lemmas.Bool.{lt-ltb, le-ltb, eq-eqb, ne_eqb}
-use Rattle.std.proofs.lemmas.Bool.Decides.{leb_tells}
+-- All takes of a node are its crowd's, if there are as many.
+use Rattle.std.proofs.Common.{[], ◌&&◌, ◌*◌, ◌+◌, ◌<◌, ◌==◌, ◌∷◌, ◌≡◌, ◌≤◌, ◌⊎◌, ap, arith, Bool, cond, false, inl, inr, length, List, nat_lt, refl, slice_get, Some, subst, suc, true, zero, ℕ}
 use Rattle.std.proofs.Math.Dec.{leb}
 use Rattle.std.proofs.Math.Nat.{suc-mul}
-use Rattle.std.proofs.lemmas.List.Sums.{sum_by-cons, count_by-le-length}
-use Rattle.list_laws.specs.Members.{IsAmong}
-use Rattle.load_places.specs.Places.{place_cmp}
-use Rattle.edit_sums.specs.declared.entries.Edit.{Edit}
-use Rattle.node_histories.specs.declared.events.HistoryEvent.{HistoryEvent}
-use Rattle.node_histories.specs.declared.events.HistoryEvent.TheVariants.{Opening, Edited, Absorbed}
-use Rattle.crowds.specs.Crowds.{crowd_place}
-use Rattle.crowds.specs.Workers.{is_own, own_edits}
+use Rattle.std.proofs.lemmas.Bool.{eq-eqb, le-ltb, lt-ltb, ne_eqb}
+use Rattle.std.proofs.lemmas.Bool.Decides.{leb_tells}
+use Rattle.std.proofs.lemmas.List.Sums.{count_by-le-length, sum_by-cons}
+use Rattle.std.specs.List.{sum_by}
+use Rattle.std.specs.Ordering.{eq_by_cmp}
+use Rattle.std.specs.Prelude.{count_by}
+use Rattle.crowds.proofs.Prelude.{Absorbed, crowd_place, Edit, Edited, HistoryEvent, is_own, IsAmong, Opening, own_edits, place_cmp}
 
--- an edit of a worker's own file, the worker one of so many
+-- an edit of a worker's own file, by one of these workers
 abbrev pub is_ours : ℕ → HistoryEvent → Bool
 is_ours workers (Opening replica) = false
 is_ours workers (Edited seat e) = nat_lt seat workers && eq_by_cmp place_cmp e.place (crowd_place seat)
@@ -84,7 +78,7 @@ pass_step p y xs many rest false t x a =
     let one : ◌≡◌ {A = ℕ} (cond (p y) 1 0) 0 = ap (λ b. cond b 1 0) t in
     absurd (omega (arith, parts, one, short))
 
--- where as many pass as there are, each passes
+-- where as many elements pass as there are, each passes
 pub all_pass : {X : Type 0} (p : X → Bool) (xs : List X) → length xs ≤ count_by p xs → (x : X) → IsAmong x xs → p x ≡ true
 all_pass p [] many x a = absurd a
 all_pass p (y ∷ xs) many x a = pass_step p y xs many (λ le z h. all_pass p xs le z h) (p y) refl x a

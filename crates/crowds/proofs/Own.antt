@@ -1,17 +1,10 @@
--- A worker's own edits, one more.
-use Rattle.std.proofs.Common.{◌≡◌, ℕ, ◌+◌, ◌≤◌, ◌==◌, true, cond, List, refl, sym, ap, subst, ◌∙◌, arith}
-use Rattle.std.specs.Ordering.{eq_by_cmp}
+-- A worker's own edits, and one more.
+use Rattle.std.proofs.Common.{◌+◌, ◌==◌, ◌∙◌, ◌≡◌, ◌≤◌, ap, arith, cond, List, refl, subst, sym, true, ℕ}
 use Rattle.std.proofs.lemmas.Bool.{and_from, eq-eqb}
 use Rattle.std.proofs.lemmas.List.Sums.{sum_by-append, sum_by_push}
+use Rattle.std.specs.Ordering.{eq_by_cmp}
 use mathlib.Core.List.{IsPrefix}
-use Rattle.load_places.specs.Places.{PlaceParts, place_cmp}
-use Rattle.edit_sums.specs.declared.entries.Edit.{Edit}
-use Rattle.edit_sums.specs.GreatestLaws.{same_place}
-use Rattle.node_histories.specs.declared.events.HistoryEvent.{HistoryEvent}
-use Rattle.node_histories.specs.declared.events.HistoryEvent.TheVariants.{Edited}
-use Rattle.node_histories.specs.Histories.{EndsWith}
-use Rattle.crowds.specs.Crowds.{crowd_place}
-use Rattle.crowds.specs.Workers.{is_own, own_edits}
+use Rattle.crowds.proofs.Prelude.{crowd_place, Edit, Edited, EndsWith, HistoryEvent, is_own, own_edits, place_cmp, PlaceParts, same_place}
 
 pub own_grows : (worker : ℕ) (seen h : List HistoryEvent) → IsPrefix seen h → own_edits worker seen ≤ own_edits worker h
 own_grows worker seen h p =

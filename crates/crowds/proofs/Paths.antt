@@ -1,16 +1,15 @@
 -- The text of a worker's path is read as that path.
-use Rattle.std.proofs.Common.{rules, ◌≡◌, ℕ, ◌<◌, ◌^◌, true, List, [], ◌∷◌, ◌++◌, length, refl, ap, ◌∙◌, arith, length-append}
-use Rattle.std.specs.Prelude.{codes, Ok, nat_le}
-use Rattle.std.specs.List.{list_all}
-use Rattle.std.specs.Char.{is_ascii_digit}
-use Rattle.std.specs.Fmt.{decimal}
+use Rattle.std.proofs.Common.{[], ◌++◌, ◌<◌, ◌^◌, ◌∙◌, ◌∷◌, ◌≡◌, ap, arith, codes, length, length-append, List, nat_le, Ok, refl, rules, true, ℕ}
 use Rattle.std.proofs.lemmas.Bool.{and_from, and_parts, le-leb, lt-ltb}
 use Rattle.std.proofs.lemmas.Bool.Decides.{nat_tests}
 use Rattle.std.proofs.lemmas.Fmt.{digits_decimal, length-decimal-le}
 use Rattle.std.proofs.lemmas.Str.Parse.{IsDigitsTest, numerals_by_value}
-use Rattle.load_path.specs.Paths.{IsPath, is_component, is_component_byte, path_of, text_of}
-use Rattle.load_path.specs.TextLaws.{are_their_texts}
+use Rattle.std.specs.Char.{is_ascii_digit}
+use Rattle.std.specs.Fmt.{decimal}
+use Rattle.std.specs.List.{list_all}
+use Rattle.crowds.proofs.Prelude.{are_their_texts, is_component, is_component_byte, IsPath, path_of}
 use Rattle.crowds.specs.Crowds.{crowd_path}
+use Rattle.load_path.specs.Paths.{text_of}
 
 abbrev AreDigits : List ℕ → Type 0
 AreDigits digits = list_all is_ascii_digit digits ≡ true
@@ -40,6 +39,6 @@ is_component_name worker small =
 pub crowd_text_is_path : (worker : ℕ) (text : List ℕ) → worker < 2 ^ 64 → text ≡ codes "/etc/systemd/system/crowd-" ++ (decimal worker ++ codes ".service") → path_of text ≡ Ok (crowd_path worker)
 unfolding crowd_path text_of
 crowd_text_is_path worker text small is =
-    let lawful : IsPath (crowd_path worker) = record { directory = omega arith; folder = refl; name = is_component_name worker small } in
+    let well_formed : IsPath (crowd_path worker) = record { directory = omega arith; folder = refl; name = is_component_name worker small } in
     let written : text ≡ text_of (crowd_path worker) = is in
-    ap path_of written ∙ are_their_texts.read_back (crowd_path worker) lawful
+    ap path_of written ∙ are_their_texts.read_back (crowd_path worker) well_formed

@@ -1,20 +1,13 @@
--- Lists of edits of the same paths give stores of as many paths.
-use Rattle.std.proofs.Common.{◌≡◌, Bool, true, false, cond, List, [], ◌∷◌, map, length, Option, Some, None, is_some, refl, sym, ap, subst, ◌∙◌}
-use Rattle.std.specs.Prelude.{◌&&◌, T}
-use Rattle.std.specs.Ordering.{eq_by_cmp, is_lt}
-use Rattle.std.specs.FinMap as finmap
-use Rattle.std.specs.FinMap.{FinMap, is_sorted, find}
-use Rattle.std.specs.FinMap.Entries.{below_all}
+-- Lists of edits at the same paths give stores with the same number of paths.
+use Rattle.std.proofs.Common.{[], ◌&&◌, ◌∙◌, ◌∷◌, ◌≡◌, ap, Bool, cond, false, is_some, length, List, map, None, Option, refl, Some, subst, sym, T, true}
 use Rattle.std.proofs.lemmas.List.{length-map}
-use Rattle.list_laws.specs.Members.{IsAmong}
-use Rattle.load_places.specs.Places.{PlaceParts, place_cmp}
-use Rattle.load_places.specs.PlaceLaws.{place_cmp_total, place_cmp-IsAntisymmetric}
-use Rattle.edit_sums.specs.declared.entries.Edit.{Edit}
-use Rattle.edit_sums.specs.Entries.{Entry, IsBelow}
-use Rattle.edit_sums.specs.Sums.{EntryMap, entry_of, edit_of, greatest_at, sum_of}
-use Rattle.edit_sums.specs.GreatestLaws.{get-sum_of, greatest_at-above, greatest_at-found}
+use Rattle.std.specs.FinMap.{find, FinMap, is_sorted}
+use Rattle.std.specs.FinMap.Entries.{below_all}
+use Rattle.std.specs.Ordering.{eq_by_cmp, is_lt}
+use Rattle.crowds.proofs.Prelude.{Edit, edit_of, Entry, entry_of, EntryMap, get-sum_of, greatest_at, greatest_at-above, greatest_at-found, IsAmong, IsBelow, place_cmp, place_cmp-IsAntisymmetric, place_cmp_total, PlaceParts, sum_of}
+use Rattle.std.specs.FinMap as finmap
 
--- the entries without what they hold
+-- the entries without their contents
 bare : List (PlaceParts × Entry) → List (PlaceParts × Unit {0})
 bare es = map (λ e. (e.0, tt)) es
 
@@ -52,7 +45,7 @@ len_bared s =
     finmap.len-entries s ∙ sym (length-map (finmap.entries s) (λ e. (e.0, tt)))
     ∙ ap length (sym (finmap.entries-from_sorted place_cmp (bare (finmap.entries s)) (bare_sorted s)))
 
--- stores that hold something at the same paths hold as many
+-- stores that hold something at the same paths hold the same number of paths
 pub same_len : (s t : EntryMap) → ((q : PlaceParts) → is_some (finmap.get s q) ≡ is_some (finmap.get t q)) → finmap.len s ≡ finmap.len t
 same_len s t same =
     let one : bared s ≡ bared t = finmap.same_map place_cmp_total place_cmp-IsAntisymmetric (bared s) (bared t) (λ q. get_bared s q ∙ ap (λ b. cond b (Some tt) None) (same q) ∙ sym (get_bared t q)) in
@@ -81,7 +74,7 @@ same_truth true b there back = sym (there refl)
 same_truth false true there back = back refl
 same_truth false false there back = refl
 
--- edits of the same paths give as many paths
+-- edits at the same paths give the same number of paths
 pub same_places : (es fs : List Edit) → AreAmongPlaces es fs → AreAmongPlaces fs es → finmap.len (sum_of es) ≡ finmap.len (sum_of fs)
 same_places es fs there back =
     same_len (sum_of es) (sum_of fs) (λ q. ap is_some (get-sum_of es q) ∙ same_truth (is_some (greatest_at q es)) (is_some (greatest_at q fs)) (held_too es fs q there) (held_too fs es q back) ∙ ap is_some (sym (get-sum_of fs q)))

@@ -1,17 +1,15 @@
--- Seats in a row: one more, and what came of each.
-use Rattle.std.proofs.Common.{◌≡◌, ℕ, zero, suc, ◌<◌, List, [], ◌∷◌, ◌++◌, length, map, Some, Result, Ok, get_or, refl, sym, ap, subst, ◌∙◌, arith}
-use Rattle.std.specs.Prelude.{slice_get, IfOk, All}
-use Rattle.std.proofs.lemmas.List.{map-append, length-map}
-use Rattle.std.proofs.lemmas.List.Elements.{All-nil, All-cons}
-use Rattle.shared_node.specs.Seats.{SeatNow}
-use Rattle.crowds.specs.Workers.{AreFresh, AreGathered, HasWorked, HaveWorked}
+-- The list of seats: one more seat, and the result of each.
+use Rattle.std.proofs.Common.{[], ◌++◌, ◌<◌, ◌∙◌, ◌∷◌, ◌≡◌, All, ap, arith, get_or, IfOk, length, List, map, Ok, refl, Result, slice_get, Some, subst, suc, sym, zero, ℕ}
+use Rattle.std.proofs.lemmas.List.{length-map, map-append}
+use Rattle.std.proofs.lemmas.List.Elements.{All-cons, All-nil}
+use Rattle.crowds.proofs.Prelude.{AreFresh, AreGathered, HasWorked, HaveWorked, SeatNow}
 
--- the last of a list is at its end, and the others are where they were
+-- the last element of a list is at its end, and the others keep their positions
 push_cases : {X : Type 0} (P : ℕ → X → Type 0) (xs : List X) (x : X) → ((k : ℕ) (y : X) → slice_get xs k ≡ Some y → P k y) → P (length xs) x → (k : ℕ) (y : X) → slice_get (xs ++ x ∷ []) k ≡ Some y → P k y
-push_cases P [] x front last zero y is = subst (λ z. P 0 z) (cc) last
-push_cases P [] x front last (suc k) y is = cc
-push_cases P (z ∷ xs) x front last zero y is = front zero y is
-push_cases P (z ∷ xs) x front last (suc k) y is = push_cases (λ i. P (suc i)) xs x (λ i t at. front (suc i) t at) last k y is
+push_cases P [] x prefix last zero y is = subst (λ z. P 0 z) (cc) last
+push_cases P [] x prefix last (suc k) y is = cc
+push_cases P (z ∷ xs) x prefix last zero y is = prefix zero y is
+push_cases P (z ∷ xs) x prefix last (suc k) y is = push_cases (λ i. P (suc i)) xs x (λ i t at. prefix (suc i) t at) last k y is
 
 pub fresh_none : AreFresh []
 fresh_none worker seat is = absurd (cc)

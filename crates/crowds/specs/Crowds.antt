@@ -1,29 +1,24 @@
 -- What a crowd writes, and how many places are held then.
 -- Source: this project's own.
-use Rattle.std.specs.Prelude.{ℕ, ◌==◌, codes, if◌then◌else◌, List, [], ◌++◌, map}
-use Rattle.std.specs.List.{range_with_len}
+use Rattle.std.proofs.Common.{[], ◌++◌, ◌==◌, codes, if◌then◌else◌, List, map, ℕ}
 use Rattle.std.specs.Fmt.{decimal}
+use Rattle.std.specs.List.{range_with_len}
+use Rattle.crowds.specs.Prelude.{Edit, edits_of, EntryMap, Fleet, Gone, PathParts, PlaceParts, sum_of}
 use Rattle.std.specs.FinMap as finmap
-use Rattle.load_path.specs.Paths.{PathParts}
-use Rattle.load_places.specs.Places.{PlaceParts}
-use Rattle.load_places.specs.declared.places.Scope.TheVariants.{Fleet}
-use Rattle.edit_sums.specs.declared.contents.Content.TheVariants.{Gone}
-use Rattle.edit_sums.specs.declared.entries.Edit.{Edit}
-use Rattle.edit_sums.specs.Sums.{EntryMap, edits_of, sum_of}
 
 -- the path of a worker's own file
 unfoldable pub crowd_path : ℕ → PathParts
 crowd_path worker = record { rank = 0; folder = []; name = codes "crowd-" ++ decimal worker ++ codes ".service" }
 
--- the file is the whole fleet's
+-- the file is for the whole fleet
 abbrev pub crowd_place : ℕ → PlaceParts
 crowd_place worker = record { scope = Fleet; path = crowd_path worker }
 
--- what a worker writes at its edit of this number
+-- what a worker writes in its edit with this number
 abbrev pub crowd_text : ℕ → ℕ → List ℕ
 crowd_text worker number = codes "[Unit]\nDescription=" ++ decimal worker ++ codes " " ++ decimal number ++ codes "\n"
 
--- the places that so many workers write, each with so many edits
+-- the places that `workers` workers write, each with `edits` edits
 abbrev pub crowd_places : ℕ → ℕ → List PlaceParts
 crowd_places workers edits = if edits == 0 then [] else map crowd_place (range_with_len 0 workers)
 

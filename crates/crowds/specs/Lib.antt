@@ -1,2 +1,3 @@
+pub mod Prelude
 pub mod Crowds
 pub mod Workers

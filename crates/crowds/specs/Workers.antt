@@ -1,14 +1,12 @@
 -- What a worker of a crowd has done.
 -- Source: this project's own.
-use Rattle.std.specs.Prelude.{◌≡◌, ℕ, ◌≤◌, ◌==◌, Bool, false, ◌&&◌, List, map, count_by, slice_get, Some, Result, Ok}
+use Rattle.std.proofs.Common.{◌&&◌, ◌==◌, ◌≡◌, ◌≤◌, Bool, false, List, map, Ok, Result, slice_get, Some, ℕ}
 use Rattle.std.specs.Ordering.{eq_by_cmp}
-use Rattle.load_places.specs.Places.{place_cmp}
-use Rattle.node_histories.specs.declared.events.HistoryEvent.{HistoryEvent}
-use Rattle.node_histories.specs.declared.events.HistoryEvent.TheVariants.{Opening, Edited, Absorbed}
-use Rattle.shared_node.specs.Seats.{SeatNow}
+use Rattle.std.specs.Prelude.{count_by}
+use Rattle.crowds.specs.Prelude.{Absorbed, Edited, HistoryEvent, Opening, place_cmp, SeatNow}
 use Rattle.crowds.specs.Crowds.{crowd_place}
 
--- the event is an edit of the worker's own file, from the seat of its number
+-- the event is an edit of the worker's own file, from the seat with its number
 abbrev pub is_own : ℕ → HistoryEvent → Bool
 is_own worker (Opening replica) = false
 is_own worker (Edited seat edit) = seat == worker && eq_by_cmp place_cmp edit.place (crowd_place worker)
@@ -18,7 +16,7 @@ is_own worker (Absorbed seat piece) = false
 abbrev pub own_edits : ℕ → List HistoryEvent → ℕ
 own_edits worker h = count_by (λ x. is_own worker x) h
 
--- the worker made so many takes from the seat of its number, and has seen as many edits of its own file
+-- the worker made `edits` takes from the seat with its number, and the seat has seen as many edits of its own file
 pub record HasWorked (edits worker : ℕ) (seat : SeatNow) : Type 0 where
   pub number : seat.number ≡ worker
   pub calls : seat.calls ≡ edits
@@ -28,10 +26,10 @@ pub record HasWorked (edits worker : ℕ) (seat : SeatNow) : Type 0 where
 abbrev pub HaveWorked : ℕ → List SeatNow → Type 0
 HaveWorked edits seats = (worker : ℕ) (seat : SeatNow) → slice_get seats worker ≡ Some seat → HasWorked edits worker seat
 
--- no take was made from any of these seats, and each has its place as its number
+-- no take was made from any of these seats, and the number of each is its position
 abbrev pub AreFresh : List SeatNow → Type 0
 AreFresh seats = (worker : ℕ) (seat : SeatNow) → slice_get seats worker ≡ Some seat → (seat.calls ≡ 0) × (seat.number ≡ worker)
 
--- none is missing of what came back, and these are all
+-- no result is missing, and these are all
 abbrev pub AreGathered : {S E : Type 0} → List (Result S E) → List S → Type 0
 AreGathered came seats = came ≡ map Ok seats

@@ -19,11 +19,11 @@ use worker_rounds::Gate;
 /// The most edits of one worker.
 pub const MOST_EDITS: u64 = 1_000;
 
-/// So many counters a crowd takes at most.
+/// The most counters that a crowd uses.
 pub const ROOM: u64 = 64_000;
 
-/// What a crowd came to: how many takes its node had as it was closed, and how many places it held, those of removals
-/// too.
+/// The result of a crowd: the number of takes of its node when it was closed, and the number of places that it held,
+/// removals included.
 #[derive(Clone, Copy, Debug, PartialEq, Eq)]
 pub struct Counted {
     pub takes: u64,
@@ -51,7 +51,7 @@ fn close<N: NodeName, R: Wait>(
     }
 }
 
-// The crowd at the node of this blank.
+// Runs the crowd at the node of this blank.
 fn crowd_at<N: NodeName + Send + Sync, R: Threads + Wait + Sync, G: Gate + Sync>(
     rt: &R,
     alloc: Global,
@@ -82,17 +82,17 @@ fn crowd_at<N: NodeName + Send + Sync, R: Threads + Wait + Sync, G: Gate + Sync>
     }
 }
 
-/// Lets so many workers edit a copy of a replica side by side, as one node with a seat for each, and tells how many
-/// takes and places it had at its end. The copy is dropped, and the replica is as it was.
+/// Lets `seats` workers edit a copy of a replica concurrently, as one node with a seat for each, and returns how many
+/// takes and places the node had at the end. The copy is dropped, and the replica is unchanged.
 ///
-/// Worker K, from 0, makes its edits J, from 0, one after another, each of the file
-/// `/etc/systemd/system/crowd-K.service` with the lines `[Unit]` and `Description=K J`. Before its first it asks the
-/// gate with K until that answers true, at most `worker_rounds::TURNS` times. Each worker has a thread of its own where
-/// one can be made. It may wait, as the calls of a node do.
+/// Worker K, from 0, makes edits J, from 0, one after another, each of the file `/etc/systemd/system/crowd-K.service`
+/// with the lines `[Unit]` and `Description=K J`. Before its first edit it asks the gate for K until the answer is
+/// true, at most `worker_rounds::TURNS` times. Each worker has its own thread where one can be made. May wait, as the
+/// calls of a node do.
 ///
-/// It is refused as `Seats` exactly where the seats aren't 1 to 64, before anything else; and as `Memory` for want of
-/// memory, or where the node refuses anything, which it does for want of memory alone. It costs for each edit what
-/// `Node::edit` does.
+/// Fails with `Seats` exactly where `seats` isn't 1 to 64, before anything else. Fails with `Memory` if memory runs
+/// out, or if the node refuses anything, which it does only if memory runs out. Each edit costs what `Node::edit`
+/// costs.
 pub fn crowd<R: Threads + Wait + Sync, G: Gate + Sync>(
     rt: &R,
     alloc: Global,

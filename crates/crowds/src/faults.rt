@@ -1,13 +1,13 @@
-//! Why a crowd has no numbers.
+//! Errors of crowds.
 use thiserror::Error;
 
-/// Why a crowd has no numbers. The replica is as it was.
+/// Why a crowd has no result. The replica is unchanged.
 #[derive(Clone, Copy, Debug, PartialEq, Eq, Error)]
 pub enum CrowdFault {
-    /// A1: the seats aren't 1 to 64.
+    /// A1: the number of seats isn't 1 to 64.
     #[error("A1 Seats")]
     Seats,
-    /// Memory was refused, or the node refused a seat, an edit or its end.
+    /// Memory ran out, or the node refused a seat, an edit or its close.
     #[error("out of memory")]
     Memory,
 }

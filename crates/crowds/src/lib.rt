@@ -1,10 +1,14 @@
-//! Crowds: so many workers at one node, in a thread each, that edit it side by side. `crowd` tells how many takes
-//! the node had and how many places it held, and nothing else is left of it.
+//! Crowds: several workers that edit one node concurrently, each in its own thread. `crowd` returns how many takes the
+//! node had and how many places it held, and drops everything else.
 //!
 //! Promise: the count at close is exact.
 //!
-//! `crowd` opens a node over a copy of a replica, gives a seat to each worker, lets each make its edits, and closes
-//! the node with all seats.
+//! `crowd` opens a node over a copy of a replica, gives each worker a seat, lets each make its edits, and closes the
+//! node with all seats.
+//!
+//! - `crowding`: `crowd`.
+//! - `workers`, `threads`: what one worker does, and all of them in threads.
+//! - `texts`: what the workers write, and where.
 #![tactic(auto)]
 
 mod crowding;

@@ -8,7 +8,7 @@ use load_path::Path;
 use load_places::{Place, Scope};
 use std::alloc::{AllocError, Global};
 
-// The place of a worker's own file, which is the whole fleet's.
+// The place of a worker's own file, which is for the whole fleet.
 pub fn place_of(alloc: Global, worker: usize) -> Result<Place, AllocError>
     ensures place { IfOk result (λ place. place ≡ crowd_place worker) }
 {
@@ -29,7 +29,7 @@ fn path_of(alloc: Global, worker: usize) -> Result<Path, AllocError>
     }
 }
 
-// What a worker writes at its edit of this number.
+// What a worker writes in its edit with this number.
 pub fn file_of(alloc: Global, worker: usize, number: u64) -> Result<Content, AllocError>
     ensures file { IfOk result (λ content. content ≡ File (crowd_text worker number)) }
 {

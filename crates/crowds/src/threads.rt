@@ -1,4 +1,4 @@
-//! The workers of a crowd, each in a thread of its own.
+//! The workers of a crowd, each in its own thread.
 ghost use Rattle.std.specs.Prelude.{◌≡◌, ℕ, ◌<◌, length, slice_index_or, slice_get, Some, IfOk, All};
 ghost use Rattle.shared_node.specs.Seats.{SeatNow};
 ghost use Rattle.crowds.specs.Workers.{AreFresh, AreGathered, HasWorked, HaveWorked};
@@ -12,7 +12,7 @@ use std::thread;
 use std::thread::Threads;
 use worker_rounds::Gate;
 
-// A seat for each worker, numbered as the workers are.
+// A seat for each worker, with the same number as the worker.
 fn seats_of<N: NodeName, R: Wait>(
     rt: &R,
     alloc: Global,
@@ -35,7 +35,7 @@ fn seats_of<N: NodeName, R: Wait>(
     Ok(seats)
 }
 
-// What each worker came to, each in a thread of its own, in the order of their numbers.
+// The result of each worker, in the order of the workers' numbers. Each runs in its own thread.
 fn work_all<N: NodeName + Send + Sync, R: Threads + Wait + Sync, G: Gate + Sync>(
     rt: &R,
     alloc: Global,
@@ -56,7 +56,7 @@ fn work_all<N: NodeName + Send + Sync, R: Threads + Wait + Sync, G: Gate + Sync>
     thread::map_vec(rt, seats, &work_one)
 }
 
-// The seats that came back, where none is missing.
+// The seats that came back, if none is missing.
 fn gather<N: NodeName>(
     alloc: Global,
     done: Vec<Result<Seat<N>, AllocError>>,
@@ -70,7 +70,8 @@ fn gather<N: NodeName>(
     Ok(seats)
 }
 
-/// Lets so many workers make so many edits each, in a thread each, where one can be made; the seats come back.
+/// Lets `workers` workers make `edits` edits each, each in its own thread where one can be made, and returns their
+/// seats.
 pub fn work_side_by_side<N: NodeName + Send + Sync, R: Threads + Wait + Sync, G: Gate + Sync>(
     rt: &R,
     alloc: Global,

@@ -9,7 +9,7 @@ use std::alloc::{AllocError, Global};
 use std::sync::Wait;
 use worker_rounds::{Gate, pass_gate};
 
-// Makes the worker's edit of this number, from the seat of the worker's number.
+// Makes the worker's edit with this number, from the seat with the worker's number.
 fn edit_once<N: NodeName, R: Wait>(
     rt: &R,
     alloc: Global,
@@ -30,8 +30,8 @@ fn edit_once<N: NodeName, R: Wait>(
     }
 }
 
-/// Passes the gate, and makes so many edits of the worker's own file, one after another. The worker's number is its
-/// seat's.
+/// Passes the gate, and makes `edits` edits of the worker's own file, one after another. The worker's number is that of
+/// its seat.
 pub fn work<N: NodeName, R: Wait, G: Gate>(
     rt: &R,
     alloc: Global,

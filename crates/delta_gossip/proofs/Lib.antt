@@ -1,3 +1,4 @@
+pub mod Prelude
 pub mod Joins
 pub mod Rounds
 pub mod Shown

@@ -1,15 +1,9 @@
--- The two rounds of a sweep.
-use Rattle.std.proofs.Common.{◌≡◌, ℕ, ◌+◌, ◌<◌, ◌≤◌, List, [], ◌∷◌, ◌++◌, length, get_or, set, take, drop, map, sym, ap, subst, ◌∙◌, refl, zero, suc, arith}
-use Rattle.std.specs.Prelude.{All}
-use Rattle.std.proofs.lemmas.List.{take_more, take-append-drop, map-append}
-use Rattle.std.specs.FinMap as finmap
-use Rattle.load_places.specs.Places.{place_cmp}
-use Rattle.edit_sums.specs.Entries.{IsBelow}
-use Rattle.edit_sums.specs.Sums.{EntryMap, join, IsStoreBelow}
-use Rattle.edit_sums.specs.SumLaws.{store_below_refl, store_below_trans, store_below_antisym, join_assoc, join-left, join-right, join-least, join-nothing}
-use Rattle.replica_store.specs.Replicas.{Replicated}
-use Rattle.delta_gossip.specs.Sweeps.{join_all, with_store, IsBetween, AreBetween}
+-- The two loops of a sweep.
+use Rattle.std.proofs.Common.{[], ◌++◌, ◌+◌, ◌<◌, ◌∙◌, ◌∷◌, ◌≡◌, ◌≤◌, All, ap, arith, drop, get_or, length, List, map, refl, set, subst, suc, sym, take, zero, ℕ}
+use Rattle.std.proofs.lemmas.List.{map-append, take-append-drop, take_more}
+use Rattle.delta_gossip.proofs.Prelude.{AreBetween, EntryMap, IsBelow, IsBetween, IsStoreBelow, join, join-least, join-left, join-nothing, join-right, join_all, join_assoc, place_cmp, Replicated, store_below_antisym, store_below_refl, store_below_trans, with_store}
 use Rattle.delta_gossip.proofs.Joins.{join_below, nothing_first}
+use Rattle.std.specs.FinMap as finmap
 
 abbrev pub stores_of : List Replicated → List EntryMap
 stores_of rs = map (λ r. r.store) rs
@@ -18,14 +12,14 @@ join_all-append : (ss ts : List EntryMap) → join_all (ss ++ ts) ≡ join (join
 join_all-append [] ts = sym (nothing_first (join_all ts))
 join_all-append (s ∷ ss) ts = ap (join s) (join_all-append ss ts) ∙ sym (join_assoc s (join_all ss) (join_all ts))
 
--- each is below the join of all
+-- each store is below the join of all
 pub below_all : (rs : List Replicated) (s : EntryMap) → IsStoreBelow (join_all (stores_of rs)) s → All (λ r. IsStoreBelow r.store s) rs
 below_all [] s h k d b = absurd (omega arith)
 below_all (r ∷ rs) s h zero d b = store_below_trans r.store (join_all (stores_of (r ∷ rs))) s (join-left r.store (join_all (stores_of rs))) h
 below_all (r ∷ rs) s h (suc k) d b =
     below_all rs s (store_below_trans (join_all (stores_of rs)) (join_all (stores_of (r ∷ rs))) s (join-right r.store (join_all (stores_of rs))) h) k d (omega arith)
 
--- the first replica's store, once so many of the rest came into it
+-- the first replica's store, after i of the others were merged into it
 abbrev pub gathered : Replicated → List Replicated → ℕ → EntryMap
 gathered f rs i = join_all (stores_of (f ∷ take i rs))
 
@@ -39,7 +33,7 @@ gathered_more f rs i d h =
     ap (λ ss. join_all (f.store ∷ ss)) (sym (map-append (λ (r : Replicated). r.store) (take i rs) (get_or rs i d ∷ []))) ∙
     ap (λ (ss : List Replicated). join_all (stores_of (f ∷ ss))) (sym (take_more rs i d h))
 
--- the same at the loop's variables
+-- the same for the variables of the loop
 pub gathered_step : (f : Replicated) (rs : List Replicated) (i : ℕ) (first r new : Replicated) (s : EntryMap) → i < length rs → r ≡ get_or rs i r → s ≡ r.store → first ≡ with_store (gathered f rs i) f →
     new ≡ record first { store = join first.store s } → new ≡ with_store (gathered f rs (i + 1)) f
 gathered_step f rs i first r new s h is store so_far step =
@@ -47,7 +41,7 @@ gathered_step f rs i first r new s h is store so_far step =
     ap (λ t. with_store (join (gathered f rs i) t) f) (store ∙ ap (λ (g : Replicated). g.store) is) ∙
     ap (λ t. with_store t f) (gathered_more f rs i r h)
 
--- so many are below all
+-- the join of the first i is below the join of all
 pub gathered_within : (f : Replicated) (rs : List Replicated) (i : ℕ) → IsStoreBelow (gathered f rs i) (join_all (stores_of (f ∷ rs)))
 gathered_within f rs i =
     subst (λ (s : EntryMap). IsStoreBelow (gathered f rs i) s)
@@ -56,7 +50,7 @@ gathered_within f rs i =
     ap (λ (ss : List Replicated). join_all (stores_of (f ∷ ss))) (take-append-drop i rs))
     (join-left (gathered f rs i) (join_all (stores_of (drop i rs))))
 
--- the first replica where memory is refused midway
+-- the first replica, if memory runs out in the middle
 pub gathered_between : (f : Replicated) (rs : List Replicated) (i : ℕ) (d new : Replicated) → i < length rs →
     new.writer ≡ f.writer → IsStoreBelow (gathered f rs i) new.store → IsStoreBelow new.store (join (gathered f rs i) (get_or rs i d).store) →
     IsBetween (join_all (stores_of (f ∷ rs))) f new
@@ -68,7 +62,7 @@ gathered_between f rs i d new h writer kept within = record {
       (subst (λ (s : EntryMap). IsStoreBelow new.store s) (gathered_more f rs i d h) within) (gathered_within f rs (i + 1));
 }
 
--- the same at the loop's variables
+-- the same for the variables of the loop
 pub gathered_refused : (f : Replicated) (rs : List Replicated) (i : ℕ) (first r new : Replicated) (s : EntryMap) → i < length rs → r ≡ get_or rs i r → s ≡ r.store → first ≡ with_store (gathered f rs i) f →
     new.writer ≡ first.writer → IsStoreBelow first.store new.store → IsStoreBelow new.store (join first.store s) → IsBetween (join_all (stores_of (f ∷ rs))) f new
 gathered_refused f rs i first r new s h is store so_far writer kept within =
@@ -77,7 +71,7 @@ gathered_refused f rs i first r new s h is store so_far writer kept within =
     (subst (λ (t : EntryMap). IsStoreBelow new.store (join (gathered f rs i) t)) (store ∙ ap (λ (g : Replicated). g.store) is)
     (subst (λ (g : Replicated). IsStoreBelow new.store (join g.store s)) so_far within))
 
--- the replicas once the store came into so many of them
+-- the replicas, after the store was merged into i of them
 abbrev pub spread_to : EntryMap → List Replicated → ℕ → List Replicated
 spread_to s rs i = map (with_store s) (take i rs) ++ drop i rs
 
@@ -108,7 +102,7 @@ unchanged s (r ∷ rs) below = (
   unchanged s rs (λ k d h. below (suc k) d (omega arith)),
 )
 
--- the replicas where memory is refused midway
+-- the replicas, if memory runs out in the middle
 pub spread_between : (s : EntryMap) (rs : List Replicated) (i : ℕ) (d new : Replicated) → i < length rs → All (λ r. IsStoreBelow r.store s) rs →
     IsBetween s (get_or rs i d) new → AreBetween s rs (set (spread_to s rs i) i new)
 spread_between s [] i d new h below between = absurd (omega arith)
@@ -118,7 +112,7 @@ spread_between s (r ∷ rs) (suc i) d new h below between = (
   spread_between s rs i d new (omega arith) (λ k e b. below (suc k) e (omega arith)) between,
 )
 
--- the same at the loop's variables
+-- the same for the variables of the loop
 
 pub spread_step : (s : EntryMap) (rs now : List Replicated) (i : ℕ) (d new : Replicated) (t : EntryMap) → i < length rs → All (λ r. IsStoreBelow r.store s) rs → now ≡ spread_to s rs i → t ≡ s →
     new ≡ record (get_or now i d) { store = join (get_or now i d).store t } → set now i new ≡ spread_to s rs (i + 1)
@@ -141,21 +135,21 @@ spread_refused s rs now i d new t h below so_far same writer kept within =
           ((λ j. join (there j).store (same j)) ∙ join_below (get_or rs i d).store s (below i d h)) within;
     }))
 
--- both rounds
+-- Both loops.
 
--- memory is refused in the first
+-- memory runs out in the first loop
 pub swept_first : (rs : List Replicated) (f : Replicated) (rest : List Replicated) (new : Replicated) → rs ≡ f ∷ rest → IsBetween (join_all (stores_of (f ∷ rest))) f new → AreBetween (join_all (stores_of rs)) rs (new ∷ rest)
 swept_first rs f rest new is between =
     subst (λ (qs : List Replicated). AreBetween (join_all (stores_of qs)) qs (new ∷ rest)) (sym is)
     (between, unchanged (join_all (stores_of (f ∷ rest))) rest (below_all rest (join_all (stores_of (f ∷ rest))) (join-right f.store (join_all (stores_of rest)))))
 
--- what the second needs
+-- the precondition of the second loop
 pub swept_below : (f : Replicated) (rest : List Replicated) (new : Replicated) → new ≡ with_store (join_all (stores_of (f ∷ rest))) f → All (λ r. IsStoreBelow r.store new.store) rest
 swept_below f rest new is =
     below_all rest new.store
     (subst (λ (g : Replicated). IsStoreBelow (join_all (stores_of rest)) g.store) (sym is) (join-right f.store (join_all (stores_of rest))))
 
--- memory is refused in the second
+-- memory runs out in the second loop
 pub swept_second : (rs : List Replicated) (f : Replicated) (rest : List Replicated) (new : Replicated) (rest_new : List Replicated) → rs ≡ f ∷ rest → new ≡ with_store (join_all (stores_of (f ∷ rest))) f → AreBetween new.store rest rest_new → AreBetween (join_all (stores_of rs)) rs (new ∷ rest_new)
 swept_second rs f rest new rest_new is done between =
     subst (λ (qs : List Replicated). AreBetween (join_all (stores_of qs)) qs (new ∷ rest_new)) (sym is) (
@@ -167,7 +161,7 @@ swept_second rs f rest new rest_new is done between =
       subst (λ (g : Replicated). AreBetween g.store rest rest_new) done between,
     )
 
--- where all lie between, the join of all is the same
+-- if all lie between, the join of all is unchanged
 
 kept_all : (all : EntryMap) (rs ns : List Replicated) → AreBetween all rs ns → IsStoreBelow (join_all (stores_of rs)) (join_all (stores_of ns))
 kept_all all [] [] h = store_below_refl (join_all [])

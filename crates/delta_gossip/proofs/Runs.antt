@@ -1,21 +1,13 @@
--- Whole runs of events, and what holds of each node after them.
-use Rattle.std.proofs.Common.{◌≡◌, ℕ, ◌+◌, ◌<◌, zero, suc, List, [], ◌∷◌, ◌++◌, length, get_or, take, map, refl, sym, ap, subst, ◌∙◌}
-use Rattle.std.specs.Prelude.{Option, Some, None, slice_get, replicate, IfSome}
+-- Running all events, and what holds for each node afterwards.
+use Rattle.std.proofs.Common.{[], ◌++◌, ◌+◌, ◌<◌, ◌∙◌, ◌∷◌, ◌≡◌, ap, get_or, length, List, map, None, Option, refl, replicate, slice_get, Some, subst, suc, sym, take, zero, ℕ}
 use Rattle.std.proofs.lemmas.List.{take_more}
 use Rattle.std.proofs.lemmas.Option.{IfSome_then}
+use Rattle.std.specs.Prelude.{IfSome}
+use Rattle.delta_gossip.proofs.Prelude.{after, AreSameEdits, blank, Edit, EntryMap, Event, EventWorld, happens, Node, Replicated, Shows, sum_of, sum_of-same_edits, took, took_by, VersionMap}
+use Rattle.delta_gossip.proofs.{Rounds.stores_of, Shown.node_at}
 use Rattle.std.specs.FinMap as finmap
-use Rattle.edit_sums.specs.declared.entries.Edit.{Edit}
-use Rattle.edit_sums.specs.Sums.{EntryMap, sum_of}
-use Rattle.edit_sums.specs.SumLaws.{sum_of-same_edits}
-use Rattle.replica_store.specs.Replicas.{Replicated}
-use Rattle.world_law.specs.Cuts.{VersionMap}
-use Rattle.world_law.specs.declared.events.Event.{Event}
-use Rattle.world_law.specs.Worlds.{EventWorld, Node, happens, after, blank, took, took_by, AreSameEdits}
-use Rattle.delta_gossip.specs.Shows.{Shows}
-use Rattle.delta_gossip.proofs.Rounds.{stores_of}
-use Rattle.delta_gossip.proofs.Shown.{node_at}
 
--- one event more
+-- One more event.
 
 after-push : (es : List Event) (e : Event) (w : EventWorld) → after (es ++ e ∷ []) w ≡ happens (after es w) e
 after-push [] e w = refl
@@ -24,7 +16,7 @@ after-push (f ∷ es) e w = after-push es e (happens w f)
 pub after_more : (es : List Event) (i : ℕ) (d : Event) (w : EventWorld) → i < length es → after (take (i + 1) es) w ≡ happens (after (take i es) w) (get_or es i d)
 after_more es i d w h = ap (λ fs. after fs w) (take_more es i d h) ∙ after-push (take i es) (get_or es i d) w
 
--- before any event
+-- Before any event.
 
 map-replicate : {X Y : Type 0} (f : X → Y) (n : ℕ) (x : X) → map f (replicate n x) ≡ replicate n (f x)
 map-replicate f zero x = refl
@@ -33,7 +25,7 @@ map-replicate {Y = Y} f (suc n) x = ap (λ (ys : List Y). f x ∷ ys) (map-repli
 pub blank_shown : (n : ℕ) (rs : List Replicated) → stores_of rs ≡ replicate n finmap.empty → Shows (blank n) (stores_of rs) [] []
 blank_shown n rs h = record { stores_are = h ∙ sym (map-replicate (λ (m : Node). m.store) n _); asks_are = refl; pieces_are = refl }
 
--- what holds of each node's edits and store holds of each replica's
+-- what holds for each node's edits and store holds for each replica
 
 pub each_shown : (w : EventWorld) (rs : List Replicated) (asks : List VersionMap) (pieces : List EntryMap) → Shows w (stores_of rs) asks pieces → (k : ℕ) (P : List Edit → EntryMap → Type 0) → IfSome (slice_get w.nodes k) (λ n. P n.took n.store) →
     IfSome (slice_get rs k) (λ r. P (took w k) r.store)
@@ -46,7 +38,7 @@ each_shown w rs asks pieces h k P is =
           subst (λ (s : EntryMap). P (took w k) s) n.2 (subst (λ (o : Option Node). P (took_by o) n.0.store) (sym n.1) one)
     ] refl
 
--- what each node took is summed, so what is summed of the same edits is the same
+-- each store is the sum of what the node took, so equal edits give equal sums
 pub agree_shown : (rs : List Replicated) (es : ℕ → List Edit) → ((k : ℕ) → IfSome (slice_get rs k) (λ r. r.store ≡ sum_of (es k))) →
     (k l : ℕ) → AreSameEdits (es k) (es l) → IfSome (slice_get rs k) (λ a. IfSome (slice_get rs l) (λ b. a.store ≡ b.store))
 agree_shown rs es sums k l same =

@@ -1,44 +1,36 @@
--- What each event does to the stores, asks and pieces that show a world.
-use Rattle.std.proofs.Common.{◌≡◌, ℕ, zero, suc, List, [], ◌∷◌, ◌++◌, length, set, map, refl, sym, ap, subst, ◌∙◌}
-use Rattle.std.specs.Prelude.{Option, Some, None, slice_get}
-use Rattle.std.specs.Option.{option_map}
-use Rattle.std.specs.List.{ItemBy}
-use Rattle.std.proofs.lemmas.Option.{slice_get-map, slice_get_read}
+-- How each event changes the stores, asks and pieces that correspond to a world.
+use Rattle.std.proofs.Common.{[], ◌++◌, ◌∙◌, ◌∷◌, ◌≡◌, ap, length, List, map, None, Option, refl, set, slice_get, Some, subst, suc, sym, zero, ℕ}
 use Rattle.std.proofs.lemmas.List.{map-set, map_push}
-use Rattle.load_places.specs.Places.{PlaceParts}
-use Rattle.edit_sums.specs.declared.entries.Edit.{Edit}
-use Rattle.edit_sums.specs.Sums.{EntryMap, sum_of, join}
-use Rattle.replica_store.specs.Replicas.{Replicated}
-use Rattle.world_law.specs.Cuts.{VersionMap, digest_of, cut}
-use Rattle.world_law.specs.declared.events.Event.TheVariants.{Put, Ask, Cut, Give}
-use Rattle.world_law.specs.Worlds.{EventWorld, Node, Asked, Piece, taken, changed_at, asked_by, cut_for, given_to, edits_with, happens}
-use Rattle.delta_gossip.specs.Shows.{Shows}
+use Rattle.std.proofs.lemmas.Option.{slice_get-map, slice_get_read}
+use Rattle.std.specs.List.{ItemBy}
+use Rattle.std.specs.Option.{option_map}
+use Rattle.delta_gossip.proofs.Prelude.{Ask, Asked, asked_by, changed_at, Cut, cut, cut_for, digest_of, Edit, edits_with, EntryMap, EventWorld, Give, given_to, happens, join, Node, Piece, PlaceParts, Put, Replicated, Shows, sum_of, taken, VersionMap}
 use Rattle.delta_gossip.proofs.Rounds.{stores_of}
 
--- what `get` and `get_mut` answer
+-- the result of `get` and `get_mut`
 pub got : {R X : Type 0} (now : R → X) (xs : List X) (i : ℕ) (r : R) → ItemBy now xs i i (Some r) → slice_get xs i ≡ Some (now r)
 got now xs i r item = slice_get_read xs (length xs) i (now r) refl item.3.0 item.1
 
--- the element behind one of a mapped list
-pub behind : {Y Z : Type 0} (g : Y → Z) (zs : List Z) (ys : List Y) (i : ℕ) (z : Z) → zs ≡ map g ys → slice_get zs i ≡ Some z → (y : Y) × (slice_get ys i ≡ Some y) × (g y ≡ z)
-behind g [] ys i z e h = cc
-behind g (x ∷ zs) [] i z e h = cc
-behind g (x ∷ zs) (y ∷ ys) zero z e h =
+-- the original of an element of a mapped list
+pub after : {Y Z : Type 0} (g : Y → Z) (zs : List Z) (ys : List Y) (i : ℕ) (z : Z) → zs ≡ map g ys → slice_get zs i ≡ Some z → (y : Y) × (slice_get ys i ≡ Some y) × (g y ≡ z)
+after g [] ys i z e h = cc
+after g (x ∷ zs) [] i z e h = cc
+after g (x ∷ zs) (y ∷ ys) zero z e h =
     let one : g y ≡ z = cc in
     (y, refl, one)
-behind g (x ∷ zs) (y ∷ ys) (suc i) z e h =
+after g (x ∷ zs) (y ∷ ys) (suc i) z e h =
     let rest : zs ≡ map g ys = cc in
-    behind g zs ys i z rest h
+    after g zs ys i z rest h
 
-behind_none : {Y Z : Type 0} (g : Y → Z) (zs : List Z) (ys : List Y) (i : ℕ) → zs ≡ map g ys → slice_get zs i ≡ None → slice_get ys i ≡ None
-behind_none g zs [] i e h = refl
-behind_none g [] (y ∷ ys) i e h = cc
-behind_none g (x ∷ zs) (y ∷ ys) zero e h = cc
-behind_none g (x ∷ zs) (y ∷ ys) (suc i) e h =
+after_none : {Y Z : Type 0} (g : Y → Z) (zs : List Z) (ys : List Y) (i : ℕ) → zs ≡ map g ys → slice_get zs i ≡ None → slice_get ys i ≡ None
+after_none g zs [] i e h = refl
+after_none g [] (y ∷ ys) i e h = cc
+after_none g (x ∷ zs) (y ∷ ys) zero e h = cc
+after_none g (x ∷ zs) (y ∷ ys) (suc i) e h =
     let rest : zs ≡ map g ys = cc in
-    behind_none g zs ys i rest h
+    after_none g zs ys i rest h
 
--- one node changes
+-- One node changes.
 
 stores_changed : (i : ℕ) (f : Node → Node) (ns : List Node) (n : Node) → slice_get ns i ≡ Some n → map (λ m. m.store) (changed_at i f ns) ≡ set (map (λ m. m.store) ns) i (f n).store
 stores_changed i f [] n h = refl
@@ -60,25 +52,25 @@ unchanged_past zero f (m ∷ ns) h = cc
 unchanged_past (suc i) f (m ∷ ns) h = ap (λ (ms : List Node). m ∷ ms) (unchanged_past i f ns h)
 
 module _ (w : EventWorld) (rs : List Replicated) (asks : List VersionMap) (pieces : List EntryMap) (h : Shows w (stores_of rs) asks pieces) where
-  -- a replica's node, an ask's and a piece's in the model
+  -- The node, ask or piece of the model that belongs to one of the program.
 
   pub node_at : (i : ℕ) (r : Replicated) → slice_get rs i ≡ Some r → (n : Node) × (slice_get w.nodes i ≡ Some n) × (n.store ≡ r.store)
   node_at i r is =
-      behind (λ (n : Node). n.store) (stores_of rs) w.nodes i r.store h.stores_are
+      after (λ (n : Node). n.store) (stores_of rs) w.nodes i r.store h.stores_are
       (slice_get-map (λ (s : Replicated). s.store) rs i ∙ ap (option_map (λ (s : Replicated). s.store)) is)
 
   no_node : (i : ℕ) → slice_get rs i ≡ None → slice_get w.nodes i ≡ None
   no_node i is =
-      behind_none (λ (n : Node). n.store) (stores_of rs) w.nodes i h.stores_are
+      after_none (λ (n : Node). n.store) (stores_of rs) w.nodes i h.stores_are
       (slice_get-map (λ (s : Replicated). s.store) rs i ∙ ap (option_map (λ (s : Replicated). s.store)) is)
 
   ask_at : (a : ℕ) (d : VersionMap) → slice_get asks a ≡ Some d → (k : Asked) × (slice_get w.asks a ≡ Some k) × (k.versions ≡ d)
-  ask_at a d is = behind (λ (k : Asked). k.versions) asks w.asks a d h.asks_are is
+  ask_at a d is = after (λ (k : Asked). k.versions) asks w.asks a d h.asks_are is
 
   piece_at : (p : ℕ) (s : EntryMap) → slice_get pieces p ≡ Some s → (k : Piece) × (slice_get w.pieces p ≡ Some k) × (k.entries ≡ s)
-  piece_at p s is = behind (λ (k : Piece). k.entries) pieces w.pieces p s h.pieces_are is
+  piece_at p s is = after (λ (k : Piece). k.entries) pieces w.pieces p s h.pieces_are is
 
-  -- a node takes a store
+  -- A node takes a store.
 
   taken_shown : (i : ℕ) (r new : Replicated) (s : EntryMap) (es : List Edit) → slice_get rs i ≡ Some r → new.store ≡ join r.store s →
       Shows (record w { nodes = changed_at i (taken s es) w.nodes }) (stores_of (set rs i new)) asks pieces
@@ -97,7 +89,7 @@ module _ (w : EventWorld) (rs : List Replicated) (asks : List VersionMap) (piece
   none_taken i s es is =
       subst (λ (ns : List Node). Shows (record w { nodes = ns }) (stores_of rs) asks pieces) (sym (unchanged_past i (taken s es) w.nodes (no_node i is))) h
 
-  -- a put
+  -- A put.
 
   pub put_shown : (i : ℕ) (e : Edit) (r new : Replicated) (s : EntryMap) → slice_get rs i ≡ Some r → s ≡ sum_of (e ∷ []) → new ≡ record r { store = join r.store s } → Shows (happens w (Put i e)) (stores_of (set rs i new)) asks pieces
   put_shown i e r new s is one step =
@@ -106,7 +98,7 @@ module _ (w : EventWorld) (rs : List Replicated) (asks : List VersionMap) (piece
   pub no_put_shown : (i : ℕ) (e : Edit) → slice_get rs i ≡ None → Shows (happens w (Put i e)) (stores_of rs) asks pieces
   no_put_shown i e is = none_taken i (sum_of (e ∷ [])) (e ∷ []) is
 
-  -- an ask
+  -- An ask.
 
   pub ask_shown : (i : ℕ) (r : Replicated) (d : VersionMap) → slice_get rs i ≡ Some r → d ≡ digest_of r.store → Shows (happens w (Ask i)) (stores_of rs) (asks ++ d ∷ []) pieces
   ask_shown i r d is new =
@@ -121,7 +113,7 @@ module _ (w : EventWorld) (rs : List Replicated) (asks : List VersionMap) (piece
   pub no_ask_shown : (i : ℕ) → slice_get rs i ≡ None → Shows (happens w (Ask i)) (stores_of rs) asks pieces
   no_ask_shown i is = subst (λ (o : Option Node). Shows (asked_by w i o) (stores_of rs) asks pieces) (sym (no_node i is)) h
 
-  -- a cut
+  -- A cut.
 
   pub cut_shown : (i a : ℕ) (places : Option (List PlaceParts)) (r : Replicated) (d : VersionMap) (s : EntryMap) → slice_get rs i ≡ Some r → slice_get asks a ≡ Some d → s ≡ cut r.store d places →
       Shows (happens w (Cut i a places)) (stores_of rs) asks (pieces ++ s ∷ [])
@@ -144,16 +136,16 @@ module _ (w : EventWorld) (rs : List Replicated) (asks : List VersionMap) (piece
   unasked_cut_shown i a places r is none =
       let n = node_at i r is in
       subst (λ (o : Option Node). Shows (cut_for w places o (slice_get w.asks a)) (stores_of rs) asks pieces) (sym n.1)
-      (subst (λ (o : Option Asked). Shows (cut_for w places (Some n.0) o) (stores_of rs) asks pieces) (sym (behind_none (λ (k : Asked). k.versions) asks w.asks a h.asks_are none)) h)
+      (subst (λ (o : Option Asked). Shows (cut_for w places (Some n.0) o) (stores_of rs) asks pieces) (sym (after_none (λ (k : Asked). k.versions) asks w.asks a h.asks_are none)) h)
 
-  -- a piece is given
+  -- A piece is given.
 
   pub give_shown : (p i : ℕ) (r new : Replicated) (s t : EntryMap) → slice_get rs i ≡ Some r → slice_get pieces p ≡ Some s → t ≡ s → new ≡ record r { store = join r.store t } →
       Shows (happens w (Give p i)) (stores_of (set rs i new)) asks pieces
-  give_shown p i r new s t is given lent step =
+  give_shown p i r new s t is given borrowed step =
       let k = piece_at p s given in
       subst (λ (o : Option Piece). Shows (given_to w i o) (stores_of (set rs i new)) asks pieces) (sym k.1)
-      (taken_shown i r new k.0.entries (edits_with k.0 i) is (ap (λ (q : Replicated). q.store) step ∙ ap (join r.store) (lent ∙ sym k.2)))
+      (taken_shown i r new k.0.entries (edits_with k.0 i) is (ap (λ (q : Replicated). q.store) step ∙ ap (join r.store) (borrowed ∙ sym k.2)))
 
   pub no_give_shown : (p i : ℕ) → slice_get rs i ≡ None → Shows (happens w (Give p i)) (stores_of rs) asks pieces
   no_give_shown p i is =
@@ -164,4 +156,4 @@ module _ (w : EventWorld) (rs : List Replicated) (asks : List VersionMap) (piece
 
   pub nothing_given_shown : (p i : ℕ) → slice_get pieces p ≡ None → Shows (happens w (Give p i)) (stores_of rs) asks pieces
   nothing_given_shown p i none =
-      subst (λ (o : Option Piece). Shows (given_to w i o) (stores_of rs) asks pieces) (sym (behind_none (λ (k : Piece). k.entries) pieces w.pieces p h.pieces_are none)) h
+      subst (λ (o : Option Piece). Shows (given_to w i o) (stores_of rs) asks pieces) (sym (after_none (λ (k : Piece). k.entries) pieces w.pieces p h.pieces_are none)) h

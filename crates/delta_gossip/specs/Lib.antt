@@ -1,3 +1,4 @@
+pub mod Prelude
 pub mod Convergence
 pub mod Exchanges
 pub mod Shows

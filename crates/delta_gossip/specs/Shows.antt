@@ -1,11 +1,8 @@
--- The worlds of the program as worlds of the model.
+-- How worlds of the program correspond to worlds of the model.
 -- Source: this project's own.
-use Rattle.std.specs.Prelude.{◌≡◌, ℕ, List, map, slice_get, IfSome}
-use Rattle.edit_sums.specs.declared.entries.Edit.{Edit}
-use Rattle.edit_sums.specs.Sums.{EntryMap}
-use Rattle.world_law.specs.Cuts.{VersionMap}
-use Rattle.world_law.specs.Worlds.{EventWorld, after, blank, took}
-use Rattle.world_law.specs.declared.events.Event.{Event}
+use Rattle.std.proofs.Common.{◌≡◌, List, map, slice_get, ℕ}
+use Rattle.std.specs.Prelude.{IfSome}
+use Rattle.delta_gossip.specs.Prelude.{after, blank, Edit, EntryMap, Event, EventWorld, took, VersionMap}
 use Rattle.delta_gossip.specs.declared.worlds.World.{World}
 
 -- these are the stores, asks and pieces of the world
@@ -18,7 +15,7 @@ pub record Shows (w : EventWorld) (stores : List EntryMap) (asks : List VersionM
 abbrev pub IsWorld : EventWorld → World → Type 0
 IsWorld w r = Shows w (map (λ s. s.store) r.replicas.items) r.asks.items r.pieces.items
 
--- the model world of so many nodes after these events
+-- the model world of n nodes after these events
 abbrev pub world_after : ℕ → List Event → EventWorld
 world_after n events = after events (blank n)
 
@@ -26,10 +23,10 @@ world_after n events = after events (blank n)
 abbrev pub took_after : ℕ → List Event → ℕ → List Edit
 took_after n events k = took (world_after n events) k
 
--- this holds of the store of node k after these events, if there is such a node
+-- the store of node k after these events has this property, if there is such a node
 abbrev pub NodeHolds : ℕ → List Event → ℕ → (EntryMap → Type 0) → Type 0
 NodeHolds n events k P = IfSome (slice_get (world_after n events).nodes k) (λ node. P node.store)
 
--- this holds of the store of replica k, if there is such a replica
+-- the store of replica k has this property, if there is such a replica
 abbrev pub ReplicaHolds : World → ℕ → (EntryMap → Type 0) → Type 0
 ReplicaHolds world k P = IfSome (slice_get world.replicas.items k) (λ replica. P replica.store)

@@ -1,11 +1,10 @@
--- What a sweep over replicas comes to.
+-- The result of a sweep over replicas.
 -- Source (least upper bounds): Shapiro, Preguica, Baquero, Zawirski 2011.
-use Rattle.std.specs.Prelude.{◌≡◌, List, [], ◌∷◌, All}
+use Rattle.std.proofs.Common.{[], ◌∷◌, ◌≡◌, All, List}
+use Rattle.delta_gossip.specs.Prelude.{EntryMap, IsStoreBelow, join, Replicated}
 use Rattle.std.specs.FinMap as finmap
-use Rattle.edit_sums.specs.Sums.{EntryMap, join, IsStoreBelow}
-use Rattle.replica_store.specs.Replicas.{Replicated}
 
--- the join of all these
+-- the join of all these stores
 abbrev pub join_all : List EntryMap → EntryMap
 join_all [] = finmap.empty
 join_all (s ∷ ss) = join s (join_all ss)
@@ -15,17 +14,17 @@ pub record IsLeastAbove (ss : List EntryMap) (all : EntryMap) : Type 0 where
   pub above : All (λ s. IsStoreBelow s all) ss
   pub least : (t : EntryMap) → All (λ s. IsStoreBelow s t) ss → IsStoreBelow all t
 
--- the replica with this store
+-- the replica with this store instead of its own
 abbrev pub with_store : EntryMap → Replicated → Replicated
 with_store s r = record r { store = s }
 
--- the new replica is the old one's node's, and its store lies between the old one and this one
+-- the new replica has the old one's writer, and its store lies between the old store and this one
 pub record IsBetween (all : EntryMap) (old new : Replicated) : Type 0 where
   pub writer : new.writer ≡ old.writer
   pub kept : IsStoreBelow old.store new.store
   pub within : IsStoreBelow new.store all
 
--- each new replica lies between the old one in its place and this store
+-- each new replica lies between the old one at its index and this store
 abbrev pub AreBetween : EntryMap → List Replicated → List Replicated → Type 0
 AreBetween all [] [] = Unit {0}
 AreBetween all [] (s ∷ ss) = ⊥

@@ -1,11 +1,11 @@
-//! Replicas that learn from one another: by whole stores, and by asks and the pieces cut for them. `exchange`
+//! Replicas that learn from each other by merging whole stores, or by asks and the pieces cut for them. `exchange`
 //! brings two together, `sweep` any number, and `run_world` runs a list of events among nodes.
 //!
 //! Promise: every world converges; a sweep joins all.
 //!
-//! Nodes of a world put edits, ask, cut what was asked for, and are given pieces in any order, late, twice or
-//! never; the contract of `run_world` says that nodes that took the same edits hold the same (Shapiro, Preguica,
-//! Baquero, Zawirski, "Conflict-free Replicated Data Types", 2011).
+//! A world is an execution: nodes put edits, make asks, cut pieces for them, and are given pieces in any order, late,
+//! twice or never. The contract of `run_world` says that nodes that took the same edits hold the same store (Shapiro,
+//! Preguica, Baquero, Zawirski, "Conflict-free Replicated Data Types", 2011).
 #![tactic(auto)]
 
 mod exchanges;

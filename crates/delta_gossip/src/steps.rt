@@ -1,4 +1,4 @@
-//! What each event does in a world. One that names what does not exist does nothing.
+//! The effect of each event in a world. An event that names something that doesn't exist does nothing.
 ghost use Rattle.std.specs.Prelude.{◌≡◌, map, IfOk, OnOk};
 ghost use Rattle.edit_sums.specs.Sums.{join};
 ghost use Rattle.world_law.specs.{Cuts.{cut}, Worlds.{EventWorld, happens}, declared.events.Event.TheVariants.{Put, Ask, Cut, Give}};
@@ -12,7 +12,7 @@ use std::alloc::{AllocError, Global};
 use std::slice::from_ref;
 use world_law::{Event, Places};
 
-/// What one event does: whatever model world is shown before, the next one is shown after it.
+/// Applies one event. If the world corresponds to a model world before, it corresponds to the next model world after.
 pub fn step(alloc: Global, world: &mut World, event: &Event) -> Result<(), AllocError>
     ensures writers { OnOk result (map (λ r. r.writer) world.new.replicas.items ≡ map
         (λ r. r.writer) world.old.replicas.items) }
@@ -27,7 +27,7 @@ pub fn step(alloc: Global, world: &mut World, event: &Event) -> Result<(), Alloc
     }
 }
 
-// A node puts a copy of an edit into its store.
+// A node writes a copy of an edit into its store.
 fn put_edit(alloc: Global, world: &mut World, node: usize, edit: &Edit) -> Result<(), AllocError>
     ensures writers { OnOk result (map (λ r. r.writer) world.new.replicas.items ≡ map
         (λ r. r.writer) world.old.replicas.items) }
@@ -41,7 +41,7 @@ fn put_edit(alloc: Global, world: &mut World, node: usize, edit: &Edit) -> Resul
     Ok(())
 }
 
-// Joins a store into a replica's.
+// Joins a store into that of a replica.
 fn join_store(replica: &mut Replica, store: Store) -> Result<(), AllocError>
     ensures ok { OnOk result (replica.new ≡ record replica.old { store = join replica.old.store store }) }
 {
@@ -51,7 +51,7 @@ fn join_store(replica: &mut Replica, store: Store) -> Result<(), AllocError>
     }
 }
 
-// A node asks.
+// A node makes an ask.
 fn ask_as(alloc: Global, world: &mut World, node: usize) -> Result<(), AllocError>
     ensures writers { OnOk result (map (λ r. r.writer) world.new.replicas.items ≡ map
         (λ r. r.writer) world.old.replicas.items) }
@@ -90,7 +90,7 @@ fn cut_piece(
     Ok(())
 }
 
-// What a replica has for an ask, at these places or at all.
+// Returns what a replica has for an ask, at these places or at all.
 fn cut_for(
     alloc: Global,
     replica: &Replica,
@@ -105,7 +105,7 @@ fn cut_for(
     }
 }
 
-// A node is given a piece, which stays.
+// A node is given a piece, which stays in the world.
 fn give_piece(world: &mut World, piece: usize, node: usize) -> Result<(), AllocError>
     ensures writers { OnOk result (map (λ r. r.writer) world.new.replicas.items ≡ map
         (λ r. r.writer) world.old.replicas.items) }

@@ -1,4 +1,4 @@
-//! Any number of replicas, brought together.
+//! Bringing any number of replicas together.
 ghost use Rattle.std.specs.Prelude.{◌≡◌, ◌∷◌, All, map, OnOk, OnErr};
 ghost use Rattle.edit_sums.specs.Sums.{IsStoreBelow};
 ghost use Rattle.delta_gossip.specs.Sweeps.{join_all, with_store, AreBetween, IsBetween};
@@ -6,12 +6,11 @@ ghost use Rattle.delta_gossip.specs.Sweeps.{join_all, with_store, AreBetween, Is
 use replica_store::Replica;
 use std::alloc::AllocError;
 
-/// Brings every replica into the first, and then the first into every other one: all then hold the
-/// join of all stores. With k replicas these are 2(k - 1) merges, and nothing is copied that is
-/// only read.
+/// Merges every replica into the first, and then the first into every other one: all then hold the join of all stores.
+/// For k replicas this takes 2(k - 1) merges, and nothing is copied that is only read.
 ///
-/// It fails for want of memory alone. Each store then lies between what it was and the join of all,
-/// and the same call may be made again.
+/// Fails only if memory runs out. Each store then lies between its old state and the join of all, and the call can be
+/// repeated.
 pub fn sweep(replicas: &mut [Replica]) -> Result<(), AllocError>
     ensures joined { OnOk result (replicas.new ≡ map
         (with_store (join_all (map (λ r. r.store) replicas.old))) replicas.old) }
@@ -29,7 +28,7 @@ pub fn sweep(replicas: &mut [Replica]) -> Result<(), AllocError>
     }
 }
 
-// Brings all the others into the first.
+// Merges all the others into the first.
 fn gather(first: &mut Replica, rest: &[Replica]) -> Result<(), AllocError>
     ensures gathered { OnOk result (first.new ≡ with_store
         (join_all (map (λ r. r.store) (first.old ∷ rest.now))) first.old) }
@@ -42,7 +41,7 @@ fn gather(first: &mut Replica, rest: &[Replica]) -> Result<(), AllocError>
     Ok(())
 }
 
-// Brings the first, which holds what they hold, into all the others.
+// Merges the first, which has everything that the others have, into all of them.
 fn spread(first: &Replica, rest: &mut [Replica]) -> Result<(), AllocError>
     requires below { All (λ r. IsStoreBelow r.store first.now.store) rest.old }
     ensures spread { OnOk result (rest.new ≡ map (with_store first.now.store) rest.old) }

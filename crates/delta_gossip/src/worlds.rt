@@ -1,7 +1,7 @@
-//! Worlds of replicas, run.
+//! Running worlds of replicas.
 ghost use Rattle.std.specs.Prelude.{◌≡◌, length, map, List, IfOk};
 ghost use Rattle.world_law.specs.{Worlds.{blank}, declared.events.Event.{Event}};
-ghost use Rattle.delta_gossip.specs.{Convergence.{Agrees, AgreesLater, HoldsSums, HoldsSumsAsTold}, Shows.{world_after, IsWorld}};
+ghost use Rattle.delta_gossip.specs.{Convergence.{Agrees, AgreesLater, HoldsSums, HoldsSumsByEvents}, Shows.{world_after, IsWorld}};
 
 use crate::steps::step;
 use delta_pieces::{Digest, Piece};
@@ -9,49 +9,47 @@ use replica_store::Replica;
 use std::alloc::{AllocError, Global};
 use world_law::{Event, converges};
 
-/// What there is after some events: every node's replica, and every ask and every piece that there
-/// ever was, each in the order of its events.
+/// The state of a world after some events: the replica of each node, and every ask and piece made so far, in the order
+/// of their events.
 #[derive(Debug, Drop)]
 pub struct World {
     /// The replica of each node.
     pub replicas: Vec<Replica>,
-    /// What was asked with.
+    /// The digests that the asks were made with.
     pub asks: Vec<Digest>,
-    /// What was cut. A piece that is given stays, and may be given again.
+    /// The pieces that were cut. A piece stays after it was given, and may be given again.
     pub pieces: Vec<Piece>,
 }
 
-/// Runs a list of events in a world of as many nodes as there are writers, with nothing in them.
+/// Runs a list of events in a world with one node for each writer. All stores are empty at first.
 ///
-/// An event that names a node, an ask or a piece that does not exist is passed over. It fails for
-/// want of memory alone, and leaves nothing.
+/// An event that names a node, an ask or a piece that doesn't exist is ignored. Fails only if memory runs out; nothing
+/// remains then.
 ///
-/// The clauses say that the world converges: whatever is put, asked, cut and given, in whatever
-/// order, nodes that took the same edits hold the same (Shapiro, Preguica, Baquero, Zawirski,
-/// "Conflict-free Replicated Data Types", 2011). A node took what it put and the entries of each
-/// piece given to it; and of a piece that was cut for its own ask also all that the cutting node
-/// had taken by then, at the places of the cut.
+/// The clauses say that the world converges: whatever is put, asked, cut and given, in whatever order, nodes that took
+/// the same edits hold the same store (Shapiro, Preguica, Baquero, Zawirski, "Conflict-free Replicated Data Types",
+/// 2011). A node took the edits that it put and the entries of each piece given to it. If a piece was cut for the
+/// node's own ask, it also took everything that the cutting node had taken by then at the places of the cut.
 pub fn run_world(alloc: Global, writers: &[u32], events: &[Event]) -> Result<World, AllocError>
     // The replicas write under these numbers, in this order.
     ensures writers { IfOk result (λ world. map (λ r. r.writer) world.replicas.items ≡ writers.now) }
 
-    // Stores, asks and pieces are those of the model world after these events, whatever versions
-    // the edits have.
+    // Stores, asks and pieces are those of the model world after these events, even if a version belongs to two edits.
     ensures model { IfOk result (λ world. IsWorld (world_after (length writers.now) events.now) world) }
 
-    // Where no version stands for two of the edits that were put: replica k holds the sum of the
-    // edits that node k took, which is the greatest of them at each place.
+    // If no version belongs to two of the edits that were put, replica k holds the sum of the edits that node k took:
+    // the greatest of them at each place.
     ensures sums { IfOk result (HoldsSums (length writers.now) events.now) }
 
-    // The same, with what node k took told from the events alone.
-    ensures told { IfOk result (HoldsSumsAsTold (length writers.now) events.now) }
+    // The same, where `Took` defines what node k took from the events alone.
+    ensures by_events { IfOk result (HoldsSumsByEvents (length writers.now) events.now) }
 
-    // So, if nodes k and l took the same edits, in whatever order and number, replica k holds the
-    // same as replica l.
+    // So if nodes k and l took the same edits, in whatever order and with whatever repetitions, replicas k and l hold
+    // the same.
     ensures agree { IfOk result (Agrees (length writers.now) events.now) }
 
-    // Also at two moments: if node k took by now the same edits as node l by any later moment,
-    // replica k holds now the same as node l then.
+    // The same at two moments: if node k took by now the same edits as node l by some later moment, replica k holds now
+    // what replica l holds then.
     ensures same { IfOk result (λ world. (later : List Event) → AgreesLater
         (length writers.now) events.now world later) }
 {
@@ -63,7 +61,7 @@ pub fn run_world(alloc: Global, writers: &[u32], events: &[Event]) -> Result<Wor
     Ok(world)
 }
 
-// The world before any event.
+// Returns the world before any event.
 fn begin(alloc: Global, writers: &[u32]) -> Result<World, AllocError>
     ensures writers { IfOk result (λ world. map (λ r. r.writer) world.replicas.items ≡ writers.now) }
     ensures model { IfOk result (λ world. IsWorld (blank (length writers.now)) world) }

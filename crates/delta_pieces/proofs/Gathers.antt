@@ -1,27 +1,17 @@
--- What is gathered place by place.
+-- Collecting entries place by place.
+use Rattle.std.proofs.Common.{[], ◌&&◌, ◌++◌, ◌+◌, ◌<◌, ◌||◌, ◌∙◌, ◌∷◌, ◌≡◌, ap, Bool, cond, false, filter, get_or, length, List, None, Option, refl, Some, sym, take, true, ℕ}
 use Rattle.std.proofs.lemmas.List.{take_more}
 use Rattle.std.proofs.lemmas.List.Folds.{list_any-append}
-use Rattle.std.proofs.Common.{◌≡◌, ℕ, ◌+◌, ◌<◌, Bool, true, false, cond, Option, Some, None, List, [], ◌∷◌, ◌++◌, length, take, get_or, refl, sym, ap, ◌∙◌}
-use Rattle.std.specs.Prelude.{◌&&◌, ◌||◌, filter}
 use Rattle.std.specs.Ordering.{eq_by_cmp}
+use Rattle.delta_pieces.proofs.Prelude.{cut, Edit, edit_of, edits_of, Entry, EntryMap, get-cut, get-join, get-sum_of, is_asked, is_newer, is_wanted, join, join-nothing, larger, larger_idem, only_at, passed, place_cmp, PlaceParts, same_store, sum_of, tied, VersionMap, with_edit, with_edit-join}
 use Rattle.std.specs.FinMap as finmap
-use Rattle.load_places.specs.Places.{PlaceParts, place_cmp}
-use Rattle.edit_sums.specs.Entries.{Entry}
-use Rattle.edit_sums.specs.declared.entries.Edit.{Edit}
-use Rattle.edit_sums.specs.Entries.{larger}
-use Rattle.edit_sums.specs.EntryLaws.{larger_idem}
-use Rattle.edit_sums.specs.Sums.{EntryMap, edit_of, sum_of, edits_of, join, with_edit}
-use Rattle.edit_sums.specs.GreatestLaws.{passed, tied, get-sum_of, get-join}
-use Rattle.edit_sums.specs.SumLaws.{same_store, join-nothing, with_edit-join}
-use Rattle.world_law.specs.Cuts.{VersionMap, is_newer, is_asked, is_wanted, cut, only_at}
-use Rattle.world_law.specs.CutLaws.{get-cut}
 
 nothing : (b : Bool) → ◌≡◌ {A = Option Entry} (cond b None None) None
 nothing true = refl
 nothing false = refl
 
 module _ (s : EntryMap) (ask : VersionMap) where
-  -- ---- no place
+  -- No place.
 
   none_wanted : (q : PlaceParts) (y : Option Entry) → passed (is_wanted ask (Some [])) q y ≡ None
   none_wanted q None = refl
@@ -30,7 +20,7 @@ module _ (s : EntryMap) (ask : VersionMap) where
   pub cut_nowhere : cut s ask (Some []) ≡ finmap.empty
   cut_nowhere = same_store _ _ (λ q. get-cut s ask (Some []) q ∙ none_wanted q (finmap.get s q) ∙ sym (finmap.get-empty place_cmp q))
 
-  -- ---- more places
+  -- More places.
 
   either : (a b n : Bool) (x : Entry) → larger (cond (a && n) (Some x) None) (cond (b && n) (Some x) None) ≡ cond ((a || b) && n) (Some x) None
   either true true true x = larger_idem (Some x)
@@ -52,14 +42,14 @@ module _ (s : EntryMap) (ask : VersionMap) where
       ∙ both_wanted ps qs q (finmap.get s q)
       ∙ sym (get-cut s ask (Some (ps ++ qs)) q))
 
-  -- with what is cut at one place more
+  -- with the cut at one more place
   pub cut_at_more : (ps : List PlaceParts) (i : ℕ) (p : PlaceParts) → i < length ps → p ≡ get_or ps i p → join (cut s ask (Some (take i ps))) (cut s ask (Some (p ∷ []))) ≡ cut s ask (Some (take (i + 1) ps))
   cut_at_more ps i p h is =
       cut_at_both (take i ps) (p ∷ [])
       ∙ ap (λ (r : PlaceParts). cut s ask (Some (take i ps ++ r ∷ []))) is
       ∙ ap (λ rs. cut s ask (Some rs)) (sym (take_more ps i p h))
 
-  -- ---- one place
+  -- One place.
 
   module _ (p : PlaceParts) where
     one_asked : (q : PlaceParts) (y : Option Entry) → passed (is_wanted ask (Some (p ∷ []))) q y ≡ cond (eq_by_cmp place_cmp q p) (passed (is_wanted ask None) q y) None
@@ -84,22 +74,22 @@ module _ (s : EntryMap) (ask : VersionMap) where
     cut_none is = same_store _ _ (λ q. at_one q ∙ ap (λ y. cond (eq_by_cmp place_cmp q p) y None) is ∙ nothing (eq_by_cmp place_cmp q p) ∙ sym (get-sum_of [] q))
 
     module _ (g : EntryMap) where
-      -- nothing is held there
+      -- the store holds nothing there
       pub join_absent : finmap.get s p ≡ None → g ≡ join g (cut s ask (Some (p ∷ [])))
       join_absent held = sym (ap (join g) (cut_none (ap (passed (is_wanted ask None) p) held)) ∙ join-nothing g)
 
       module _ (x : Entry) (held : finmap.get s p ≡ Some x) where
-        -- what is held is not newer
+        -- the entry there isn't newer
         pub join_older : is_newer x.version (finmap.get ask p) ≡ false → g ≡ join g (cut s ask (Some (p ∷ [])))
         join_older older = sym (ap (join g) (cut_none (ap (passed (is_wanted ask None) p) held ∙ ap (λ b. cond b (Some x) None) older)) ∙ join-nothing g)
 
-        -- it is newer
+        -- the entry there is newer
         pub join_newer : is_newer x.version (finmap.get ask p) ≡ true → with_edit g (edit_of (p, x)) ≡ join g (cut s ask (Some (p ∷ [])))
         join_newer newer =
             with_edit-join g (edit_of (p, x))
             ∙ sym (ap (join g) (cut_one x (ap (passed (is_wanted ask None) p) held ∙ ap (λ b. cond b (Some x) None) newer)))
 
--- against no version everything is newer
+-- without a version to compare with, every entry is newer
 and_true : (b : Bool) → (b && true) ≡ b
 and_true true = refl
 and_true false = refl

@@ -1,14 +1,8 @@
--- Copies of entries that are joined one by one.
-use Rattle.std.proofs.Common.{◌≡◌, ℕ, zero, suc, Bool, true, false, cond, Option, Some, None, Bor, List, [], ◌∷◌, take, drop, map, refl, sym, ap, ◌∙◌}
+-- Copies of entries, joined one by one.
+use Rattle.std.proofs.Common.{[], ◌∙◌, ◌∷◌, ◌≡◌, ap, Bool, Bor, cond, drop, false, filter, List, map, None, Option, refl, Some, suc, sym, take, true, zero, ℕ}
 use Rattle.std.specs.Option.{option_copied, option_map}
-use Rattle.std.specs.Prelude.{filter}
+use Rattle.delta_pieces.proofs.Prelude.{digest_of, edit_of, Entry, EntryMap, get-digest_of, is_newer, join, join-nothing, join_assoc, join_comm, PlaceParts, sum_of, sum_of-append, with_edit, with_edit-join}
 use Rattle.std.specs.FinMap as finmap
-use Rattle.load_places.specs.Places.{PlaceParts}
-use Rattle.edit_sums.specs.Entries.{Entry}
-use Rattle.edit_sums.specs.Sums.{EntryMap, edit_of, sum_of, join, with_edit}
-use Rattle.world_law.specs.Cuts.{is_newer, digest_of}
-use Rattle.world_law.specs.CutLaws.{get-digest_of}
-use Rattle.edit_sums.specs.SumLaws.{sum_of-append, with_edit-join, join_assoc, join_comm, join-nothing}
 
 abbrev pub sum_at : List (PlaceParts × Entry) → EntryMap
 sum_at es = sum_of (map edit_of es)
@@ -30,14 +24,14 @@ joined_first s e es =
     ∙ ap (join s) (sym (sum_of-append (edit_of e ∷ []) (map edit_of es)))
 
 module _ (s : EntryMap) (e : PlaceParts × Entry) (es xs : List (PlaceParts × Entry)) (is : xs ≡ e ∷ es) where
-  -- with the first of those that are taken
+  -- with the first of the entries that are removed
   pub taken_first : (n m : ℕ) → n ≡ suc m → (t : EntryMap) → join s (sum_at (take n xs)) ≡ t → join (with_edit s (edit_of e)) (sum_at (take m es)) ≡ t
   taken_first n m more t h = joined_first s e (take m es) ∙ (λ i. join s (sum_at (take (sym more i) (sym is i)))) ∙ h
 
   pub dropped_first : (n m : ℕ) → n ≡ suc m → (t : List (PlaceParts × Entry)) → drop n xs ≡ t → drop m es ≡ t
   dropped_first n m more t h = (λ i. drop (sym more i) (sym is i)) ∙ h
 
-  -- with the first of those that pass a test, or without it
+  -- with the first of the entries that pass a test, or without it
   module _ (p : PlaceParts × Entry → Bool) (t : EntryMap) (h : join s (sum_at (filter p xs)) ≡ t) where
     pub passed_first : p e ≡ true → join (with_edit s (edit_of e)) (sum_at (filter p es)) ≡ t
     passed_first passes =
@@ -49,28 +43,28 @@ module _ (s : EntryMap) (e : PlaceParts × Entry) (es xs : List (PlaceParts × E
         ap (λ b. join s (sum_at (cond b (e ∷ filter p es) (filter p es)))) (sym fails)
         ∙ ap (λ l. join s (sum_at (filter p l))) (sym is) ∙ h
 
--- ---- entries beside what another store holds
+-- Entries paired with what another store holds at their places.
 
 abbrev pub Compared : Type 0
 Compared = (PlaceParts × Entry) × Option Entry
 
-abbrev pub is_news_beside : Compared → Bool
-is_news_beside b = is_newer b.0.1.version (option_map (λ (x : Entry). x.version) b.1)
+abbrev pub is_news_zipped : Compared → Bool
+is_news_zipped b = is_newer b.0.1.version (option_map (λ (x : Entry). x.version) b.1)
 
--- those that are newer
+-- the newer ones
 abbrev pub news : List Compared → List (PlaceParts × Entry)
-news bs = map (λ b. b.0) (filter is_news_beside bs)
+news bs = map (λ b. b.0) (filter is_news_zipped bs)
 
 news_all : (held : PlaceParts → Option Entry) (es : List (PlaceParts × Entry)) → news (map (λ p. (p, held p.0)) es) ≡ filter (λ p. is_newer p.1.version (option_map (λ (x : Entry). x.version) (held p.0))) es
 news_all held [] = refl
 news_all held (e ∷ es) =
-    elim (is_news_beside (e, held e.0)) as (λ b. map (λ (c : Compared). c.0) (cond b ((e, held e.0) ∷ filter is_news_beside (map (λ p. (p, held p.0)) es)) (filter is_news_beside (map (λ p. (p, held p.0)) es)))
+    elim (is_news_zipped (e, held e.0)) as (λ b. map (λ (c : Compared). c.0) (cond b ((e, held e.0) ∷ filter is_news_zipped (map (λ p. (p, held p.0)) es)) (filter is_news_zipped (map (λ p. (p, held p.0)) es)))
     ≡ cond b (e ∷ filter (λ (p : PlaceParts × Entry). is_newer p.1.version (option_map (λ (x : Entry). x.version) (held p.0))) es) (filter (λ (p : PlaceParts × Entry). is_newer p.1.version (option_map (λ (x : Entry). x.version) (held p.0))) es)) [
       | true ↦ ap (λ (l : List (PlaceParts × Entry)). e ∷ l) (news_all held es)
       | false ↦ news_all held es
     ]
 
--- they are those that are newer than the other's digest
+-- they are the entries that are newer than the other store's digest
 pub news_of_digest : (other : EntryMap) (es : List (PlaceParts × Entry)) → news (map (λ p. (p, finmap.get other p.0)) es) ≡ filter (λ p. is_newer p.1.version (finmap.get (digest_of other) p.0)) es
 news_of_digest other es = news_all (finmap.get other) es ∙ (λ i. filter (λ (p : PlaceParts × Entry). is_newer p.1.version (sym (get-digest_of other p.0) i)) es)
 
@@ -79,12 +73,12 @@ held_version None = refl
 held_version (Some x) = refl
 
 module _ (s : EntryMap) (b : Compared) (bs xs : List Compared) (is : xs ≡ b ∷ bs) (t : EntryMap) (h : join s (sum_at (news xs)) ≡ t) where
-  pub passed_beside : is_news_beside b ≡ true → join (with_edit s (edit_of b.0)) (sum_at (news bs)) ≡ t
-  passed_beside passes =
-      joined_first s b.0 (news bs) ∙ ap (λ c. join s (sum_at (map (λ (x : Compared). x.0) (cond c (b ∷ filter is_news_beside bs) (filter is_news_beside bs))))) (sym passes)
+  pub passed_zipped : is_news_zipped b ≡ true → join (with_edit s (edit_of b.0)) (sum_at (news bs)) ≡ t
+  passed_zipped passes =
+      joined_first s b.0 (news bs) ∙ ap (λ c. join s (sum_at (map (λ (x : Compared). x.0) (cond c (b ∷ filter is_news_zipped bs) (filter is_news_zipped bs))))) (sym passes)
       ∙ ap (λ l. join s (sum_at (news l))) (sym is) ∙ h
 
-  pub failed_beside : is_news_beside b ≡ false → join s (sum_at (news bs)) ≡ t
-  failed_beside fails =
-      ap (λ c. join s (sum_at (map (λ (x : Compared). x.0) (cond c (b ∷ filter is_news_beside bs) (filter is_news_beside bs))))) (sym fails)
+  pub failed_zipped : is_news_zipped b ≡ false → join s (sum_at (news bs)) ≡ t
+  failed_zipped fails =
+      ap (λ c. join s (sum_at (map (λ (x : Compared). x.0) (cond c (b ∷ filter is_news_zipped bs) (filter is_news_zipped bs))))) (sym fails)
       ∙ ap (λ l. join s (sum_at (news l))) (sym is) ∙ h

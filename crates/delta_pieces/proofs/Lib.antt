@@ -1,5 +1,6 @@
+pub mod Prelude
 pub mod Orders
-pub mod Views
+pub mod HostViews
 pub mod Joined
 pub mod Passes
 pub mod Gathers

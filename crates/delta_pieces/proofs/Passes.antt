@@ -1,33 +1,23 @@
--- A pass over entries and versions together.
-use Rattle.std.specs.Prelude.{slice_get, filter}
-use Rattle.std.proofs.lemmas.List.{append-nil}
-use Rattle.std.proofs.lemmas.List.Elements.{filter_more}
-use Rattle.sorted_pairs.specs.Places.{IsNotBelow}
-use Rattle.std.proofs.Common.{◌≡◌, ◌≢◌, ℕ, suc, ◌+◌, ◌<◌, ◌++◌, take, drop, get_or, drop-cons, add-one, Bool, true, false, cond, Option, Some, None, List, [], ◌∷◌, length, IsTrue, refl, sym, ap, subst, ◌∙◌}
-use Rattle.std.specs.declared.cmp.Ordering.TheVariants.{Less, Equal, Greater}
-use Rattle.std.specs.Ordering.{is_eq, eq_by_cmp, ordering_reverse}
-use Rattle.std.specs.Cmp.{tied_itself}
-use Rattle.std.specs.FinMap.Entries.{find, is_sorted, below_all}
-use Rattle.join_law.specs.declared.versions.Version.{Version}
-use Rattle.load_places.specs.Places.{PlaceParts, place_cmp}
-use Rattle.load_places.specs.PlaceLaws.{place_cmp_total}
-use Rattle.edit_sums.specs.Entries.{Entry}
-use Rattle.edit_sums.specs.GreatestLaws.{tied}
-use Rattle.world_law.specs.Cuts.{is_newer}
-use Rattle.sorted_pairs.specs.PlaceLaws.{find_before}
+-- A pass over entries and versions side by side.
+use Rattle.std.proofs.Common.{[], ◌++◌, ◌+◌, ◌<◌, ◌∙◌, ◌∷◌, ◌≡◌, ◌≢◌, add-one, ap, append-nil, Bool, cond, drop, drop-cons, false, filter, get_or, IsTrue, length, List, None, Option, refl, slice_get, Some, subst, suc, sym, take, true, ℕ}
 use Rattle.std.proofs.lemmas.Bool.{and_parts}
-use Rattle.list_laws.specs.Orderings.{is_less, is_equal, is_greater, turned}
+use Rattle.std.proofs.lemmas.List.Elements.{filter_more}
+use Rattle.std.specs.Cmp.{tied_itself}
+use Rattle.std.specs.FinMap.Entries.{below_all, find, is_sorted}
+use Rattle.std.specs.Ordering.{eq_by_cmp, is_eq, ordering_reverse}
+use Rattle.std.specs.declared.cmp.Ordering.TheVariants.{Equal, Greater, Less}
+use Rattle.delta_pieces.proofs.Prelude.{Entry, find_before, is_equal, is_greater, is_less, is_newer, IsNotBelow, place_cmp, place_cmp_total, PlaceParts, tied, turned, Version}
 
--- what is left of the versions tells the same as all of them, at the place of each of these entries
-abbrev pub TellsTheSame : (left versions : List (PlaceParts × Version)) → List (PlaceParts × Entry) → Type 0
-TellsTheSame left versions [] = Unit {0}
-TellsTheSame left versions (e ∷ es) = (find place_cmp e.0 left ≡ find place_cmp e.0 versions) × TellsTheSame left versions es
+-- at the places of these entries, the remaining versions are those of the complete list
+abbrev pub RecordsTheSame : (left versions : List (PlaceParts × Version)) → List (PlaceParts × Entry) → Type 0
+RecordsTheSame left versions [] = Unit {0}
+RecordsTheSame left versions (e ∷ es) = (find place_cmp e.0 left ≡ find place_cmp e.0 versions) × RecordsTheSame left versions es
 
-pub tells_all : (versions : List (PlaceParts × Version)) (es : List (PlaceParts × Entry)) → TellsTheSame versions versions es
-tells_all versions [] = tt
-tells_all versions (e ∷ es) = (refl, tells_all versions es)
+pub records_all : (versions : List (PlaceParts × Version)) (es : List (PlaceParts × Entry)) → RecordsTheSame versions versions es
+records_all versions [] = tt
+records_all versions (e ∷ es) = (refl, records_all versions es)
 
--- a pair below a place says nothing of places that are not
+-- a pair below a place doesn't matter for places that aren't below that place
 pub find_past : (k q : PlaceParts) (next : PlaceParts × Version) (further : List (PlaceParts × Version)) → place_cmp next.0 k ≡ Less → place_cmp q k ≢ Less → find place_cmp q (next ∷ further) ≡ find place_cmp q further
 find_past k q next further below not_below = by (eq_by_cmp place_cmp q next.0) refl
   where
@@ -43,36 +33,36 @@ greater x y h e =
 itself : (x : PlaceParts) → place_cmp x x ≢ Less
 itself x e = let f : place_cmp x x ≡ Equal = tied_itself place_cmp_total x in cc
 
--- versions below an entry's place are not needed from there on
-pub tells_from : (e : PlaceParts × Entry) (es : List (PlaceParts × Entry)) (left further versions : List (PlaceParts × Version)) → IsTrue (is_sorted place_cmp (e ∷ es)) →
+-- versions below an entry's place are not needed from that entry on
+pub records_from : (e : PlaceParts × Entry) (es : List (PlaceParts × Entry)) (left further versions : List (PlaceParts × Version)) → IsTrue (is_sorted place_cmp (e ∷ es)) →
     ((q : PlaceParts) → place_cmp q e.0 ≢ Less → find place_cmp q further ≡ find place_cmp q left) →
-    TellsTheSame left versions (e ∷ es) → TellsTheSame further versions (e ∷ es)
-tells_from e es left further versions s held t = (held e.0 (itself e.0) ∙ t.0, behind es (and_parts _ _ s).0 t.1)
+    RecordsTheSame left versions (e ∷ es) → RecordsTheSame further versions (e ∷ es)
+records_from e es left further versions s held t = (held e.0 (itself e.0) ∙ t.0, after es (and_parts _ _ s).0 t.1)
   where
-    behind : (fs : List (PlaceParts × Entry)) → IsTrue (below_all place_cmp e.0 fs) → TellsTheSame left versions fs → TellsTheSame further versions fs
-    behind [] b u = tt
-    behind (f ∷ fs) b u = (held f.0 (greater e.0 f.0 (is_less _ (and_parts _ _ b).0)) ∙ u.0, behind fs (and_parts _ _ b).1 u.1)
+    after : (fs : List (PlaceParts × Entry)) → IsTrue (below_all place_cmp e.0 fs) → RecordsTheSame left versions fs → RecordsTheSame further versions fs
+    after [] b u = tt
+    after (f ∷ fs) b u = (held f.0 (greater e.0 f.0 (is_less _ (and_parts _ _ b).0)) ∙ u.0, after fs (and_parts _ _ b).1 u.1)
 
--- what is known where an entry was looked at, with the versions that are left of it
+-- the state of the pass at an entry, with the versions that remain there
 pub record IsPassed (versions further : List (PlaceParts × Version)) (e : PlaceParts × Entry) (es : List (PlaceParts × Entry)) (newer : Bool) : Type 0 where
-  pub told : newer ≡ is_newer e.1.version (find place_cmp e.0 versions)
+  pub recorded : newer ≡ is_newer e.1.version (find place_cmp e.0 versions)
   pub sorted : IsTrue (is_sorted place_cmp es)
-  pub tells : TellsTheSame further versions es
+  pub records : RecordsTheSame further versions es
 
 pub passed : (versions left further : List (PlaceParts × Version)) (e : PlaceParts × Entry) (es all : List (PlaceParts × Entry)) (entry : Entry) (version : Option Version) (newer : Bool)
-    → all ≡ e ∷ es → IsTrue (is_sorted place_cmp all) → TellsTheSame left versions all
+    → all ≡ e ∷ es → IsTrue (is_sorted place_cmp all) → RecordsTheSame left versions all
     → ((q : PlaceParts) → place_cmp q e.0 ≢ Less → find place_cmp q further ≡ find place_cmp q left)
     → entry ≡ e.1 → version ≡ find place_cmp e.0 further → newer ≡ is_newer entry.version version → IsPassed versions further e es newer
-passed versions left further e es all entry version newer is sorted told held same there test =
-    let rises = subst (λ (l : List (PlaceParts × Entry)). IsTrue (is_sorted place_cmp l)) is sorted in
-    let tells = tells_from e es left further versions rises held (subst (TellsTheSame left versions) is told) in
+passed versions left further e es all entry version newer is sorted recorded held same there test =
+    let ascends = subst (λ (l : List (PlaceParts × Entry)). IsTrue (is_sorted place_cmp l)) is sorted in
+    let records = records_from e es left further versions ascends held (subst (RecordsTheSame left versions) is recorded) in
     record {
-      told = test ∙ ap (λ (x : Entry). is_newer x.version version) same ∙ ap (is_newer e.1.version) (there ∙ tells.0);
-      sorted = (and_parts (below_all place_cmp e.0 es) _ rises).1;
-      tells = tells.1;
+      recorded = test ∙ ap (λ (x : Entry). is_newer x.version version) same ∙ ap (is_newer e.1.version) (there ∙ records.0);
+      sorted = (and_parts (below_all place_cmp e.0 es) _ ascends).1;
+      records = records.1;
     }
 
--- ---- one entry more
+-- One more entry.
 
 module _ (p : PlaceParts × Entry → Bool) (es : List (PlaceParts × Entry)) (i : ℕ) (e : PlaceParts × Entry) (h : i < length es) (is : e ≡ get_or es i e) where
   more : filter p (take (i + 1) es) ≡ filter p (take i es) ++ cond (p e) (e ∷ []) []
@@ -87,10 +77,10 @@ module _ (p : PlaceParts × Entry → Bool) (es : List (PlaceParts × Entry)) (i
   pub next_of : drop i es ≡ e ∷ drop (i + 1) es
   next_of = rw (add-one) (drop-cons es i e h ∙ ap (λ (x : PlaceParts × Entry). x ∷ drop (suc i) es) (sym is))
 
--- ---- the first of the versions, where none is below a place
+-- The first version, if none is below the place.
 
 module _ (k : PlaceParts) where
-  -- it stands at the place
+  -- it is at the place
   pub find_first : (es : List (PlaceParts × Version)) (d : PlaceParts × Version) → Some d ≡ slice_get es 0 → is_eq (place_cmp d.0 k) ≡ true → find place_cmp k es ≡ Some d.1
   find_first [] d is h = cc
   find_first (e ∷ es) d is h =
@@ -98,7 +88,7 @@ module _ (k : PlaceParts) where
       let tied : place_cmp e.0 k ≡ Equal = ap (λ (p : PlaceParts × Version). place_cmp p.0 k) (sym one) ∙ is_equal _ h in
       ap (λ r. cond (is_eq r) (Some e.1) (find place_cmp k es)) (turned place_cmp place_cmp_total e.0 k Equal tied) ∙ ap (λ (p : PlaceParts × Version). Some p.1) (sym one)
 
-  -- it stands behind the place
+  -- it is after the place
   pub find_before_first : (es : List (PlaceParts × Version)) (d : PlaceParts × Version) → Some d ≡ slice_get es 0 → IsTrue (is_sorted place_cmp es) → IsNotBelow place_cmp k es → is_eq (place_cmp d.0 k) ≡ false → find place_cmp k es ≡ None
   find_before_first [] d is s n h = refl
   find_before_first (e ∷ es) d is s n h =

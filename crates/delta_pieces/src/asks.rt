@@ -1,4 +1,4 @@
-//! What a replica asks with.
+//! Digests of replicas.
 ghost use Rattle.std.specs.{Prelude.{◌≡◌, Some, IsTrue, IfOk, OnOk, map}, FinMap.{is_sorted, put}};
 ghost use Rattle.std.specs.FinMap as finmap;
 ghost use Rattle.load_places.specs.Places.{place_cmp};
@@ -12,8 +12,7 @@ use replica_store::{Replica, Store};
 use sorted_pairs::seek;
 use std::alloc::{AllocError, Global};
 
-/// The digest of all that a replica holds, removals included. One pass. It fails for want of memory
-/// alone.
+/// Returns the digest of everything that a replica holds, removals included. One pass. Fails only if memory runs out.
 pub fn digest(alloc: Global, replica: &Replica) -> Result<Digest, AllocError>
     ensures digest { IfOk result (λ digest. digest ≡ digest_of replica.now.store) }
 {
@@ -21,7 +20,7 @@ pub fn digest(alloc: Global, replica: &Replica) -> Result<Digest, AllocError>
     Ok(Digest::from_versions(versions))
 }
 
-// Each place with its version.
+// Returns each place with its version.
 fn versions_of(alloc: Global, store: &Store) -> Result<Vec<(Place, Version)>, AllocError>
     ensures versions { IfOk result (λ versions. versions.items ≡ map (λ p. (p.0, p.1.version))
         (finmap.entries store.now)) }
@@ -34,12 +33,11 @@ fn versions_of(alloc: Global, store: &Store) -> Result<Vec<(Place, Version)>, Al
     Ok(versions)
 }
 
-/// The digest of what a replica holds at these places, which are read as a set. What is cut for it at
-/// these places is what is cut there for the whole digest.
+/// Returns the digest of what a replica holds at these places. Duplicates and order don't matter. At these places,
+/// cutting for this digest gives the same as cutting for the complete digest.
 ///
-/// For each place a search in the store and one among the versions found before, and at most one
-/// shift of these, none where the places rise. No other place is copied. It fails for want of memory
-/// alone.
+/// Each place costs a search in the store, a search among the versions found so far, and at most one shift of these; if
+/// the places are in ascending order, nothing is shifted. No other place is copied. Fails only if memory runs out.
 pub fn digest_at(alloc: Global, replica: &Replica, places: &[Place]) -> Result<Digest, AllocError>
     ensures digest { IfOk result (λ digest. digest ≡ digest_of (only_at places.now replica.now.store)) }
     ensures same_cut { IfOk result (λ digest. (s : EntryMap) → cut s digest (Some places.now) ≡ cut s
@@ -54,7 +52,7 @@ pub fn digest_at(alloc: Global, replica: &Replica, places: &[Place]) -> Result<D
     Ok(Digest::from_versions(versions))
 }
 
-// Puts a version at a place.
+// Sets the version at a place.
 fn put_version(
     versions: &mut Vec<(Place, Version)>,
     place: &Place,

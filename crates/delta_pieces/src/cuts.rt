@@ -1,4 +1,4 @@
-//! What is cut for a digest.
+//! Cutting pieces for digests.
 ghost use Rattle.std.specs.Prelude.{◌≡◌, ◌++◌, Some, None, IfOk};
 ghost use Rattle.edit_sums.specs.Sums.{EntryMap, IsHonest, edits_of, join};
 ghost use Rattle.world_law.specs.Cuts.{cut, digest_of};
@@ -10,12 +10,12 @@ use load_places::Place;
 use replica_store::Replica;
 use std::alloc::{AllocError, Global};
 
-/// Copies of what a replica holds that is news to a digest: of a greater version than it has, or at
-/// a place that it doesn't have. Where no version stands for two edits, whoever asked with its own
-/// digest lacks nothing of the replica once it takes them.
+/// Returns copies of what a replica holds and the digest lacks: entries with a greater version than the digest has, or
+/// at a place that isn't in the digest. If no version belongs to two different edits, whoever asked with its own digest
+/// lacks nothing of the replica after taking the piece.
 ///
-/// One pass over the entries and the versions together; only what is carried is copied, and copies
-/// share their bytes. It fails for want of memory alone.
+/// One pass over entries and versions side by side. Only the entries of the piece are copied, and copies share their
+/// bytes. Fails only if memory runs out.
 pub fn delta_for(alloc: Global, replica: &Replica, asked: &Digest) -> Result<Piece, AllocError>
     ensures cut { IfOk result (λ piece. piece ≡ cut replica.now.store asked.now None) }
     ensures whole { IfOk result (λ piece. (s : EntryMap) → asked.now ≡ digest_of s →
@@ -25,11 +25,10 @@ pub fn delta_for(alloc: Global, replica: &Replica, asked: &Digest) -> Result<Pie
     Ok(Piece::from_store(newer))
 }
 
-/// The same for another replica's own digest, which isn't made: copies of what the first holds that is news to the
-/// second.
+/// Returns what `from` holds and `to` lacks: the same piece as `delta_for` with the digest of `to`, which isn't built.
 ///
-/// Both are read side by side: an entry costs a comparison or two, and a search where the second holds many places before
-/// it. It fails for want of memory alone.
+/// Reads both side by side: an entry costs one or two comparisons, and a search if `to` holds many places before it.
+/// Fails only if memory runs out.
 pub fn delta_between(alloc: Global, from: &Replica, to: &Replica) -> Result<Piece, AllocError>
     ensures cut { IfOk result (λ piece. piece ≡ cut from.now.store (digest_of to.now.store) None) }
     ensures whole { IfOk result (λ piece. IsHonest (edits_of to.now.store ++ edits_of from.now.store) →
@@ -38,11 +37,12 @@ pub fn delta_between(alloc: Global, from: &Replica, to: &Replica) -> Result<Piec
     Ok(Piece::from_store(newer_than(alloc, from.store(), to.store())?))
 }
 
-/// What is cut for a digest at these places alone, which are read as a set.
+/// Returns what a replica holds and the digest lacks, at these places only. Duplicates and order of the places don't
+/// matter.
 ///
-/// For each place a search in the store and one in the digest, and at most one shift of what was
-/// found before, none where the places rise. An entry that is carried is copied as often as its place
-/// is named, and nothing else is. It fails for want of memory alone.
+/// Each place costs a search in the store, a search in the digest, and at most one shift of what was found so far; if
+/// the places are in ascending order, nothing is shifted. An entry of the piece is copied once for each time its place
+/// is listed, and nothing else is copied. Fails only if memory runs out.
 pub fn delta_at(
     alloc: Global,
     replica: &Replica,

@@ -11,10 +11,10 @@ use std::marker::Model;
 
 /// What a replica asks with: the version of each entry that it holds, by place.
 ///
-/// It has no contents, so it is small beside the store that it tells of.
+/// A digest has no contents, so it is small compared to the store that it describes.
 #[derive(Debug, Drop)]
 pub struct Digest {
-    // In place order.
+    // Sorted by place.
     versions: Vec<(Place, Version)>,
 }
 
@@ -35,7 +35,7 @@ impl Model for Digest {
 }
 
 impl Digest {
-    // A digest of nothing. It takes no memory.
+    // Returns an empty digest. Allocates nothing.
     pub(crate) fn new(alloc: Global) -> Digest
         ensures empty { result ≡ finmap.empty }
     {
@@ -44,7 +44,7 @@ impl Digest {
         }
     }
 
-    // The digest of these versions, whose places rise. It takes no memory.
+    // Makes a digest of versions whose places are in ascending order. Allocates nothing.
     pub(crate) fn from_versions(versions: Vec<(Place, Version)>) -> Digest
         requires sorted { IsTrue (is_sorted place_cmp versions.items) }
         ensures versions { finmap.entries result ≡ versions.items }
@@ -52,7 +52,7 @@ impl Digest {
         Digest { versions }
     }
 
-    /// The version at a place. O(log n), without memory.
+    /// Returns the version at a place. O(log n). Allocates nothing.
     pub fn get(&self, place: &Place) -> Option<Version>
         ensures version { result ≡ finmap.get self.now place.now }
     {
@@ -62,14 +62,14 @@ impl Digest {
         }
     }
 
-    /// All places and versions in place order, without memory.
+    /// Borrows all places and versions, sorted by place. Allocates nothing.
     pub fn versions(&self) -> &[(Place, Version)]
         ensures versions { result.now ≡ finmap.entries self.now }
     {
         &self.versions
     }
 
-    /// An equal digest. Linear; it fails for want of memory alone.
+    /// Returns an equal digest. Linear. Fails only if memory runs out.
     pub fn try_clone(&self) -> Result<Digest, AllocError>
         ensures copy { IfOk result (λ copy. copy ≡ self.now) }
     {
@@ -79,7 +79,7 @@ impl Digest {
     }
 }
 
-// A copy of the versions.
+// Returns a copy of the versions.
 fn copy_of(
     alloc: Global,
     versions: &[(Place, Version)],

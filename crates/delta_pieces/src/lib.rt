@@ -1,12 +1,16 @@
-//! What replicas send each other: digests, which tell the version at each place, and pieces, which carry entries. A
-//! piece that is cut for a digest carries what its owner lacks: entries of a greater version than the digest tells,
-//! and those at places of which it tells nothing.
+//! What replicas send each other: digests, which have the version at each place, and pieces (deltas), which have
+//! entries. A piece cut for a digest has what the digest's owner lacks: entries with a greater version than the digest
+//! has, and entries at places that aren't in the digest.
 //!
 //! Promise: pieces are exact; a refused merge lies between; what was consumed comes back.
 //!
-//! Both are plain values: a digest may be old, and a piece may be split, late, lost or taken twice, since taking it
-//! joins it, as stores are joined (Shapiro, Preguica, Baquero, Zawirski, "Conflict-free Replicated Data Types",
+//! Both are plain values: a digest may be out of date, and a piece may be split, delayed, lost or taken twice, because
+//! taking a piece joins it into the store (Shapiro, Preguica, Baquero, Zawirski, "Conflict-free Replicated Data Types",
 //! 2011).
+//!
+//! - `digest`, `digest_at`: make a `Digest` of a replica.
+//! - `delta_for`, `delta_at`, `delta_between`: cut a `Piece`.
+//! - `take`: joins a piece into a replica.
 #![tactic(auto)]
 
 mod asks;

@@ -1,4 +1,4 @@
-//! What is newer than what was asked with.
+//! Finding the entries that are newer than a digest or another store.
 ghost use Rattle.std.specs.{Prelude.{◌≡◌, ◌≢◌, [], ◌∷◌, Some, None, IsTrue, IfOk, OnOk, filter, map}, Option.{option_map}};
 ghost use Rattle.std.specs.{declared.cmp.Ordering.TheVariants.{Less}, FinMap.{is_sorted, find}};
 ghost use Rattle.load_places.specs.Places.{PlaceParts, place_cmp};
@@ -14,7 +14,7 @@ use load_places::Place;
 use replica_store::{Entries, Placed, Store};
 use std::alloc::{AllocError, Global};
 
-// Copies of the entries that are newer. One pass over entries and versions together.
+// Returns copies of the entries that are newer. One pass over entries and versions side by side.
 pub fn newer_entries(
     alloc: Global,
     mut entries: Entries<'_>,
@@ -36,7 +36,7 @@ pub fn newer_entries(
     Ok(newer)
 }
 
-// The versions whose places are not below that of an entry. Linear in those that are.
+// Skips the versions whose places are below the entry's place, and returns the others. Linear in those skipped.
 fn from_place<'a>(versions: &'a [(Place, Version)], placed: &Placed) -> &'a [(Place, Version)]
     requires sorted { IsTrue (is_sorted place_cmp versions.now) }
     ensures sorted { IsTrue (is_sorted place_cmp result.now) }
@@ -54,7 +54,7 @@ fn from_place<'a>(versions: &'a [(Place, Version)], placed: &Placed) -> &'a [(Pl
     left
 }
 
-// The version at the place of an entry, which no other place is below.
+// Returns the version at the place of an entry; no version here has a lower place.
 fn version_at(versions: &[(Place, Version)], placed: &Placed) -> Option<Version>
     requires sorted { IsTrue (is_sorted place_cmp versions.now) }
     requires next { IsNotBelow place_cmp placed.now.0 versions.now }
@@ -68,12 +68,12 @@ fn version_at(versions: &[(Place, Version)], placed: &Placed) -> Option<Version>
     }
 }
 
-// Copies of the entries of one store that are newer than what another holds. Both are read side by side.
+// Returns copies of the entries of one store that are newer than what another holds. Reads both side by side.
 pub fn newer_than(alloc: Global, store: &Store, other: &Store) -> Result<Store, AllocError>
     ensures cut { IfOk result (λ newer. newer ≡ cut store.now (digest_of other.now) None) }
 {
     let mut newer = Store::new(alloc);
-    let mut both = store.entries_beside(other);
+    let mut both = store.entries_zipped(other);
     while let Some((placed, held)) = both.next_entry() {
         if is_news(placed.entry(), held) {
             join_copy(&mut newer, &placed)?;
@@ -82,7 +82,7 @@ pub fn newer_than(alloc: Global, store: &Store, other: &Store) -> Result<Store, 
     Ok(newer)
 }
 
-// Whether an entry is newer than what is held, or nothing is.
+// Returns whether an entry is newer than the one held, or none is held.
 fn is_news(entry: &Entry, held: Option<&Entry>) -> bool
     ensures news { result ≡ is_newer entry.now.version (option_map (λ x. x.now.version) held.entry) }
 {
@@ -92,7 +92,7 @@ fn is_news(entry: &Entry, held: Option<&Entry>) -> bool
     }
 }
 
-// Whether a version is greater than the one asked with, or none was.
+// Returns whether a version is greater than the one in the digest, or there is none.
 fn is_newer(version: Version, asked: Option<Version>) -> bool
     ensures newer { result ≡ is_newer version asked }
 {
@@ -102,7 +102,7 @@ fn is_newer(version: Version, asked: Option<Version>) -> bool
     }
 }
 
-// What is newer at these places: for each place a search, and at most one shift of what was found.
+// Returns what is newer at these places. Each place costs a search, and at most one shift of what was found so far.
 pub fn newer_at(
     alloc: Global,
     store: &Store,
@@ -118,7 +118,7 @@ pub fn newer_at(
     Ok(newer)
 }
 
-// Joins what is newer at a place.
+// Joins what is newer at one place.
 fn join_newer(
     newer: &mut Store,
     store: &Store,

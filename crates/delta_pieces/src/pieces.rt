@@ -14,7 +14,7 @@ use replica_store::Store;
 use std::alloc::{AllocError, Global};
 use std::marker::Model;
 
-/// Entries by place, to be sent and taken. Removals are among them.
+/// Entries by place, removals included, that are sent to a replica and taken by it.
 #[derive(Debug, Drop)]
 pub struct Piece {
     store: Store,
@@ -33,7 +33,7 @@ impl Model for Piece {
 }
 
 impl Piece {
-    /// The sum of some edits, as a piece. O(n log n). It fails for want of memory alone.
+    /// Returns the sum of some edits as a piece. O(n log n). Fails only if memory runs out.
     pub fn from_edits(alloc: Global, edits: &[Edit]) -> Result<Piece, AllocError>
         ensures sum { IfOk result (λ piece. piece ≡ sum_of edits.now) }
     {
@@ -42,8 +42,8 @@ impl Piece {
         })
     }
 
-    /// The sum of edits of before there were hosts, each the fleet's, as a piece. O(n log n). It fails for want of memory
-    /// alone.
+    /// Returns the sum of edits without hosts as a piece; each is an edit for the whole fleet. O(n log n). Fails only
+    /// if memory runs out.
     pub fn from_flat(alloc: Global, edits: &[FlatEdit]) -> Result<Piece, AllocError>
         ensures sum { IfOk result (λ piece. piece ≡ sum_of (map at_fleet edits.now)) }
     {
@@ -52,14 +52,14 @@ impl Piece {
         })
     }
 
-    // The piece of this store. It takes no memory.
+    // Makes a piece of this store. Allocates nothing.
     pub(crate) fn from_store(store: Store) -> Piece
         ensures store { result ≡ store }
     {
         Piece { store }
     }
 
-    // What it carries, given out.
+    // Returns the piece's store by value.
     pub(crate) fn into_store(self) -> Store
         ensures store { result ≡ self }
     {
@@ -67,30 +67,30 @@ impl Piece {
         store
     }
 
-    /// What it carries, lent.
+    /// Borrows the piece's entries as a store.
     pub fn store(&self) -> &Store
         ensures store { result.now ≡ self.now }
     {
         &self.store
     }
 
-    /// How many places it carries. O(1), without memory.
+    /// Returns the number of places. O(1). Allocates nothing.
     pub fn len(&self) -> usize
         ensures len { result ≡ length (finmap.entries self.now) }
     {
         self.store.len()
     }
 
-    /// Whether it carries nothing. O(1), without memory.
+    /// Returns whether the piece is empty. O(1). Allocates nothing.
     pub fn is_empty(&self) -> bool
         ensures empty { IsTrue result ↔ (finmap.entries self.now ≡ []) }
     {
         self.len() == 0
     }
 
-    /// Copies of what it carries at these places, which are read as a set. For each place a search,
-    /// and at most one shift of what was found before, none where the places rise. It fails for want
-    /// of memory alone.
+    /// Returns a copy of the piece's entries at these places. Duplicates and order don't matter. Each place costs a
+    /// search, and at most one shift of what was found so far; if the places are in ascending order, nothing is
+    /// shifted. Fails only if memory runs out.
     pub fn only(&self, places: &[Place]) -> Result<Piece, AllocError>
         ensures only { IfOk result (λ piece. piece ≡ only_at places.now self.now) }
     {
@@ -100,10 +100,10 @@ impl Piece {
         Ok(Piece { store })
     }
 
-    /// Its first `at` entries in place order, and the others. Where it has no more than `at`, the
-    /// second part is empty. A search for each entry; the parts share the bytes of its entries.
+    /// Splits the piece into its first `at` entries, sorted by place, and the others. The second part is empty if the
+    /// piece has no more than `at` entries. Costs a search for each entry; the parts share the bytes of the entries.
     ///
-    /// Where memory is refused, the piece comes back.
+    /// If memory runs out, the error returns the piece.
     pub fn split(self, at: usize) -> Result<(Piece, Piece), Rest<Piece>>
         ensures first { IfOk result (λ parts. finmap.entries parts.0 ≡ take at (finmap.entries self)) }
         ensures second { IfOk result (λ parts. finmap.entries parts.1 ≡ drop at (finmap.entries self)) }
@@ -111,12 +111,12 @@ impl Piece {
         ensures rest { IfErr result (λ fault. fault.rest ≡ self) }
     {
         match parts_of(&self.store, at) {
-            Ok((front, back)) => Ok((Piece::from_store(front), Piece::from_store(back))),
+            Ok((prefix, back)) => Ok((Piece::from_store(prefix), Piece::from_store(back))),
             Err(_) => Err(Rest { rest: self }),
         }
     }
 
-    /// An equal piece. Linear; it fails for want of memory alone.
+    /// Returns an equal piece. Linear. Fails only if memory runs out.
     pub fn try_clone(&self) -> Result<Piece, AllocError>
         ensures copy { IfOk result (λ copy. copy ≡ self.now) }
     {
@@ -126,13 +126,13 @@ impl Piece {
     }
 }
 
-// Copies of the first entries, and of the others.
+// Returns copies of the first `at` entries, and of the others.
 fn parts_of(store: &Store, at: usize) -> Result<(Store, Store), AllocError>
     ensures first { IfOk result (λ parts. finmap.entries parts.0 ≡ take at (finmap.entries store.now)) }
     ensures second { IfOk result (λ parts. finmap.entries parts.1 ≡ drop at (finmap.entries store.now)) }
 {
     let mut entries = store.entries();
-    let front = gather(store.allocator(), &mut entries, at)?;
+    let prefix = gather(store.allocator(), &mut entries, at)?;
     let back = gather(store.allocator(), &mut entries, store.len())?;
-    Ok((front, back))
+    Ok((prefix, back))
 }

@@ -1,4 +1,4 @@
-//! How a replica takes a piece.
+//! Taking pieces.
 ghost use Rattle.std.specs.Prelude.{◌≡◌, IfOk, OnOk, OnErr, IfErr};
 ghost use Rattle.std.specs.FinMap as finmap;
 ghost use Rattle.edit_sums.specs.Sums.{changed_places, join, IsStoreBelow};
@@ -7,19 +7,18 @@ use crate::pieces::Piece;
 use join_law::Rest;
 use replica_store::Replica;
 
-/// Memory was refused, and the replica took part of the piece, or nothing.
+/// Memory ran out, and the replica took part of the piece or nothing.
 #[derive(Debug, Drop)]
 pub struct TakeFault {
-    /// What is left to be taken.
+    /// What is still to be taken.
     pub rest: Piece,
 }
 
-/// Joins what a piece carries, and answers how many places changed. Both are read side by side;
-/// then it costs what is news and a search for each, or one pass over both, whichever is less.
+/// Joins a piece into a replica, and returns how many places changed. Reads both side by side; joining then costs a
+/// search for each new entry, or one pass over both, whichever is less.
 ///
-/// Where memory is refused, the replica's store lies between what it was and the join, and taking
-/// the rest that comes back gives that join; where the piece has one entry, the replica is as it
-/// was.
+/// If memory runs out, the replica's store lies between its old state and the join, and taking the returned rest
+/// completes the join; if the piece has one entry, the replica is unchanged.
 pub fn take(replica: &mut Replica, piece: Piece) -> Result<u64, TakeFault>
     ensures ok { OnOk result (replica.new ≡ record replica.old { store = join replica.old.store piece }) }
     ensures changed { IfOk result (λ changed. changed ≡ changed_places replica.old.store replica.new.store) }

@@ -1,69 +1,62 @@
 -- The cuts of a prefix, one at a time, and the names with a cut prefix.
-use Rattle.std.proofs.Common.{◌≡◌, ℕ, zero, suc, ◌-◌, ◌<◌, ◌≤◌, true, false, cond, List, [], ◌∷◌, ◌++◌, length, take, drop, get_or, fold, append_assoc, is_ok, refl, ap, sym, ◌∙◌, arith}
-use Rattle.std.specs.List.{flat_map}
-use Rattle.std.proofs.lemmas.List.{take-append-drop, take_all, length-drop}
+use Rattle.std.proofs.Common.{[], ◌++◌, ◌-◌, ◌<◌, ◌∙◌, ◌∷◌, ◌≡◌, ◌≤◌, ap, append_assoc, arith, cond, drop, false, fold, get_or, is_ok, length, List, refl, suc, sym, take, true, zero, ℕ}
 use Rattle.std.proofs.lemmas.Bool.{true≢false}
-use Rattle.unit_name.specs.declared.names.NameFault.{NameFault}
-use Rattle.unit_name.specs.declared.names.NameFault.TheVariants.{Length, Kind as NoKind, EmptyPrefix, BadByte, Memory}
+use Rattle.std.proofs.lemmas.List.{length-drop, take-append-drop, take_all}
+use Rattle.std.specs.List.{flat_map}
+use Rattle.dropins.proofs.Prelude.{BadByte, EmptyPrefix, Instance, instance, is_dash, is_empty, IsFaultOf, IsName, Length, Memory, Name, name_with, NameFault, names_are_their_parts, NoKind, Plain, prefix, prefixes, prefixes_may_be_cut, Shape, shape, suffix, Template, with_name, with_prefix}
 use Rattle.std.proofs.lemmas.List.Sums.{fold-append}
-use Rattle.unit_name.specs.declared.names.Shape.{Shape}
-use Rattle.unit_name.specs.declared.names.Shape.TheVariants.{Plain, Template, Instance}
-use Rattle.unit_name.specs.Names.{Name, IsName, IsFaultOf, is_empty, prefix, instance, suffix, shape}
-use Rattle.unit_name.specs.Forms.{name_with}
-use Rattle.unit_name.specs.NameLaws.{prefixes_may_be_cut, names_are_their_parts}
-use Rattle.dropins.specs.FolderLists.{is_dash, fronts, with_name, with_prefix}
 
-fronts_at : (p : List ℕ) (n m : ℕ) → n ≡ suc m → fronts n p ≡ cond (is_dash (get_or p m 0)) (take n p ∷ fronts m p) (fronts m p)
-fronts_at p n m e = rw e refl
+prefixes_at : (p : List ℕ) (n m : ℕ) → n ≡ suc m → prefixes n p ≡ cond (is_dash (get_or p m 0)) (take n p ∷ prefixes m p) (prefixes m p)
+prefixes_at p n m e = rw e refl
 
-fronts_taken : (p : List ℕ) (e : ℕ) → 1 < e → is_dash (get_or p (e - 1 - 1) 0) ≡ true → fronts (e - 1) p ≡ take (e - 1) p ∷ fronts (e - 1 - 1) p
-fronts_taken p e h d = let q : e - 1 ≡ suc (e - 1 - 1) = omega arith in fronts_at p (e - 1) (e - 1 - 1) q ∙ ap (λ b. cond b (take (e - 1) p ∷ fronts (e - 1 - 1) p) (fronts (e - 1 - 1) p)) d
+prefixes_taken : (p : List ℕ) (e : ℕ) → 1 < e → is_dash (get_or p (e - 1 - 1) 0) ≡ true → prefixes (e - 1) p ≡ take (e - 1) p ∷ prefixes (e - 1 - 1) p
+prefixes_taken p e h d = let q : e - 1 ≡ suc (e - 1 - 1) = omega arith in prefixes_at p (e - 1) (e - 1 - 1) q ∙ ap (λ b. cond b (take (e - 1) p ∷ prefixes (e - 1 - 1) p) (prefixes (e - 1 - 1) p)) d
 
-fronts_left : (p : List ℕ) (e : ℕ) → 1 < e → is_dash (get_or p (e - 1 - 1) 0) ≡ false → fronts (e - 1) p ≡ fronts (e - 1 - 1) p
-fronts_left p e h d = let q : e - 1 ≡ suc (e - 1 - 1) = omega arith in fronts_at p (e - 1) (e - 1 - 1) q ∙ ap (λ b. cond b (take (e - 1) p ∷ fronts (e - 1 - 1) p) (fronts (e - 1 - 1) p)) d
+prefixes_left : (p : List ℕ) (e : ℕ) → 1 < e → is_dash (get_or p (e - 1 - 1) 0) ≡ false → prefixes (e - 1) p ≡ prefixes (e - 1 - 1) p
+prefixes_left p e h d = let q : e - 1 ≡ suc (e - 1 - 1) = omega arith in prefixes_at p (e - 1) (e - 1 - 1) q ∙ ap (λ b. cond b (take (e - 1) p ∷ prefixes (e - 1 - 1) p) (prefixes (e - 1 - 1) p)) d
 
--- a front that ends in a dash is added
-pub cut_taken : (W : List ℕ → List Name) (all new : List Name) (p : List ℕ) (e : ℕ) (r : List Name) → 1 < e → is_dash (get_or p (e - 1 - 1) 0) ≡ true → new ≡ fold with_name all (W (take (e - 1) p)) → fold with_name all (flat_map W (fronts (e - 1) p)) ≡ r → fold with_name new (flat_map W (fronts (e - 1 - 1) p)) ≡ r
+-- A prefix that ends in a dash is added.
+pub cut_taken : (W : List ℕ → List Name) (all new : List Name) (p : List ℕ) (e : ℕ) (r : List Name) → 1 < e → is_dash (get_or p (e - 1 - 1) 0) ≡ true → new ≡ fold with_name all (W (take (e - 1) p)) → fold with_name all (flat_map W (prefixes (e - 1) p)) ≡ r → fold with_name new (flat_map W (prefixes (e - 1 - 1) p)) ≡ r
 cut_taken W all new p e r h d n i =
-    ap (λ x. fold with_name x (flat_map W (fronts (e - 1 - 1) p))) n
-    ∙ sym (fold-append with_name all (W (take (e - 1) p)) (flat_map W (fronts (e - 1 - 1) p)))
-    ∙ sym (ap (λ x. fold with_name all (flat_map W x)) (fronts_taken p e h d))
+    ap (λ x. fold with_name x (flat_map W (prefixes (e - 1 - 1) p))) n
+    ∙ sym (fold-append with_name all (W (take (e - 1) p)) (flat_map W (prefixes (e - 1 - 1) p)))
+    ∙ sym (ap (λ x. fold with_name all (flat_map W x)) (prefixes_taken p e h d))
     ∙ i
 
--- another is passed over
-pub cut_left : (W : List ℕ → List Name) (all : List Name) (p : List ℕ) (e : ℕ) (r : List Name) → 1 < e → is_dash (get_or p (e - 1 - 1) 0) ≡ false → fold with_name all (flat_map W (fronts (e - 1) p)) ≡ r → fold with_name all (flat_map W (fronts (e - 1 - 1) p)) ≡ r
-cut_left W all p e r h d i = sym (ap (λ x. fold with_name all (flat_map W x)) (fronts_left p e h d)) ∙ i
+-- Any other prefix is skipped.
+pub cut_left : (W : List ℕ → List Name) (all : List Name) (p : List ℕ) (e : ℕ) (r : List Name) → 1 < e → is_dash (get_or p (e - 1 - 1) 0) ≡ false → fold with_name all (flat_map W (prefixes (e - 1) p)) ≡ r → fold with_name all (flat_map W (prefixes (e - 1 - 1) p)) ≡ r
+cut_left W all p e r h d i = sym (ap (λ x. fold with_name all (flat_map W x)) (prefixes_left p e h d)) ∙ i
 
 some_taken : (n : ℕ) (p : List ℕ) → 0 < n → n ≤ length p → is_empty (take n p) ≡ false
 some_taken zero p h l = absurd (omega arith)
 some_taken (suc n) [] h l = absurd (omega arith)
 some_taken (suc n) (b ∷ bs) h l = refl
 
--- a name with a front of its prefix is a name
-pub front_is_name : (n : Name) (e : ℕ) → IsName n → 0 < e → e ≤ length (prefix n) → IsName (with_prefix n (take e (prefix n)))
-front_is_name n e h low high =
+-- A name whose prefix is replaced by its first bytes is a name.
+pub prefix_is_name : (n : Name) (e : ℕ) → IsName n → 0 < e → e ≤ length (prefix n) → IsName (with_prefix n (take e (prefix n)))
+prefix_is_name n e h low high =
     (prefixes_may_be_cut n (take e (prefix n)) (drop e (prefix n)) h (sym (take-append-drop e (prefix n))) (some_taken e (prefix n) low high)).2.name
 
-drop_front : (p w : List ℕ) → drop (length p) (p ++ w) ≡ w
-drop_front [] w = refl
-drop_front (x ∷ p) w = drop_front p w
+drop_prefix : (p w : List ℕ) → drop (length p) (p ++ w) ≡ w
+drop_prefix [] w = refl
+drop_prefix (x ∷ p) w = drop_prefix p w
 
 another_prefix : (s : Shape) (p q i k : List ℕ) → q ++ drop (length p) (name_with s p i k) ≡ name_with s q i k
-another_prefix Plain p q i k = ap (λ w. q ++ w) (drop_front p (46 ∷ k))
-another_prefix Template p q i k = ap (λ w. q ++ w) (drop_front p (64 ∷ 46 ∷ k))
+another_prefix Plain p q i k = ap (λ w. q ++ w) (drop_prefix p (46 ∷ k))
+another_prefix Template p q i k = ap (λ w. q ++ w) (drop_prefix p (64 ∷ 46 ∷ k))
 another_prefix Instance p q i k =
-    ap (λ w. q ++ w) (ap (drop (length p)) (append_assoc p (64 ∷ i) (46 ∷ k)) ∙ drop_front p ((64 ∷ i) ++ 46 ∷ k)) ∙ sym (append_assoc q (64 ∷ i) (46 ∷ k))
+    ap (λ w. q ++ w) (ap (drop (length p)) (append_assoc p (64 ∷ i) (46 ∷ k)) ∙ drop_prefix p ((64 ∷ i) ++ 46 ∷ k)) ∙ sym (append_assoc q (64 ∷ i) (46 ∷ k))
 
--- another prefix before what a name has behind its own
+-- Another prefix before what follows a name's own prefix.
 pub prefix_replaced : (n : Name) (q : List ℕ) → IsName n → q ++ drop (length (prefix n)) n ≡ with_prefix n q
 prefix_replaced n q h =
     ap (λ m. q ++ drop (length (prefix n)) m) (sym (names_are_their_parts n h)) ∙ another_prefix (shape n) (prefix n) q (instance n) (suffix n)
 
--- a slice to the end
+-- A slice to the end.
 pub rest_whole : (m : ℕ) (n : List ℕ) → take (length n - m) (drop m n) ≡ drop m n
 rest_whole m n = take_all (length n - m) (drop m n) (omega (arith, length-drop m n))
 
--- what is a name has no fault but want of memory
+-- Parsing a valid name fails only if memory runs out.
 pub only_memory : (b : List ℕ) (f : NameFault) → IsName b → IsFaultOf b f → f ≡ Memory
 only_memory b Length h e = absurd (true≢false (sym h ∙ ap is_ok e))
 only_memory b NoKind h e = absurd (true≢false (sym h ∙ ap is_ok e))
@@ -71,7 +64,7 @@ only_memory b EmptyPrefix h e = absurd (true≢false (sym h ∙ ap is_ok e))
 only_memory b (BadByte at) h e = absurd (true≢false (sym h ∙ ap is_ok e))
 only_memory b Memory h e = refl
 
--- a front and the end of a name are the name with that prefix
+-- A prefix and the end of a name make the name with that prefix.
 pub cut_is : (n q text bytes joined own pre : List ℕ) → IsName n → text ≡ joined → joined ≡ bytes ++ take (length own - length pre) (drop (length pre) own) → bytes ≡ q → pre ≡ prefix n → own ≡ n → text ≡ with_prefix n q
 cut_is n q text bytes joined own pre h t j b p o =
     t ∙ j ∙ ap (λ w. bytes ++ w) (rest_whole (length pre) own)

@@ -1,7 +1,7 @@
--- The first that says something.
-use Rattle.std.proofs.Common.{◌≡◌, Bool, true, false, cond, ◌&&◌, ◌||◌, Option, Some, None, List, ◌∷◌, refl, ap, ◌∙◌}
+-- The first item that says something.
+use Rattle.std.proofs.Common.{◌&&◌, ◌||◌, ◌∙◌, ◌∷◌, ◌≡◌, ap, Bool, cond, false, List, None, Option, refl, Some, true}
 use Rattle.std.specs.Option.{option_or}
-use Rattle.list_laws.specs.FirstSaid.{first_said, or_none}
+use Rattle.dropins.proofs.Prelude.{first_said, or_none}
 
 module _ {B : Type 0} where
   or_again : (b : Bool) (a : Option B) → option_or a (cond b a None) ≡ a
@@ -10,7 +10,7 @@ module _ {B : Type 0} where
   or_again false a = or_none a
 
 module _ {A B : Type 0} where
-  -- one of a list that passes a test, and is or isn't the one that is asked for
+  -- One item of a list that passes a test, and is or isn't the one that is asked for.
   pub said_among : (g : A → Option B) (k : A) (rest : List A) (i n a : Bool) (w c : Option B) → g k ≡ cond n w None → (i ≡ true → n ≡ true → w ≡ c) → first_said g rest ≡ cond a c None → first_said g (cond i (k ∷ rest) rest) ≡ cond ((i && n) || a) c None
   said_among g k rest true true a w c says same h = ap (λ o. option_or o (first_said g rest)) (says ∙ same refl refl) ∙ ap (option_or c) h ∙ or_again a c
   said_among g k rest true false a w c says same h = ap (λ o. option_or o (first_said g rest)) says ∙ h

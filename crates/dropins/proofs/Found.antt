@@ -1,27 +1,17 @@
--- What a folder's paths say of a file name.
-use Rattle.std.proofs.Common.{◌≡◌, ℕ, Bool, true, false, cond, ◌&&◌, ◌||◌, ◌==◌, Option, Some, None, is_some, List, [], ◌∷◌, filter, map, inl, inr, IsTrue, refl, ap, sym, ◌∙◌, eq-eqb}
-use Rattle.std.specs.Option.{option_and_then, option_or}
-use Rattle.std.specs.List.{list_any}
-use Rattle.std.specs.Str.{bytes_eq}
-use Rattle.std.specs.Ordering.{eq_by_cmp, is_eq, ordering_reverse}
-use Rattle.std.specs.FinMap as finmap
-use Rattle.std.specs.FinMap.Entries.{find, is_sorted, below_all}
-use Rattle.std.specs.FinMap.{contains_key-keys}
+-- What the paths of a folder say of a file name.
+use Rattle.std.proofs.Common.{[], ◌&&◌, ◌==◌, ◌||◌, ◌∙◌, ◌∷◌, ◌≡◌, ap, Bool, cond, eq-eqb, false, filter, inl, inr, is_some, IsTrue, List, map, None, Option, refl, Some, sym, true, ℕ}
+use Rattle.std.proofs.lemmas.Bool.{and_from, and_parts, eqb-true}
 use Rattle.std.proofs.lemmas.Cmp.{tied_itself}
-use Rattle.std.proofs.lemmas.Bool.{and_parts, eqb-true, and_from}
 use Rattle.std.proofs.lemmas.Slice.Eq.{bytes_eq-Decides}
-use Rattle.load_path.specs.Paths.{PathParts, path_cmp}
-use Rattle.load_path.specs.PathLaws.{path_cmp_total, path_cmp-IsAntisymmetric}
-use Rattle.edit_sums.specs.Entries.{Entry}
-use Rattle.path_maps.specs.Views.{View, seen}
-use Rattle.list_laws.specs.Members.{IsAmong}
-use Rattle.path_maps.specs.Folders.{is_in}
-use Rattle.dropins.specs.declared.precedence.Search.{Search}
-use Rattle.list_laws.specs.FirstSaid.{first_said}
-use Rattle.list_laws.specs.Orderings.{is_equal, is_less}
-use Rattle.list_laws.specs.Truths.{from_T}
-use Rattle.dropins.specs.Walks.{path, said_for, take_at, take_of}
+use Rattle.std.specs.FinMap.{contains_key-keys}
+use Rattle.std.specs.FinMap.Entries.{below_all, find, is_sorted}
+use Rattle.std.specs.List.{list_any}
+use Rattle.std.specs.Option.{option_and_then, option_or}
+use Rattle.std.specs.Ordering.{eq_by_cmp, is_eq, ordering_reverse}
+use Rattle.std.specs.Str.{bytes_eq}
+use Rattle.dropins.proofs.Prelude.{Entry, first_said, from_T, HostViewMap, is_equal, is_in, is_less, IsAmong, path, path_cmp, path_cmp-IsAntisymmetric, path_cmp_total, PathParts, said_for, Search, take_at, take_of, view}
 use Rattle.dropins.proofs.Firsts.{said_among}
+use Rattle.std.specs.FinMap as finmap
 
 -- ---- what is seen at the path of an entry
 
@@ -39,8 +29,8 @@ own_entry (e ∷ es) s p (inl same) =
 own_entry (e ∷ es) s p (inr a) =
     ap (λ b. cond b (Some e.1) (find path_cmp p.0 es)) (below_among e.0 es (and_parts _ _ s).0 p a) ∙ own_entry es (and_parts (below_all path_cmp e.0 es) _ s).1 p a
 
-seen_entry : (v : View) (p : PathParts × Entry) → IsAmong p (finmap.entries (seen v)) → finmap.get (seen v) p.0 ≡ Some p.1
-seen_entry v p a = finmap.get-entries (seen v) p.0 ∙ own_entry (finmap.entries (seen v)) (from_T _ (finmap.entries_sorted (seen v))) p a
+viewed_entry : (v : HostViewMap) (p : PathParts × Entry) → IsAmong p (finmap.entries (view v)) → finmap.get (view v) p.0 ≡ Some p.1
+viewed_entry v p a = finmap.get-entries (view v) p.0 ∙ own_entry (finmap.entries (view v)) (from_T _ (finmap.entries_sorted (view v))) p a
 
 module _ (r : ℕ) (d f : List ℕ) where
   same_path : (k : PathParts) → is_in r d k ≡ true → bytes_eq k.name f ≡ true → k ≡ path r d f
@@ -51,7 +41,7 @@ module _ (r : ℕ) (d f : List ℕ) where
   itself_in : (is_in r d (path r d f) && bytes_eq f f) ≡ true
   itself_in = and_from _ _ (and_from _ _ (eq-eqb r r refl) ((bytes_eq-Decides d d).1 refl)) ((bytes_eq-Decides f f).1 refl)
 
-  -- a path of the folder with the file name is the one that is asked for
+  -- A path in the folder with the file name is the one that is asked for.
   tied : (k : PathParts) → eq_by_cmp path_cmp (path r d f) k ≡ (is_in r d k && bytes_eq k.name f)
   tied k = step (is_in r d k) (bytes_eq k.name f) (eq_by_cmp path_cmp (path r d f) k) refl refl refl
     where
@@ -69,7 +59,7 @@ module _ (r : ℕ) (d f : List ℕ) where
       step false n true hi hn he = sym (back he) ∙ ap (λ b. b && bytes_eq k.name f) hi
       step false n false hi hn he = refl
 
-  among : (s : View) (x : Search) (ks : List PathParts) → first_said (λ p. cond (bytes_eq p.name f) (take_at s x p) None) (filter (is_in r d) ks) ≡ cond (list_any (eq_by_cmp path_cmp (path r d f)) ks) (take_at s x (path r d f)) None
+  among : (s : HostViewMap) (x : Search) (ks : List PathParts) → first_said (λ p. cond (bytes_eq p.name f) (take_at s x p) None) (filter (is_in r d) ks) ≡ cond (list_any (eq_by_cmp path_cmp (path r d f)) ks) (take_at s x (path r d f)) None
   among s x [] = refl
   among s x (k ∷ ks) =
       said_among (λ p. cond (bytes_eq p.name f) (take_at s x p) None) k (filter (is_in r d) ks) (is_in r d k) (bytes_eq k.name f) (list_any (eq_by_cmp path_cmp (path r d f)) ks) (take_at s x k) (take_at s x (path r d f)) refl (λ i n. ap (take_at s x) (same_path k i n)) (among s x ks)
@@ -79,15 +69,15 @@ module _ (r : ℕ) (d f : List ℕ) where
   none_held x None = refl
   none_held x (Some e) = refl
 
-  -- the paths of a folder say what stands at the path of a file name there
-  folder_says : (s : View) (x : Search) → first_said (λ p. cond (bytes_eq p.name f) (take_at s x p) None) (filter (is_in r d) (finmap.keys (seen s))) ≡ take_at s x (path r d f)
+  -- The paths of a folder say what the path of the file name in it says.
+  folder_says : (s : HostViewMap) (x : Search) → first_said (λ p. cond (bytes_eq p.name f) (take_at s x p) None) (filter (is_in r d) (finmap.keys (view s))) ≡ take_at s x (path r d f)
   folder_says s x =
-      among s x (finmap.keys (seen s))
-      ∙ ap (λ b. cond b (take_at s x (path r d f)) None) (sym (contains_key-keys (seen s) (path r d f)))
-      ∙ none_held x (finmap.get (seen s) (path r d f))
+      among s x (finmap.keys (view s))
+      ∙ ap (λ b. cond b (take_at s x (path r d f)) None) (sym (contains_key-keys (view s) (path r d f)))
+      ∙ none_held x (finmap.get (view s) (path r d f))
 
-  -- entries of what is seen say what stands at their paths
-  entries_say : (s : View) (x : Search) (es : List (PathParts × Entry)) → ((p : PathParts × Entry) → IsAmong p es → finmap.get (seen s) p.0 ≡ Some p.1)
+  -- Seen entries say what their paths say.
+  entries_say : (s : HostViewMap) (x : Search) (es : List (PathParts × Entry)) → ((p : PathParts × Entry) → IsAmong p es → finmap.get (view s) p.0 ≡ Some p.1)
       → first_said (said_for x f) (filter (λ p. is_in r d p.0) es) ≡ first_said (λ p. cond (bytes_eq p.name f) (take_at s x p) None) (filter (is_in r d) (map (λ p. p.0) es))
   entries_say s x [] held = refl
   entries_say s x (p ∷ es) held =
@@ -98,5 +88,5 @@ module _ (r : ℕ) (d f : List ℕ) where
         | false ↦ rest
       ]
 
-  pub folder_entries_say : (s : View) (x : Search) → first_said (said_for x f) (filter (λ p. is_in r d p.0) (finmap.entries (seen s))) ≡ take_at s x (path r d f)
-  folder_entries_say s x = entries_say s x (finmap.entries (seen s)) (seen_entry s) ∙ folder_says s x
+  pub folder_entries_say : (s : HostViewMap) (x : Search) → first_said (said_for x f) (filter (λ p. is_in r d p.0) (finmap.entries (view s))) ≡ take_at s x (path r d f)
+  folder_entries_say s x = entries_say s x (finmap.entries (view s)) (viewed_entry s) ∙ folder_says s x

@@ -1,21 +1,18 @@
 -- Kinds in a list are found by their words, and the types of names are listed one at a time.
-use Rattle.std.proofs.Common.{◌≡◌, ℕ, ◌+◌, ◌<◌, Bool, true, false, ◌||◌, cond, List, [], ◌∷◌, ◌++◌, length, get_or, map, take, refl, ap, sym, ◌∙◌, Some}
-use Rattle.std.specs.List.{list_any}
-use Rattle.std.specs.Str.{bytes_eq}
+use Rattle.std.proofs.Common.{[], ◌++◌, ◌+◌, ◌<◌, ◌||◌, ◌∙◌, ◌∷◌, ◌≡◌, ap, Bool, cond, false, get_or, length, List, map, refl, Some, sym, take, true, ℕ}
 use Rattle.std.proofs.lemmas.Bool.{true≢false}
 use Rattle.std.proofs.lemmas.Grind.{fold-append}
 use Rattle.std.proofs.lemmas.List.{map-append, take_more}
 use Rattle.std.proofs.lemmas.Option.{same_Some}
 use Rattle.std.proofs.lemmas.Slice.Eq.{bytes_eq-Decides}
-use Rattle.unit_name.specs.declared.kinds.Kind.{Kind}
+use Rattle.std.specs.List.{list_any}
+use Rattle.std.specs.Str.{bytes_eq}
+use denote.Enum.Bare.{same_false, same_true}
+use Rattle.dropins.proofs.Prelude.{firsts, is_among, Kind, kind, kind_of, kind_of-word, Name, suffix, suffix_is_word, types_of, with_name, word}
 use Rattle.unit_name.specs.contracts.kinds.Kind.{the_type}
 use Rattle.unit_name.specs.contracts.kinds.KindPartialEq.TheImpl.{eq-value}
-use Rattle.unit_name.specs.Names.{Name, kind, kind_of, suffix, word}
-use Rattle.unit_name.specs.NameLaws.{kind_of-word, suffix_is_word}
-use Rattle.dropins.specs.FolderLists.{firsts, is_among, types_of, with_name}
-use denote.Enum.Bare.{same_true, same_false}
 
--- each kind has its own word
+-- Each kind has its own word.
 same_kind : (j k : Kind) → word j ≡ word k → j ≡ k
 same_kind j k e = same_Some _ _ (sym (kind_of-word j) ∙ ap kind_of e ∙ kind_of-word k)
 
@@ -28,19 +25,19 @@ same_word j k = by (eq-value.it j k) refl (bytes_eq (word k) (word j)) refl
     by true e false f = absurd (true≢false (sym ((bytes_eq-Decides (word k) (word j)).1 (ap word (sym (same_true the_type tt j k e)))) ∙ f))
     by false e true f = absurd (same_false the_type j k e (sym (same_kind k j ((bytes_eq-Decides (word k) (word j)).0 f))))
 
--- a kind is in a list just where its word is among theirs
+-- A kind is in a list exactly if its word is among the words of the list.
 pub among_words : (k : Kind) (ks : List Kind) → list_any (λ j. eq-value.it j k) ks ≡ is_among (word k) (map word ks)
 among_words k [] = refl
 among_words k (j ∷ ks) = ap (λ b. b || list_any (λ i. eq-value.it i k) ks) (same_word j k) ∙ ap (λ b. bytes_eq (word k) (word j) || b) (among_words k ks)
 
--- the types with one more name
+-- The types with one more name.
 types_more : (ns : List Name) (i : ℕ) (n : Name) → i < length ns → n ≡ get_or ns i n → types_of (take (i + 1) ns) ≡ with_name (types_of (take i ns)) (suffix n)
 types_more ns i n l e =
     ap types_of (take_more ns i n l ∙ ap (λ m. take i ns ++ m ∷ []) (sym e))
     ∙ ap firsts (map-append suffix (take i ns) (n ∷ []))
     ∙ fold-append with_name [] (map suffix (take i ns)) (suffix n ∷ [])
 
--- a kind that is listed adds nothing, and another comes last
+-- A kind that is already listed adds nothing, and a new one is added at the end.
 module _ (ns : List Name) (i : ℕ) (n : Name) (k : Kind) (within : i < length ns) (there : n ≡ get_or ns i n) (kind_is : kind n ≡ Some k) (ks : List Kind) (listed : map word ks ≡ types_of (take i ns)) where
   by_word : (b : Bool) → is_among (word k) (map word ks) ≡ b → types_of (take (i + 1) ns) ≡ cond b (map word ks) (map word ks ++ word k ∷ [])
   by_word b e =

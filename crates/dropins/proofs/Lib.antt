@@ -1,8 +1,9 @@
+pub mod Prelude
 pub mod Cuts
 pub mod Firsts
 pub mod Found
 pub mod KindWords
 pub mod Listed
 pub mod Placed
-pub mod Rises
+pub mod Ascends
 pub mod Lends

@@ -1,11 +1,10 @@
--- One more name of a list, and of the set beside it.
-use Rattle.std.proofs.Common.{◌≡◌, Bool, true, false, cond, ◌||◌, List, [], ◌∷◌, ◌++◌, refl, ap, sym, ◌∙◌}
-use Rattle.std.specs.Ordering.{is_eq}
-use Rattle.std.specs.Str.{bytes_eq}
+-- One more name in a list, and in the set with the same names.
+use Rattle.std.proofs.Common.{[], ◌++◌, ◌||◌, ◌∙◌, ◌∷◌, ◌≡◌, ap, Bool, cond, false, List, refl, sym, true}
 use Rattle.std.proofs.lemmas.Map.Text.{is_eq-slice_cmp}
 use Rattle.std.proofs.lemmas.Slice.Eq.{bytes_eq-Decides}
-use Rattle.unit_name.specs.Names.{Name, name_cmp}
-use Rattle.dropins.specs.FolderLists.{is_among}
+use Rattle.std.specs.Ordering.{is_eq}
+use Rattle.std.specs.Str.{bytes_eq}
+use Rattle.dropins.proofs.Prelude.{is_among, Name, name_cmp}
 
 either_way : (x y : Name) → bytes_eq x y ≡ bytes_eq y x
 either_way x y = by (bytes_eq x y) (bytes_eq y x) refl refl
@@ -30,7 +29,7 @@ among_push q x [] = ap (λ b. b || false) (either_way q x) ∙ by (bytes_eq x q)
     by false = refl
 among_push q x (n ∷ names) = ap (λ b. bytes_eq q n || b) (among_push q x names) ∙ or_later (bytes_eq q n) (bytes_eq x q) (is_among q names)
 
--- what a set has with one more name, the list beside it has with this name at its end
+-- If a set gains a name, the list with the same names gains it at its end.
 pub one_more : (k x q : Name) (names new : List Name) (o : Bool) → k ≡ x → o ≡ is_among q names → new ≡ names ++ x ∷ [] → cond (is_eq (name_cmp k q)) true o ≡ is_among q new
 one_more k x q names new o same kept pushed =
     ap (λ y. cond (is_eq (name_cmp y q)) true o) same

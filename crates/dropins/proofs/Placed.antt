@@ -1,31 +1,28 @@
--- What is found is put behind what was found, and of each file name the first is taken.
-use Rattle.std.proofs.Common.{◌≡◌, ℕ, Bool, true, false, cond, Option, Some, None, List, [], ◌∷◌, ◌++◌, reverse, refl, ap, sym, ◌∙◌}
-use Rattle.std.specs.Option.{option_or}
-use Rattle.std.specs.Str.{bytes_eq}
-use Rattle.std.specs.Ordering.{eq_by_cmp}
-use Rattle.std.specs.Map.{update_all}
+-- What is found is added after what was found before, and for each file name the first is taken.
+use Rattle.std.proofs.Common.{[], ◌++◌, ◌∙◌, ◌∷◌, ◌≡◌, ap, Bool, cond, false, List, None, Option, refl, reverse, Some, sym, true, ℕ}
 use Rattle.std.proofs.lemmas.List.{reverse-append}
 use Rattle.std.proofs.lemmas.Map.{update_all_push}
 use Rattle.std.proofs.lemmas.Map.Text.{is_eq-slice_cmp}
-use Rattle.unit_name.specs.Names.{name_cmp}
-use Rattle.dropins.specs.declared.precedence.Take.{Take}
-use Rattle.dropins.specs.Walks.{first_for}
-use Rattle.list_laws.specs.FirstSaid.{or_assoc, or_none}
+use Rattle.std.specs.Map.{update_all}
+use Rattle.std.specs.Option.{option_or}
+use Rattle.std.specs.Ordering.{eq_by_cmp}
+use Rattle.std.specs.Str.{bytes_eq}
+use Rattle.dropins.proofs.Prelude.{first_for, name_cmp, or_assoc, or_none, Take}
 
--- what a candidate gives for a file name
+-- What a candidate gives for a file name.
 abbrev gives : List ℕ → List ℕ × Take → Option Take
 gives f c = cond (bytes_eq c.0 f) (Some c.1) None
 
-behind : (cs : List (List ℕ × Take)) (c : List ℕ × Take) (f : List ℕ) → first_for (cs ++ c ∷ []) f ≡ option_or (first_for cs f) (gives f c)
-behind [] c f = or_none (gives f c)
-behind (d ∷ ds) c f = ap (option_or (gives f d)) (behind ds c f) ∙ sym (or_assoc (gives f d) (first_for ds f) (gives f c))
+after : (cs : List (List ℕ × Take)) (c : List ℕ × Take) (f : List ℕ) → first_for (cs ++ c ∷ []) f ≡ option_or (first_for cs f) (gives f c)
+after [] c f = or_none (gives f c)
+after (d ∷ ds) c f = ap (option_or (gives f d)) (after ds c f) ∙ sym (or_assoc (gives f d) (first_for ds f) (gives f c))
 
--- one more candidate is behind those before it
+-- One more candidate comes after those before it.
 pub placed : (cs : List (List ℕ × Take)) (k f : List ℕ) (v : Take) (w : Option Take) → w ≡ Some v
     → first_for (cs ++ (k, v) ∷ []) f ≡ option_or (first_for cs f) (cond (bytes_eq k f) w None)
-placed cs k f v w e = behind cs (k, v) f ∙ ap (λ o. option_or (first_for cs f) (cond (bytes_eq k f) o None)) (sym e)
+placed cs k f v w e = after cs (k, v) f ∙ ap (λ o. option_or (first_for cs f) (cond (bytes_eq k f) o None)) (sym e)
 
--- what says nothing changes nothing
+-- What says nothing changes nothing.
 pub nothing_said : (o : Option Take) (b : Bool) (w : Option Take) → w ≡ None → o ≡ option_or o (cond b w None)
 nothing_said o true w e = sym (or_none o) ∙ ap (option_or o) (sym e)
 nothing_said o false w e = sym (or_none o)
@@ -34,7 +31,7 @@ same_or : (b : Bool) (v : Take) (rest : Option Take) → cond b (Some v) rest �
 same_or true v rest = refl
 same_or false v rest = refl
 
--- candidates put into a map from behind: of each file name the first stays
+-- If candidates are put into a map from last to first, the first of each file name stays.
 pub firsts_stay : (cs : List (List ℕ × Take)) (f : List ℕ) → update_all (eq_by_cmp name_cmp) (λ _. None) (reverse cs) f ≡ first_for cs f
 firsts_stay [] f = refl
 firsts_stay (c ∷ cs) f =

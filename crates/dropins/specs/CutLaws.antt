@@ -1,16 +1,15 @@
 -- Laws of cuts: they are the proper fronts of a prefix that end in a dash, the longer ones first.
-use Rattle.std.proofs.Common.{◌≡◌, ℕ, zero, suc, ◌+◌, ◌-◌, ◌<◌, ◌≤◌, Bool, true, false, cond, List, [], ◌∷◌, ◌++◌, length, take, drop, get_or, refl, ap, sym, ◌∙◌, subst, inl, inr, arith, length-append, add-one}
-use Rattle.std.specs.Prelude.{◌↔◌, ◌⊎◌}
-use Rattle.std.specs.List.{All, AllPairs, Contains}
+use Rattle.std.proofs.Common.{[], ◌++◌, ◌+◌, ◌-◌, ◌<◌, ◌↔◌, ◌∙◌, ◌∷◌, ◌≡◌, ◌≤◌, ◌⊎◌, add-one, All, ap, arith, Bool, cond, drop, false, get_or, inl, inr, length, length-append, List, refl, subst, suc, sym, take, true, zero, ℕ}
 use Rattle.std.proofs.lemmas.Bool.{cases_lt, eqb-true}
-use Rattle.std.proofs.lemmas.List.{length-take-le, take-append-drop, take_more, drop_more}
-use Rattle.std.proofs.lemmas.List.Elements.{All-nil, All-cons, All-weaker}
+use Rattle.std.proofs.lemmas.List.{drop_more, length-take-le, take-append-drop, take_more}
+use Rattle.std.proofs.lemmas.List.Elements.{All-cons, All-nil, All-weaker}
 use Rattle.std.proofs.lemmas.List.Kept.{AllPairs-cons}
-use Rattle.list_laws.specs.Members.{IsAmong, among_from_contains, contains_from_among}
-use Rattle.dropins.specs.FolderLists.{is_dash, fronts, cuts}
+use Rattle.std.specs.List.{AllPairs, Contains}
+use Rattle.dropins.specs.Prelude.{among_from_contains, contains_from_among, IsAmong}
+use Rattle.dropins.specs.FolderLists.{cuts, is_dash, prefixes}
 
 -- c is a proper front of p, and ends in a dash
-pub record IsDashedFront (p c : List ℕ) : Type 0 where
+pub record IsDashedPrefix (p c : List ℕ) : Type 0 where
   pub start : List ℕ
   pub next : ℕ
   pub rest : List ℕ
@@ -18,8 +17,8 @@ pub record IsDashedFront (p c : List ℕ) : Type 0 where
   pub proper : p ≡ c ++ next ∷ rest
 
 -- the cuts of a prefix are its proper fronts that end in a dash
-abbrev pub CutsAreDashedFronts : Type 0
-CutsAreDashedFronts = (p c : List ℕ) → Contains (cuts p) c ↔ IsDashedFront p c
+abbrev pub CutsAreDashedPrefixes : Type 0
+CutsAreDashedPrefixes = (p c : List ℕ) → Contains (cuts p) c ↔ IsDashedPrefix p c
 
 -- a longer cut comes before a shorter one
 abbrev pub LongerCutsComeFirst : Type 0
@@ -34,18 +33,18 @@ record IsCutAt (n : ℕ) (p c : List ℕ) : Type 0 where
   dash : is_dash (get_or p place 0) ≡ true
   cut : c ≡ take (suc place) p
 
-cut_at : (n : ℕ) (p c : List ℕ) → IsAmong c (fronts n p) → IsCutAt n p c
+cut_at : (n : ℕ) (p c : List ℕ) → IsAmong c (prefixes n p) → IsCutAt n p c
 cut_at zero p c h = absurd h
 cut_at (suc n) p c h = by (is_dash (get_or p n 0)) refl h (cut_at n p c)
   where
     later : IsCutAt n p c → IsCutAt (suc n) p c
     later k = record { place = k.place; within = omega (arith, k.within); dash = k.dash; cut = k.cut }
 
-    pick : is_dash (get_or p n 0) ≡ true → (take (suc n) p ≡ c) ⊎ IsAmong c (fronts n p) → (IsAmong c (fronts n p) → IsCutAt n p c) → IsCutAt (suc n) p c
+    pick : is_dash (get_or p n 0) ≡ true → (take (suc n) p ≡ c) ⊎ IsAmong c (prefixes n p) → (IsAmong c (prefixes n p) → IsCutAt n p c) → IsCutAt (suc n) p c
     pick d (inl e) more = record { place = n; within = omega arith; dash = d; cut = sym e }
     pick d (inr k) more = later (more k)
 
-    by : (b : Bool) → is_dash (get_or p n 0) ≡ b → IsAmong c (cond b (take (suc n) p ∷ fronts n p) (fronts n p)) → (IsAmong c (fronts n p) → IsCutAt n p c) → IsCutAt (suc n) p c
+    by : (b : Bool) → is_dash (get_or p n 0) ≡ b → IsAmong c (cond b (take (suc n) p ∷ prefixes n p) (prefixes n p)) → (IsAmong c (prefixes n p) → IsCutAt n p c) → IsCutAt (suc n) p c
     by true d k more = pick d k more
     by false d k more = later (more k)
 
@@ -55,8 +54,8 @@ take_next p i h = ap (λ j. take j p) (sym (add-one i)) ∙ take_more p i 0 h
 drop_next : (p : List ℕ) (i : ℕ) → i < length p → drop i p ≡ get_or p i 0 ∷ drop (suc i) p
 drop_next p i h = drop_more p i 0 h ∙ ap (λ j. get_or p i 0 ∷ drop j p) (add-one i)
 
-front_from_cut : (p c : List ℕ) → IsCutAt (length p - 1) p c → IsDashedFront p c
-front_from_cut p c k = record {
+prefix_from_cut : (p c : List ℕ) → IsCutAt (length p - 1) p c → IsDashedPrefix p c
+prefix_from_cut p c k = record {
   start = take k.place p;
   next = get_or p (suc k.place) 0;
   rest = drop (suc (suc k.place)) p;
@@ -64,66 +63,70 @@ front_from_cut p c k = record {
   proper = sym (take-append-drop (suc k.place) p) ∙ ap (λ w. take (suc k.place) p ++ w) (drop_next p (suc k.place) (omega (arith, k.within))) ∙ ap (λ w. w ++ get_or p (suc k.place) 0 ∷ drop (suc (suc k.place)) p) (sym k.cut);
 }
 
+-- what is cut behind a dash, where a byte follows, is such a front
+pub dashed_prefix_at : (p : List ℕ) (k : ℕ) → suc k < length p → is_dash (get_or p k 0) ≡ true → IsDashedPrefix p (take (suc k) p)
+dashed_prefix_at p k l dash = prefix_from_cut p (take (suc k) p) (record { place = k; within = omega (arith, l); dash = dash; cut = refl })
+
 -- ---- each such front is there
 
-front_there : (n m : ℕ) (p : List ℕ) → m < n → is_dash (get_or p m 0) ≡ true → IsAmong (take (suc m) p) (fronts n p)
-front_there zero m p h d = absurd (omega arith)
-front_there (suc n) m p h d = by (cases_lt m n) (λ l. front_there n m p l d)
+prefix_there : (n m : ℕ) (p : List ℕ) → m < n → is_dash (get_or p m 0) ≡ true → IsAmong (take (suc m) p) (prefixes n p)
+prefix_there zero m p h d = absurd (omega arith)
+prefix_there (suc n) m p h d = by (cases_lt m n) (λ l. prefix_there n m p l d)
   where
-    behind : (b : Bool) → IsAmong (take (suc m) p) (fronts n p) → IsAmong (take (suc m) p) (cond b (take (suc n) p ∷ fronts n p) (fronts n p))
-    behind true k = inr k
-    behind false k = k
+    after : (b : Bool) → IsAmong (take (suc m) p) (prefixes n p) → IsAmong (take (suc m) p) (cond b (take (suc n) p ∷ prefixes n p) (prefixes n p))
+    after true k = inr k
+    after false k = k
 
-    first : (b : Bool) → b ≡ true → take (suc n) p ≡ take (suc m) p → IsAmong (take (suc m) p) (cond b (take (suc n) p ∷ fronts n p) (fronts n p))
+    first : (b : Bool) → b ≡ true → take (suc n) p ≡ take (suc m) p → IsAmong (take (suc m) p) (cond b (take (suc n) p ∷ prefixes n p) (prefixes n p))
     first true t e = inl e
     first false t e = cc (t)
 
-    by : (m < n) ⊎ (n ≤ m) → (m < n → IsAmong (take (suc m) p) (fronts n p)) → IsAmong (take (suc m) p) (fronts (suc n) p)
-    by (inl l) more = behind (is_dash (get_or p n 0)) (more l)
+    by : (m < n) ⊎ (n ≤ m) → (m < n → IsAmong (take (suc m) p) (prefixes n p)) → IsAmong (take (suc m) p) (prefixes (suc n) p)
+    by (inl l) more = after (is_dash (get_or p n 0)) (more l)
     by (inr l) more = let e : m ≡ n = omega arith in first (is_dash (get_or p n 0)) (ap (λ j. is_dash (get_or p j 0)) (sym e) ∙ d) (ap (λ j. take (suc j) p) (sym e))
 
-take_front : (c w : List ℕ) → take (length c) (c ++ w) ≡ c
-take_front [] w = refl
-take_front (x ∷ c) w = ap (λ v. x ∷ v) (take_front c w)
+take_prefix : (c w : List ℕ) → take (length c) (c ++ w) ≡ c
+take_prefix [] w = refl
+take_prefix (x ∷ c) w = ap (λ v. x ∷ v) (take_prefix c w)
 
 at_end : (start w : List ℕ) (b : ℕ) → get_or ((start ++ b ∷ []) ++ w) (length start) 0 ≡ b
 at_end [] w b = refl
 at_end (x ∷ start) w b = at_end start w b
 
-cut_from_front : (p c : List ℕ) → IsDashedFront p c → IsAmong c (cuts p)
-cut_from_front p c f =
+cut_from_prefix : (p c : List ℕ) → IsDashedPrefix p c → IsAmong c (cuts p)
+cut_from_prefix p c f =
     let long : length p ≡ length c + suc (length f.rest) = ap length f.proper ∙ length-append c (f.next ∷ f.rest) in
     let size : length c ≡ length f.start + 1 = ap length f.ends_in_dash ∙ length-append f.start (45 ∷ []) in
     let whole : p ≡ (f.start ++ 45 ∷ []) ++ f.next ∷ f.rest = f.proper ∙ ap (λ x. x ++ f.next ∷ f.rest) f.ends_in_dash in
     let dash : is_dash (get_or p (length f.start) 0) ≡ true = ap (λ x. is_dash (get_or x (length f.start) 0)) whole ∙ ap is_dash (at_end f.start (f.next ∷ f.rest) 45) in
     let same : suc (length f.start) ≡ length c = omega (arith, size) in
-    let taken : take (suc (length f.start)) p ≡ c = ap (λ j. take j p) same ∙ ap (take (length c)) f.proper ∙ take_front c (f.next ∷ f.rest) in
-    subst (λ x. IsAmong x (cuts p)) taken (front_there (length p - 1) (length f.start) p (omega (arith, long, size)) dash)
+    let taken : take (suc (length f.start)) p ≡ c = ap (λ j. take j p) same ∙ ap (take (length c)) f.proper ∙ take_prefix c (f.next ∷ f.rest) in
+    subst (λ x. IsAmong x (cuts p)) taken (prefix_there (length p - 1) (length f.start) p (omega (arith, long, size)) dash)
 
-pub cuts_are_dashed_fronts : CutsAreDashedFronts
-cuts_are_dashed_fronts p c =
-    (λ h. front_from_cut p c (cut_at (length p - 1) p c (among_from_contains c (cuts p) h)), λ f. contains_from_among c (cuts p) (cut_from_front p c f))
+pub cuts_are_dashed_prefixes : CutsAreDashedPrefixes
+cuts_are_dashed_prefixes p c =
+    (λ h. prefix_from_cut p c (cut_at (length p - 1) p c (among_from_contains c (cuts p) h)), λ f. contains_from_among c (cuts p) (cut_from_prefix p c f))
 
 -- ---- longer ones come first
 
-fronts_short : (n : ℕ) (p : List ℕ) → n ≤ length p → All (λ d. length d < suc n) (fronts n p)
-fronts_short zero p h = All-nil (λ d. length d < 1)
-fronts_short (suc n) p h = by (is_dash (get_or p n 0)) (All-weaker (λ d. length d < suc n) (λ d. length d < suc (suc n)) (λ d l. omega arith) (fronts n p) (fronts_short n p (omega arith)))
+prefixes_short : (n : ℕ) (p : List ℕ) → n ≤ length p → All (λ d. length d < suc n) (prefixes n p)
+prefixes_short zero p h = All-nil (λ d. length d < 1)
+prefixes_short (suc n) p h = by (is_dash (get_or p n 0)) (All-weaker (λ d. length d < suc n) (λ d. length d < suc (suc n)) (λ d l. omega arith) (prefixes n p) (prefixes_short n p (omega arith)))
   where
-    by : (b : Bool) → All (λ d. length d < suc (suc n)) (fronts n p) → All (λ d. length d < suc (suc n)) (cond b (take (suc n) p ∷ fronts n p) (fronts n p))
-    by true a = All-cons (λ d. length d < suc (suc n)) (take (suc n) p) (fronts n p) (let e = length-take-le (suc n) p h in omega (arith, e)) a
+    by : (b : Bool) → All (λ d. length d < suc (suc n)) (prefixes n p) → All (λ d. length d < suc (suc n)) (cond b (take (suc n) p ∷ prefixes n p) (prefixes n p))
+    by true a = All-cons (λ d. length d < suc (suc n)) (take (suc n) p) (prefixes n p) (let e = length-take-le (suc n) p h in omega (arith, e)) a
     by false a = a
 
-fronts_fall : (n : ℕ) (p : List ℕ) → n ≤ length p → AllPairs (λ c d. length d < length c) (fronts n p)
-fronts_fall zero p h = λ i j d l w. absurd (omega arith)
-fronts_fall (suc n) p h = by (is_dash (get_or p n 0)) (fronts_fall n p (omega arith))
+prefixes_shorten : (n : ℕ) (p : List ℕ) → n ≤ length p → AllPairs (λ c d. length d < length c) (prefixes n p)
+prefixes_shorten zero p h = λ i j d l w. absurd (omega arith)
+prefixes_shorten (suc n) p h = by (is_dash (get_or p n 0)) (prefixes_shorten n p (omega arith))
   where
-    below : All (λ d. length d < length (take (suc n) p)) (fronts n p)
-    below = All-weaker (λ d. length d < suc n) (λ d. length d < length (take (suc n) p)) (λ d l. let e = length-take-le (suc n) p h in omega (arith, e, l)) (fronts n p) (fronts_short n p (omega arith))
+    below : All (λ d. length d < length (take (suc n) p)) (prefixes n p)
+    below = All-weaker (λ d. length d < suc n) (λ d. length d < length (take (suc n) p)) (λ d l. let e = length-take-le (suc n) p h in omega (arith, e, l)) (prefixes n p) (prefixes_short n p (omega arith))
 
-    by : (b : Bool) → AllPairs (λ c d. length d < length c) (fronts n p) → AllPairs (λ c d. length d < length c) (cond b (take (suc n) p ∷ fronts n p) (fronts n p))
-    by true a = AllPairs-cons (λ c d. length d < length c) (take (suc n) p) (fronts n p) below a
+    by : (b : Bool) → AllPairs (λ c d. length d < length c) (prefixes n p) → AllPairs (λ c d. length d < length c) (cond b (take (suc n) p ∷ prefixes n p) (prefixes n p))
+    by true a = AllPairs-cons (λ c d. length d < length c) (take (suc n) p) (prefixes n p) below a
     by false a = a
 
 pub longer_cuts_come_first : LongerCutsComeFirst
-longer_cuts_come_first p = fronts_fall (length p - 1) p (omega arith)
+longer_cuts_come_first p = prefixes_shorten (length p - 1) p (omega arith)

@@ -1,36 +1,33 @@
--- Laws of the folders of several names: they are those of each, name by name.
-use Rattle.std.proofs.Common.{◌≡◌, Bool, true, false, cond, ◌||◌, not, List, [], ◌∷◌, ◌++◌, filter, fold, refl, ap, sym, ◌∙◌, subst, inl, inr, append_assoc, append-nil}
-use Rattle.std.specs.Prelude.{◌↔◌, ◌⊎◌}
-use Rattle.std.specs.List.{Contains, flat_map}
-use Rattle.std.specs.Str.{bytes_eq}
+-- Laws of the folders of several names: they are the folders of each, name by name.
+use Rattle.std.proofs.Common.{[], ◌++◌, ◌||◌, ◌↔◌, ◌∙◌, ◌∷◌, ◌≡◌, ◌⊎◌, ap, append-nil, append_assoc, Bool, cond, false, filter, fold, inl, inr, List, not, refl, subst, sym, true}
 use Rattle.std.proofs.lemmas.Bool.{true≢false}
+use Rattle.std.proofs.lemmas.Grind.{flat_map-append, fold-append}
 use Rattle.std.proofs.lemmas.List.Elements.{filter_agree}
 use Rattle.std.proofs.lemmas.List.Folds.{list_any-append}
-use Rattle.std.proofs.lemmas.Grind.{flat_map-append, fold-append}
 use Rattle.std.proofs.lemmas.Slice.Eq.{bytes_eq-Decides}
-use Rattle.list_laws.specs.Filters.{filter_twice}
-use Rattle.list_laws.specs.Members.{IsAmong, among_from_contains, contains_from_among, IsAmong-append_cases, IsAmong-append_left, IsAmong-append_right}
-use Rattle.unit_name.specs.Names.{Name}
-use Rattle.dropins.specs.FolderLists.{folders_of, is_among, with_name, firsts, folders}
+use Rattle.std.specs.List.{Contains, flat_map}
+use Rattle.std.specs.Str.{bytes_eq}
+use Rattle.dropins.specs.Prelude.{among_from_contains, contains_from_among, filter_twice, IsAmong, IsAmong-append_cases, IsAmong-append_left, IsAmong-append_right, Name}
+use Rattle.dropins.specs.FolderLists.{firsts, folders, folders_of, is_among, with_name}
 
--- of some folders those that aren't among others
+-- The folders of `fs` that aren't among the others.
 abbrev pub not_among : List Name → List Name → List Name
 not_among others fs = filter (λ f. not (is_among f others)) fs
 
--- A folder is in the list of some names just where it is in the list of one of them.
+-- A folder is in the list of several names exactly if it is in the list of one of them.
 abbrev pub FoldersOfEach : Type 0
 FoldersOfEach = (ns : List Name) (f : Name) → Contains (folders ns) f ↔ ((n : Name) × (Contains ns n × Contains (folders (n ∷ [])) f))
 
--- The list of two lists of names in a row is that of the first, then what is new in that of the second.
+-- The folder list of two concatenated lists of names is that of the first, then what is new in that of the second.
 abbrev pub FoldersJoin : Type 0
 FoldersJoin = (ns ms : List Name) → folders (ns ++ ms) ≡ folders ns ++ not_among (folders ns) (folders ms)
 
--- ---- lists without repetitions in a row
+-- ---- concatenated lists without repetitions
 
 among_same : (x y : Name) (ns : List Name) → bytes_eq y x ≡ true → is_among x ns ≡ true → is_among y ns ≡ true
 among_same x y ns e h = ap (λ z. is_among z ns) ((bytes_eq-Decides y x).0 e) ∙ h
 
--- a name that is listed keeps out what it is already
+-- Filtering out a name that is already listed changes nothing.
 known : (x : Name) (ns fs : List Name) → is_among x ns ≡ true → not_among ns (not_among (x ∷ []) fs) ≡ not_among ns fs
 known x ns fs h = filter_twice (λ y. not (is_among y ns)) (λ y. not (is_among y (x ∷ []))) fs ∙ filter_agree _ _ both fs
   where
@@ -41,7 +38,7 @@ known x ns fs h = filter_twice (λ y. not (is_among y ns)) (λ y. not (is_among 
     both : (y : Name) → cond (not (is_among y (x ∷ []))) (not (is_among y ns)) false ≡ not (is_among y ns)
     both y = by y (bytes_eq y x) refl
 
--- one that is new keeps out itself
+-- A new name is filtered out from then on.
 added : (x : Name) (ns fs : List Name) → not_among ns (not_among (x ∷ []) fs) ≡ not_among (ns ++ x ∷ []) fs
 added x ns fs = filter_twice (λ y. not (is_among y ns)) (λ y. not (is_among y (x ∷ []))) fs ∙ filter_agree _ _ both fs
   where
@@ -54,7 +51,7 @@ added x ns fs = filter_twice (λ y. not (is_among y ns)) (λ y. not (is_among y 
     both : (y : Name) → cond (not (is_among y (x ∷ []))) (not (is_among y ns)) false ≡ not (is_among y (ns ++ x ∷ []))
     both y = by (is_among y ns) (is_among y (x ∷ [])) ∙ ap not (sym (list_any-append (bytes_eq y) ns (x ∷ [])))
 
--- what is listed behind some names: these, and what is new
+-- Adding names to a list gives the list, and then what is new.
 fold-with_name : (xs ns : List Name) → fold with_name ns xs ≡ ns ++ not_among ns (firsts xs)
 fold-with_name [] ns = sym (append-nil ns)
 fold-with_name (x ∷ xs) ns =
@@ -77,7 +74,7 @@ folders_join ns ms = ap firsts (flat_map-append folders_of ns ms) ∙ firsts-app
 
 -- ---- the folders of each
 
--- what is kept was there, and what was there is kept where it passes
+-- What a filter keeps was there, and what was there is kept if it passes.
 kept_was_there : (p : Name → Bool) (x : Name) (xs : List Name) → IsAmong x (filter p xs) → IsAmong x xs
 kept_was_there p x [] h = h
 kept_was_there p x (y ∷ xs) h = by (p y) h (kept_was_there p x xs)
@@ -97,7 +94,7 @@ there_is_kept p x (y ∷ xs) passes h = by (p y) refl h (there_is_kept p x xs pa
     by false e (inl k) more = absurd (true≢false (sym passes ∙ ap p (sym k) ∙ e))
     by false e (inr k) more = more k
 
--- a list has the same names, each once
+-- The list without repetitions has the same names.
 pub among_firsts : (x : Name) (xs : List Name) → IsAmong x (firsts xs) → IsAmong x xs
 among_firsts x [] h = h
 among_firsts x (y ∷ xs) h = by (subst (λ l. IsAmong x l) (firsts-append (y ∷ []) xs) h) (among_firsts x xs)
@@ -115,7 +112,7 @@ among_all x (y ∷ xs) h = subst (λ l. IsAmong x l) (sym (firsts-append (y ∷ 
     by true e (inr k) more = inl (sym ((bytes_eq-Decides x y).0 e))
     by false e (inr k) more = inr (there_is_kept (λ f. not (is_among f (y ∷ []))) x (firsts xs) (ap (λ b. not (b || false)) e) (more k))
 
--- what several names give is given by one of them
+-- What several names give is given by one of them.
 given_by_one : (f : Name) (ns : List Name) → IsAmong f (flat_map folders_of ns) → (n : Name) × (IsAmong n ns × IsAmong f (folders_of n))
 given_by_one f [] h = absurd h
 given_by_one f (n ∷ ns) h = by (IsAmong-append_cases f (folders_of n) (flat_map folders_of ns) h) (given_by_one f ns)

@@ -1,31 +1,23 @@
--- Laws of folder lists: each folder is a name and stands there once.
-use Rattle.std.proofs.Common.{◌≡◌, ◌≢◌, ℕ, zero, suc, ◌-◌, ◌<◌, Bool, true, false, cond, Option, Some, None, List, [], ◌∷◌, ◌++◌, length, take, get_or, fold, refl, ap, sym, ◌∙◌, arith}
-use Rattle.std.specs.Prelude.{slice_index}
-use Rattle.std.specs.List.{All, AllPairs, Contains, list_any, flat_map}
-use Rattle.std.specs.Str.{bytes_eq}
-use Rattle.std.proofs.lemmas.Bool.{true≢false}
-use Rattle.std.proofs.lemmas.Slice.Eq.{bytes_eq-Decides}
-use Rattle.std.proofs.lemmas.List.Elements.{All-nil, All-cons, All-append, All-push, All-head, All-tail}
+-- Laws of folder lists: each folder is a name and is listed once.
+use Rattle.std.proofs.Common.{[], ◌++◌, ◌-◌, ◌<◌, ◌∙◌, ◌∷◌, ◌≡◌, ◌≢◌, All, ap, arith, Bool, cond, false, fold, get_or, length, List, None, Option, refl, slice_index, Some, suc, sym, take, true, zero, ℕ}
+use Rattle.std.proofs.lemmas.Bool.{or_parts, true≢false}
+use Rattle.std.proofs.lemmas.List.Elements.{All-append, All-cons, All-head, All-nil, All-push, All-tail}
 use Rattle.std.proofs.lemmas.List.Quantifiers.{all_pairs_push}
-use Rattle.list_laws.specs.Members.{first_there, later_there}
-use Rattle.std.proofs.lemmas.Bool.{or_parts}
-use Rattle.unit_name.specs.declared.names.Shape.{Shape}
-use Rattle.unit_name.specs.declared.names.Shape.TheVariants.{Plain, Template, Instance}
-use Rattle.unit_name.specs.Names.{Name, IsName, is_empty, prefix, shape}
-use Rattle.unit_name.specs.Forms.{template_at, template_of}
-use Rattle.unit_name.specs.NameLaws.{prefixes_may_be_cut, templates_keep_parts}
-use Rattle.dropins.specs.FolderLists.{is_dash, fronts, cuts, is_among, with_prefix, listed, with_template, with_name, folders_of, folders}
-use Rattle.dropins.specs.CutLaws.{IsDashedFront, cuts_are_dashed_fronts}
+use Rattle.std.proofs.lemmas.Slice.Eq.{bytes_eq-Decides}
+use Rattle.std.specs.List.{AllPairs, Contains, flat_map, list_any}
+use Rattle.std.specs.Str.{bytes_eq}
+use Rattle.dropins.specs.Prelude.{first_there, Instance, is_empty, IsName, later_there, Name, Plain, prefix, prefixes_may_be_cut, Shape, shape, Template, template_at, template_of, templates_keep_parts}
+use Rattle.dropins.specs.{CutLaws.cuts_are_dashed_prefixes, CutLaws.IsDashedPrefix, FolderLists.cuts, FolderLists.folders, FolderLists.folders_of, FolderLists.is_among, FolderLists.is_dash, FolderLists.listed, FolderLists.prefixes, FolderLists.with_name, FolderLists.with_prefix, FolderLists.with_template}
 
--- a name that is no instance and has no dash in its prefix has one folder
+-- A name that is no instance and has no dash in its prefix has one folder.
 abbrev pub OneFolder : Type 0
 OneFolder = (n : Name) → shape n ≢ Instance → list_any is_dash (prefix n) ≡ false → folders (n ∷ []) ≡ n ∷ []
 
--- the folders of names are names
+-- The folders of names are names.
 abbrev pub FoldersAreNames : Type 0
 FoldersAreNames = (ns : List Name) → All IsName ns → All IsName (folders ns)
 
--- and no two of a folder list are the same
+-- No two folders of a folder list are the same.
 abbrev pub FoldersStandOnce : Type 0
 FoldersStandOnce = (ns : List Name) → AllPairs (λ x y. x ≢ y) (folders ns)
 
@@ -34,9 +26,9 @@ no_dash [] n h = refl
 no_dash (b ∷ bs) zero h = (or_parts (is_dash b) (list_any is_dash bs) h).0
 no_dash (b ∷ bs) (suc n) h = no_dash bs n (or_parts (is_dash b) (list_any is_dash bs) h).1
 
-no_fronts : (n : ℕ) (p : List ℕ) → list_any is_dash p ≡ false → fronts n p ≡ []
-no_fronts zero p h = refl
-no_fronts (suc n) p h = ap (λ b. cond b (take (suc n) p ∷ fronts n p) (fronts n p)) (no_dash p n h) ∙ no_fronts n p h
+no_prefixes : (n : ℕ) (p : List ℕ) → list_any is_dash p ≡ false → prefixes n p ≡ []
+no_prefixes zero p h = refl
+no_prefixes (suc n) p h = ap (λ b. cond b (take (suc n) p ∷ prefixes n p) (prefixes n p)) (no_dash p n h) ∙ no_prefixes n p h
 
 no_template : (s : Shape) (n : Name) → s ≢ Instance → template_at s n ≡ None
 no_template Plain n h = refl
@@ -46,7 +38,7 @@ no_template Instance n h = absurd (h refl)
 pub one_folder : OneFolder
 one_folder n s d =
     let a : folders_of n ≡ n ∷ [] =
-    ap (λ t. n ∷ listed t ++ flat_map (λ p. with_template (with_prefix n p)) (cuts (prefix n))) (no_template (shape n) n s) ∙ ap (λ ps. n ∷ flat_map (λ p. with_template (with_prefix n p)) ps) (no_fronts (length (prefix n) - 1) (prefix n) d) in
+    ap (λ t. n ∷ listed t ++ flat_map (λ p. with_template (with_prefix n p)) (cuts (prefix n))) (no_template (shape n) n s) ∙ ap (λ ps. n ∷ flat_map (λ p. with_template (with_prefix n p)) ps) (no_prefixes (length (prefix n) - 1) (prefix n) d) in
     ap (λ xs. fold with_name [] (xs ++ [])) a
 
 -- ---- names
@@ -62,11 +54,11 @@ pub ends_somewhere : (start : List ℕ) (b : ℕ) → is_empty (start ++ b ∷ [
 ends_somewhere [] b = refl
 ends_somewhere (x ∷ start) b = refl
 
--- a name with a cut of its prefix is a name
-cut_is_name : (n : Name) (c : List ℕ) → IsName n → IsDashedFront (prefix n) c → IsName (with_prefix n c)
+-- A name with a cut prefix is a name.
+cut_is_name : (n : Name) (c : List ℕ) → IsName n → IsDashedPrefix (prefix n) c → IsName (with_prefix n c)
 cut_is_name n c h f = (prefixes_may_be_cut n c (f.next ∷ f.rest) h f.proper (ap is_empty f.ends_in_dash ∙ ends_somewhere f.start 45)).2.name
 
-cuts_are_names : (n : Name) → IsName n → (cs : List (List ℕ)) → ((c : List ℕ) → Contains cs c → IsDashedFront (prefix n) c) → All IsName (flat_map (λ p. with_template (with_prefix n p)) cs)
+cuts_are_names : (n : Name) → IsName n → (cs : List (List ℕ)) → ((c : List ℕ) → Contains cs c → IsDashedPrefix (prefix n) c) → All IsName (flat_map (λ p. with_template (with_prefix n p)) cs)
 cuts_are_names n h [] each = All-nil IsName
 cuts_are_names n h (c ∷ cs) each =
     All-append IsName (with_template (with_prefix n c)) (flat_map (λ p. with_template (with_prefix n p)) cs)
@@ -75,7 +67,7 @@ cuts_are_names n h (c ∷ cs) each =
 own_are_names : (n : Name) → IsName n → All IsName (folders_of n)
 own_are_names n h =
     All-append IsName (with_template n) (flat_map (λ p. with_template (with_prefix n p)) (cuts (prefix n)))
-    (template_is_name n h) (cuts_are_names n h (cuts (prefix n)) (λ c k. (cuts_are_dashed_fronts (prefix n) c).0 k))
+    (template_is_name n h) (cuts_are_names n h (cuts (prefix n)) (λ c k. (cuts_are_dashed_prefixes (prefix n) c).0 k))
 
 all_are_names : (ns : List Name) → All IsName ns → All IsName (flat_map folders_of ns)
 all_are_names [] a = All-nil IsName

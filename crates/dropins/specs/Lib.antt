@@ -1,10 +1,12 @@
+pub mod Prelude
 pub mod CutLaws
 pub mod FleetDropIns
 pub mod FolderJoinLaws
 pub mod FolderLaws
+pub mod FolderOrderLaws
 pub mod FolderLists
 pub mod HostLaws
-pub mod LentLaws
+pub mod BorrowedLaws
 pub mod Listings
 pub mod OrderLaws
 pub mod OverLaws

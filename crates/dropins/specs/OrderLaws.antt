@@ -1,33 +1,22 @@
 -- Laws of drop-ins: their order is that of their file names, whatever the folders, and each is a file.
-use Rattle.std.proofs.Common.{◌≡◌, ℕ, Bool, true, false, cond, IsTrue, Option, Some, None, List, [], ◌∷◌, map, refl, ap, sym, ◌∙◌}
-use Rattle.std.specs.Prelude.{◌↔◌}
-use Rattle.std.specs.Option.{option_and_then}
+use Rattle.std.proofs.Common.{[], ◌↔◌, ◌∙◌, ◌∷◌, ◌≡◌, ap, Bool, cond, false, IsTrue, List, map, None, Option, refl, Some, sym, true, ℕ}
+use Rattle.std.specs.Cmp.Lexicographic.{nat_list_cmp_total}
 use Rattle.std.specs.List.{Contains}
 use Rattle.std.specs.List.Sorted.{IsStrictlySortedBy}
-use Rattle.std.specs.Cmp.Lexicographic.{nat_list_cmp_total}
-use Rattle.list_laws.specs.Members.{among_from_contains, contains_from_among}
-use Rattle.list_laws.specs.Rising.{one_rising}
-use Rattle.load_path.specs.Paths.{PathParts}
-use Rattle.load_places.specs.Places.{PlaceParts}
-use Rattle.path_maps.specs.SeenLaws.{content_seen}
-use Rattle.path_maps.specs.Views.{View, content_at, seen_at}
-use Rattle.edit_sums.specs.declared.contents.Content.{Content}
-use Rattle.edit_sums.specs.declared.contents.Content.TheVariants.{Gone, Link, File}
-use Rattle.unit_name.specs.Names.{Name, name_cmp}
-use Rattle.dropins.specs.Taken.Candidate.{Mask, At}
-use Rattle.dropins.specs.Taken.{file_name, is_conf, is_null, content_as_drop_in, IsDropInAt, IsDropInOf}
-use Rattle.dropins.specs.FolderLists.{folders}
+use Rattle.std.specs.Option.{option_and_then}
+use Rattle.dropins.specs.Prelude.{among_from_contains, contains_from_among, Content, content_at, content_viewed, File, Gone, HostViewMap, Link, Name, name_cmp, one_ascending, PathParts, PlaceParts, viewed_at}
+use Rattle.dropins.specs.{FolderLists.folders, Taken.Candidate.At, Taken.Candidate.Mask, Taken.content_as_drop_in, Taken.file_name, Taken.is_conf, Taken.is_null, Taken.IsDropInAt, Taken.IsDropInOf}
 
--- lists of places that rise by file name and have the same places are the same list
+-- Two lists of places in ascending order of file names that have the same places are equal.
 abbrev pub OneOrder : Type 0
 OneOrder = (ps qs : List PlaceParts) → IsStrictlySortedBy name_cmp (map file_name ps) → IsStrictlySortedBy name_cmp (map file_name qs) → ((p : PlaceParts) → Contains ps p ↔ Contains qs p) → ps ≡ qs
 
--- a drop-in's file name ends in .conf, and a file that isn't empty is visible at its place
+-- The file name of a drop-in ends in `.conf`, and a file that isn't empty is visible at its place.
 abbrev pub DropInsAreFiles : Type 0
-DropInsAreFiles = (s : View) (ns : List Name) (p : PlaceParts) → IsDropInAt s ns p → IsTrue (is_conf (file_name p)) × ((b : ℕ) × (bs : List ℕ) × (content_at s p ≡ Some (File (b ∷ bs))))
+DropInsAreFiles = (s : HostViewMap) (ns : List Name) (p : PlaceParts) → IsDropInAt s ns p → IsTrue (is_conf (file_name p)) × ((b : ℕ) × (bs : List ℕ) × (content_at s p ≡ Some (File (b ∷ bs))))
 
 pub one_order : OneOrder
-one_order ps qs a b same = one_rising file_name name_cmp nat_list_cmp_total ps qs a b (λ p. (λ h. among_from_contains p qs ((same p).0 (contains_from_among p ps h)), λ h. among_from_contains p ps ((same p).1 (contains_from_among p qs h))))
+one_order ps qs a b same = one_ascending file_name name_cmp nat_list_cmp_total ps qs a b (λ p. (λ h. among_from_contains p qs ((same p).0 (contains_from_among p ps h)), λ h. among_from_contains p ps ((same p).1 (contains_from_among p qs h))))
 
 file_there : (p : PathParts) (t : Bool) (o : Option Content) → option_and_then (λ c. cond t (content_as_drop_in p c) None) o ≡ Some (At p) → (t ≡ true) × ((b : ℕ) × (bs : List ℕ) × (o ≡ Some (File (b ∷ bs))))
 file_there p t None h = cc (h)
@@ -41,13 +30,13 @@ file_there p true (Some (Link target)) h = absurd (by (is_null target) h)
 file_there p true (Some (File [])) h = cc (h)
 file_there p true (Some (File (b ∷ bs))) h = (refl, (b, bs, refl))
 
--- the same of the path at which it is seen
-pub drop_in_paths_are_files : (s : View) (fs : List Name) (p : PathParts) → IsDropInOf s fs p → (is_conf p.name ≡ true) × ((b : ℕ) × (bs : List ℕ) × (seen_at s p ≡ Some (File (b ∷ bs))))
-drop_in_paths_are_files s fs p d = file_there p (is_conf p.name) (seen_at s p) d.stands.says
+-- The same for the path at which it is seen.
+pub drop_in_paths_are_files : (s : HostViewMap) (fs : List Name) (p : PathParts) → IsDropInOf s fs p → (is_conf p.name ≡ true) × ((b : ℕ) × (bs : List ℕ) × (viewed_at s p ≡ Some (File (b ∷ bs))))
+drop_in_paths_are_files s fs p d = file_there p (is_conf p.name) (viewed_at s p) d.stands.says
 
 pub drop_ins_are_files : DropInsAreFiles
 drop_ins_are_files s ns place (p, is, d) =
     let file = drop_in_paths_are_files s (folders ns) p d in (
       ap (λ (q : PlaceParts). is_conf (file_name q)) (sym is) ∙ file.0,
-      (file.1.0, file.1.1, ap (content_at s) (sym is) ∙ content_seen s p (File (file.1.0 ∷ file.1.1)) file.1.2),
+      (file.1.0, file.1.1, ap (content_at s) (sym is) ∙ content_viewed s p (File (file.1.0 ∷ file.1.1)) file.1.2),
     )

@@ -1,46 +1,38 @@
--- Laws of what is taken in folders of names, or else in those of types.
-use Rattle.std.proofs.Common.{◌≡◌, ◌≢◌, ℕ, ◌<◌, ◌≤◌, Option, Some, None, List, [], refl, ap, sym, ◌∙◌, inl, inr, arith}
-use Rattle.std.specs.Prelude.{◌↔◌, ◌⊎◌, slice_get}
+-- Laws of what is taken in the folders of names, or else in those of types.
+use Rattle.std.proofs.Common.{[], ◌<◌, ◌↔◌, ◌∙◌, ◌≡◌, ◌≢◌, ◌≤◌, ◌⊎◌, ap, arith, inl, inr, List, None, Option, refl, slice_get, Some, sym, ℕ}
 use Rattle.std.specs.Option.{option_and_then}
-use Rattle.list_laws.specs.Agreements.{agree_everywhere}
-use Rattle.load_path.specs.Paths.{PathParts, path_cmp}
-use Rattle.load_path.specs.PathLaws.{path_cmp_total, path_cmp-IsAntisymmetric}
-use Rattle.load_places.specs.Levels.{IsLevel}
-use Rattle.path_maps.specs.Views.{View, seen_at, level_of}
-use Rattle.dropins.specs.declared.precedence.Search.{Search}
-use Rattle.dropins.specs.Taken.Owner.{OfName, OfType}
-use Rattle.dropins.specs.Taken.{Candidate, Owner, Precedes, Stands, IsTaken, IsTakenOver, as_found, dirs_by}
-use Rattle.dropins.specs.Walks.{taken}
-use Rattle.dropins.specs.WalkLaws.{found_is_taken, none_stands, taken_once}
+use Rattle.dropins.specs.Prelude.{agree_everywhere, HostViewMap, IsLevel, level_of, path_cmp, path_cmp-IsAntisymmetric, path_cmp_total, PathParts, viewed_at}
+use Rattle.dropins.specs.{declared.precedence.Search.Search, Taken.as_found, Taken.Candidate, Taken.dirs_by, Taken.IsTaken, Taken.IsTakenOver, Taken.Owner, Taken.Owner.OfName, Taken.Owner.OfType, Taken.Precedes, Taken.Stands, WalkLaws.found_is_taken, WalkLaws.none_stands, WalkLaws.taken_once, Walks.taken}
 
--- nothing stands for this file name
-abbrev pub NoneStands : View → Search → List (List ℕ) → List ℕ → Type 0
+-- There is no candidate for this file name.
+abbrev pub NoneStands : HostViewMap → Search → List (List ℕ) → List ℕ → Type 0
 NoneStands s x ds f = (d : Candidate) (q : PathParts) (i : ℕ) → Stands s x ds d q i → q.name ≡ f → ⊥
 
--- What is taken is what is taken in the folders of names; or what is taken in those of types, where nothing of its file name stands in a folder of a name.
+-- What is taken is either what is taken in the folders of names, or what is taken in those of types if no folder of a
+-- name has a candidate for its file name.
 abbrev pub NamesOrElseTypes : Type 0
-NamesOrElseTypes = (s : View) (x : Search) (ds ts : List (List ℕ)) (c : Candidate) (p : PathParts) → IsTakenOver s x ds ts c p ↔ (IsTaken s x ds c p ⊎ (IsTaken s x ts c p × NoneStands s x ds p.name))
+NamesOrElseTypes = (s : HostViewMap) (x : Search) (ds ts : List (List ℕ)) (c : Candidate) (p : PathParts) → IsTakenOver s x ds ts c p ↔ (IsTaken s x ds c p ⊎ (IsTaken s x ts c p × NoneStands s x ds p.name))
 
--- For a file name one candidate at most is taken.
+-- At most one candidate is taken for a file name.
 abbrev pub OverOnce : Type 0
-OverOnce = (s : View) (x : Search) (ds ts : List (List ℕ)) (c d : Candidate) (p q : PathParts) → IsTakenOver s x ds ts c p → IsTakenOver s x ds ts d q → p.name ≡ q.name → (p ≡ q) × (c ≡ d)
+OverOnce = (s : HostViewMap) (x : Search) (ds ts : List (List ℕ)) (c d : Candidate) (p q : PathParts) → IsTakenOver s x ds ts c p → IsTakenOver s x ds ts d q → p.name ≡ q.name → (p ≡ q) × (c ≡ d)
 
--- Where anything stands for a file name, something is taken for it.
+-- If a file name has a candidate, one is taken for it.
 abbrev pub SomethingIsTakenOver : Type 0
-SomethingIsTakenOver = (s : View) (x : Search) (ds ts : List (List ℕ)) (o : Owner) (d : Candidate) (q : PathParts) (i : ℕ) → Stands s x (dirs_by o ds ts) d q i
+SomethingIsTakenOver = (s : HostViewMap) (x : Search) (ds ts : List (List ℕ)) (o : Owner) (d : Candidate) (q : PathParts) (i : ℕ) → Stands s x (dirs_by o ds ts) d q i
     → (c : Candidate) × (p : PathParts) × (p.name ≡ q.name) × IsTakenOver s x ds ts c p
 
--- What is taken depends on what is visible in the folders alone.
+-- What is taken depends only on what is visible in the folders.
 abbrev pub FoldersDecideOver : Type 0
-FoldersDecideOver = (s t : View) (x : Search) (ds ts : List (List ℕ)) → ((o : Owner) (p : PathParts) (i : ℕ) → IsLevel (level_of p) → slice_get (dirs_by o ds ts) i ≡ Some p.folder → seen_at s p ≡ seen_at t p)
+FoldersDecideOver = (s t : HostViewMap) (x : Search) (ds ts : List (List ℕ)) → ((o : Owner) (p : PathParts) (i : ℕ) → IsLevel (level_of p) → slice_get (dirs_by o ds ts) i ≡ Some p.folder → viewed_at s p ≡ viewed_at t p)
     → (c : Candidate) (p : PathParts) → IsTakenOver s x ds ts c p → IsTakenOver t x ds ts c p
 
--- Once something is removed, a mask too, that is taken which is taken where it never was.
+-- After a file or a mask is removed, the same is taken as if it had never been there.
 abbrev pub RemovalsGiveBackOver : Type 0
-RemovalsGiveBackOver = (s t : View) (x : Search) (ds ts : List (List ℕ)) (m : PathParts) → seen_at s m ≡ None → seen_at t m ≡ None → ((q : PathParts) → q ≢ m → seen_at s q ≡ seen_at t q)
+RemovalsGiveBackOver = (s t : HostViewMap) (x : Search) (ds ts : List (List ℕ)) (m : PathParts) → viewed_at s m ≡ None → viewed_at t m ≡ None → ((q : PathParts) → q ≢ m → viewed_at s q ≡ viewed_at t q)
     → (c : Candidate) (p : PathParts) → IsTakenOver s x ds ts c p → IsTakenOver t x ds ts c p
 
-module _ (s : View) (x : Search) (ds ts : List (List ℕ)) (c : Candidate) (p : PathParts) where
+module _ (s : HostViewMap) (x : Search) (ds ts : List (List ℕ)) (c : Candidate) (p : PathParts) where
   pub over_of_names : IsTaken s x ds c p → IsTakenOver s x ds ts c p
   over_of_names a = record { owner = OfName; place = a.place; stands = a.stands; least = λ d q o i st n. least d q o i st n }
     where
@@ -55,12 +47,12 @@ module _ (s : View) (x : Search) (ds ts : List (List ℕ)) (c : Candidate) (p : 
       least d q OfName i st n = absurd (none d q i st n)
       least d q OfType i st n = inr (refl, a.least d q i st n)
 
-  -- in the same turn the level and the place count
+  -- In the same turn the level and then the index decide.
   same_turn : {n l m i j : ℕ} → (n < n) ⊎ ((n ≡ n) × ((l < m) ⊎ ((l ≡ m) × (i ≤ j)))) → (l < m) ⊎ ((l ≡ m) × (i ≤ j))
   same_turn (inl l) = absurd (omega (arith, l))
   same_turn (inr e) = e.1
 
-  -- a type doesn't go before a name
+  -- A type doesn't come before a name.
   not_before : (l m i j : ℕ) → Precedes OfType l i OfName m j → ⊥
   not_before l m i j (inl h) = omega (arith, h)
   not_before l m i j (inr e) = omega (arith, e.0)
@@ -80,8 +72,8 @@ names_or_else_types s x ds ts c p = (over_is_either s x ds ts c p, by)
     by (inl a) = over_of_names s x ds ts c p a
     by (inr b) = over_of_types s x ds ts c p b.0 b.1
 
--- without folders of types those of names decide
-pub over_none : (s : View) (x : Search) (ds : List (List ℕ)) (c : Candidate) (p : PathParts) → IsTakenOver s x ds [] c p → IsTaken s x ds c p
+-- Without folders of types, the folders of names decide.
+pub over_none : (s : HostViewMap) (x : Search) (ds : List (List ℕ)) (c : Candidate) (p : PathParts) → IsTakenOver s x ds [] c p → IsTaken s x ds c p
 over_none s x ds c p t = by (over_is_either s x ds [] c p t)
   where
     nowhere : (i : ℕ) → Stands s x [] c p i → ⊥
@@ -91,7 +83,7 @@ over_none s x ds c p t = by (over_is_either s x ds [] c p t)
     by (inl a) = a
     by (inr b) = absurd (nowhere b.0.place b.0.stands)
 
--- ---- one is taken, and what stands decides which
+-- ---- one is taken, and the candidates decide which
 
 pub over_once : OverOnce
 over_once s x ds ts c d p q a b n = by (over_is_either s x ds ts c p a) (over_is_either s x ds ts d q b)
@@ -102,7 +94,7 @@ over_once s x ds ts c d p q a b n = by (over_is_either s x ds ts c p a) (over_is
     by (inr k) (inl l) = absurd (k.1 d q l.place l.stands (sym n))
     by (inr k) (inr l) = taken_once s x ts c d p q k.0 l.0 n
 
-module _ (s : View) (x : Search) (ds ts : List (List ℕ)) (f : List ℕ) where
+module _ (s : HostViewMap) (x : Search) (ds ts : List (List ℕ)) (f : List ℕ) where
   found_over : (o : Option Candidate) → taken s x ds f ≡ o → (u : Option Candidate) → taken s x ts f ≡ u → ((c : Candidate) × (p : PathParts) × (p.name ≡ f) × IsTakenOver s x ds ts c p) ⊎ (NoneStands s x ds f × NoneStands s x ts f)
   found_over (Some c) e u g = let b = found_is_taken s x ds f c e in inl (c, b.path, b.name_is, over_of_names s x ds ts c b.path b.taken)
   found_over None e (Some c) g =
@@ -118,8 +110,8 @@ something_is_taken_over s x ds ts o d q i st = by o st (found_over s x ds ts q.n
     by OfName st (inr h) = absurd (h.0 d q i st refl)
     by OfType st (inr h) = absurd (h.1 d q i st refl)
 
--- what stands in one store stands in another that shows the same there
-stands_again : (s t : View) (x : Search) (ds : List (List ℕ)) → ((p : PathParts) (i : ℕ) → IsLevel (level_of p) → slice_get ds i ≡ Some p.folder → seen_at s p ≡ seen_at t p)
+-- A candidate in one view is a candidate in another view that shows the same there.
+stands_again : (s t : HostViewMap) (x : Search) (ds : List (List ℕ)) → ((p : PathParts) (i : ℕ) → IsLevel (level_of p) → slice_get ds i ≡ Some p.folder → viewed_at s p ≡ viewed_at t p)
     → (c : Candidate) (p : PathParts) (i : ℕ) → Stands s x ds c p i → Stands t x ds c p i
 stands_again s t x ds same c p i st = record {
   level_within = st.level_within;
@@ -137,4 +129,4 @@ folders_decide_over s t x ds ts same c p a = record {
 
 pub removals_give_back_over : RemovalsGiveBackOver
 removals_give_back_over s t x ds ts m removed absent same =
-    folders_decide_over s t x ds ts (λ o q i l f. agree_everywhere path_cmp path_cmp_total path_cmp-IsAntisymmetric (seen_at s) (seen_at t) m (removed ∙ sym absent) same q)
+    folders_decide_over s t x ds ts (λ o q i l f. agree_everywhere path_cmp path_cmp_total path_cmp-IsAntisymmetric (viewed_at s) (viewed_at t) m (removed ∙ sym absent) same q)

@@ -1,42 +1,35 @@
 -- Laws of what is taken for a file name.
-use Rattle.std.proofs.Common.{◌≡◌, ◌≢◌, ℕ, ◌<◌, ◌≤◌, Option, Some, None, List, ap, sym, ◌∙◌, inl, inr, arith, refl}
-use Rattle.std.specs.Prelude.{◌⊎◌, slice_get}
+use Rattle.std.proofs.Common.{◌<◌, ◌∙◌, ◌≡◌, ◌≢◌, ◌≤◌, ◌⊎◌, ap, arith, inl, inr, List, None, Option, refl, slice_get, Some, sym, ℕ}
 use Rattle.std.specs.Option.{option_and_then}
-use Rattle.list_laws.specs.Agreements.{agree_everywhere}
-use Rattle.load_path.specs.Paths.{PathParts, path_cmp}
-use Rattle.load_places.specs.Levels.{IsLevel}
-use Rattle.load_path.specs.PathLaws.{path_cmp_total, path_cmp-IsAntisymmetric}
-use Rattle.path_maps.specs.Views.{View, seen_at, level_of}
-use Rattle.dropins.specs.Taken.Candidate.{Mask, At}
-use Rattle.dropins.specs.declared.precedence.Search.{Search}
-use Rattle.dropins.specs.Taken.{Candidate, as_found, Stands, IsTaken, TakenFor}
-use Rattle.dropins.specs.Walks.{taken}
+use Rattle.dropins.specs.Prelude.{agree_everywhere, HostViewMap, IsLevel, level_of, path_cmp, path_cmp-IsAntisymmetric, path_cmp_total, PathParts, viewed_at}
+use Rattle.dropins.specs.{declared.precedence.Search.Search, Taken.as_found, Taken.Candidate, Taken.Candidate.At, Taken.Candidate.Mask, Taken.IsTaken, Taken.Stands, Taken.TakenFor, Walks.taken}
 use Rattle.dropins.specs.WalkLaws as walk
 
--- a level goes before the closeness of a folder: what is taken has at most the level of anything that stands for its file name, in whichever folder
+-- The level decides before the position of the folder: what is taken has at most the level of any candidate for its
+-- file name, in whichever folder.
 abbrev pub LevelsGoFirst : Type 0
-LevelsGoFirst = (s : View) (x : Search) (ds : List (List ℕ)) (c d : Candidate) (p q : PathParts) (i : ℕ) → IsTaken s x ds c p → Stands s x ds d q i → q.name ≡ p.name → level_of p ≤ level_of q
+LevelsGoFirst = (s : HostViewMap) (x : Search) (ds : List (List ℕ)) (c d : Candidate) (p q : PathParts) (i : ℕ) → IsTaken s x ds c p → Stands s x ds d q i → q.name ≡ p.name → level_of p ≤ level_of q
 
--- where anything stands for a file name, something is taken for it
+-- If a file name has a candidate, one is taken for it.
 abbrev pub SomethingIsTaken : Type 0
-SomethingIsTaken = (s : View) (x : Search) (ds : List (List ℕ)) (d : Candidate) (q : PathParts) (i : ℕ) → Stands s x ds d q i → (c : Candidate) × TakenFor s x ds q.name c
+SomethingIsTaken = (s : HostViewMap) (x : Search) (ds : List (List ℕ)) (d : Candidate) (q : PathParts) (i : ℕ) → Stands s x ds d q i → (c : Candidate) × TakenFor s x ds q.name c
 
--- a file name is taken once at most
+-- At most one candidate is taken for a file name.
 abbrev pub TakenOnce : Type 0
-TakenOnce = (s : View) (x : Search) (ds : List (List ℕ)) (c d : Candidate) (p q : PathParts) → IsTaken s x ds c p → IsTaken s x ds d q → p.name ≡ q.name → (p ≡ q) × (c ≡ d)
+TakenOnce = (s : HostViewMap) (x : Search) (ds : List (List ℕ)) (c d : Candidate) (p q : PathParts) → IsTaken s x ds c p → IsTaken s x ds d q → p.name ≡ q.name → (p ≡ q) × (c ≡ d)
 
--- a mask that is taken hides all else of its file name
+-- A mask that is taken hides everything else with its file name.
 abbrev pub MasksHide : Type 0
-MasksHide = (s : View) (x : Search) (ds : List (List ℕ)) (p q : PathParts) → IsTaken s x ds Mask p → p.name ≡ q.name → IsTaken s x ds (At q) q → ⊥
+MasksHide = (s : HostViewMap) (x : Search) (ds : List (List ℕ)) (p q : PathParts) → IsTaken s x ds Mask p → p.name ≡ q.name → IsTaken s x ds (At q) q → ⊥
 
--- what is taken depends on what is visible in the folders alone
+-- What is taken depends only on what is visible in the folders.
 abbrev pub FoldersDecide : Type 0
-FoldersDecide = (s t : View) (x : Search) (ds : List (List ℕ)) → ((p : PathParts) (i : ℕ) → IsLevel (level_of p) → slice_get ds i ≡ Some p.folder → seen_at s p ≡ seen_at t p)
+FoldersDecide = (s t : HostViewMap) (x : Search) (ds : List (List ℕ)) → ((p : PathParts) (i : ℕ) → IsLevel (level_of p) → slice_get ds i ≡ Some p.folder → viewed_at s p ≡ viewed_at t p)
     → (c : Candidate) (p : PathParts) → IsTaken s x ds c p → IsTaken t x ds c p
 
--- once something is removed, a mask too, that is taken which is taken where it never was
+-- After a file or a mask is removed, the same is taken as if it had never been there.
 abbrev pub RemovalsGiveBack : Type 0
-RemovalsGiveBack = (s t : View) (x : Search) (ds : List (List ℕ)) (m : PathParts) → seen_at s m ≡ None → seen_at t m ≡ None → ((q : PathParts) → q ≢ m → seen_at s q ≡ seen_at t q)
+RemovalsGiveBack = (s t : HostViewMap) (x : Search) (ds : List (List ℕ)) (m : PathParts) → viewed_at s m ≡ None → viewed_at t m ≡ None → ((q : PathParts) → q ≢ m → viewed_at s q ≡ viewed_at t q)
     → (c : Candidate) (p : PathParts) → IsTaken s x ds c p → IsTaken t x ds c p
 
 pub levels_go_first : LevelsGoFirst
@@ -75,4 +68,4 @@ folders_decide s t x ds same c p a = record {
 }
 
 pub removals_give_back : RemovalsGiveBack
-removals_give_back s t x ds m removed absent same = folders_decide s t x ds (λ q i l f. agree_everywhere path_cmp path_cmp_total path_cmp-IsAntisymmetric (seen_at s) (seen_at t) m (removed ∙ sym absent) same q)
+removals_give_back s t x ds m removed absent same = folders_decide s t x ds (λ q i l f. agree_everywhere path_cmp path_cmp_total path_cmp-IsAntisymmetric (viewed_at s) (viewed_at t) m (removed ∙ sym absent) same q)

@@ -1,23 +1,12 @@
 -- Drop-ins and links: what stands for a file name in the folders of names, and what of it is taken.
--- Source: systemd.unit(5), "Description"; that the level goes before the closeness of a folder, and that a type's folder comes last in every level, is this project's own.
-use Rattle.std.specs.Prelude.{◌≡◌, ◌↔◌, ℕ, ◌-◌, ◌<◌, ◌≤◌, ◌⊎◌, nat_lt, Bool, ◌&&◌, if◌then◌else◌, Option, Some, None, List, [], ◌∷◌, ◌++◌, length, map, drop, slice_get, codes}
-use Rattle.std.specs.Option.{option_and_then}
-use Rattle.std.specs.FinMap as finmap
+-- Source: systemd.unit(5), "Description"; that the level goes before the closeness of a folder, and that types' folders come after every folder of a name, whatever the levels, is this project's own.
+use Rattle.std.proofs.Common.{[], ◌&&◌, ◌++◌, ◌-◌, ◌<◌, ◌↔◌, ◌∷◌, ◌≡◌, ◌≤◌, ◌⊎◌, Bool, codes, drop, if◌then◌else◌, length, List, map, nat_lt, None, Option, slice_get, Some, ℕ}
 use Rattle.std.specs.List.{Contains}
+use Rattle.std.specs.Option.{option_and_then}
 use Rattle.std.specs.Str.{bytes_eq}
-use Rattle.load_path.specs.Paths.{PathParts}
-use Rattle.load_places.specs.Levels.{IsLevel}
-use Rattle.load_places.specs.Places.{PlaceParts}
-use Rattle.edit_sums.specs.Entries.{Entry}
-use Rattle.path_maps.specs.Views.{View, level_of, seen, seen_at, seen_place}
-use Rattle.edit_sums.specs.declared.contents.Content.{Content}
-use Rattle.edit_sums.specs.declared.contents.Content.TheVariants.{Gone, Link, File}
-use Rattle.unit_name.specs.Names.{Name, IsName}
-use Rattle.dropins.specs.FolderLists.{folders, types_of}
-use Rattle.dropins.specs.declared.link_names.Folder.{Folder}
-use Rattle.dropins.specs.declared.link_names.Folder.TheVariants.{Wants, Requires}
-use Rattle.dropins.specs.declared.precedence.Search.{Search}
-use Rattle.dropins.specs.declared.precedence.Search.TheVariants.{DropIns, Links}
+use Rattle.dropins.specs.Prelude.{Content, Entry, File, Gone, HostViewMap, IsLevel, IsName, level_of, Link, Name, PathParts, PlaceParts, view, viewed_at, viewed_place}
+use Rattle.dropins.specs.{declared.link_names.Folder.Folder, declared.link_names.Folder.TheVariants.Requires, declared.link_names.Folder.TheVariants.Wants, declared.precedence.Search.Search, declared.precedence.Search.TheVariants.DropIns, declared.precedence.Search.TheVariants.Links, FolderLists.folders, FolderLists.types_of}
+use Rattle.std.specs.FinMap as finmap
 
 -- what stands for a file name in a folder: it takes the place and gives nothing, or it gives what is at this path
 pub data Candidate : Type 0 where
@@ -55,17 +44,17 @@ as_found DropIns p c = as_drop_in p c
 as_found Links p c = as_link p c
 
 -- the candidate that is visible at a path
-abbrev pub candidate_at : View → Search → PathParts → Option Candidate
-candidate_at s x p = option_and_then (as_found x p) (seen_at s p)
+abbrev pub candidate_at : HostViewMap → Search → PathParts → Option Candidate
+candidate_at s x p = option_and_then (as_found x p) (viewed_at s p)
 
 -- this candidate is seen at the path, which is in the folder of this place of the list, at one of the levels
-pub record Stands (s : View) (x : Search) (ds : List (List ℕ)) (c : Candidate) (p : PathParts) (place : ℕ) : Type 0 where
+pub record Stands (s : HostViewMap) (x : Search) (ds : List (List ℕ)) (c : Candidate) (p : PathParts) (place : ℕ) : Type 0 where
   pub level_within : IsLevel (level_of p)
   pub folder_is : slice_get ds place ≡ Some p.folder
   pub says : candidate_at s x p ≡ Some c
 
 -- the candidate at the path is taken for the path's file name: of all that stand for it, it has the least level, and in that level the first folder of the list
-pub record IsTaken (s : View) (x : Search) (ds : List (List ℕ)) (c : Candidate) (p : PathParts) : Type 0 where
+pub record IsTaken (s : HostViewMap) (x : Search) (ds : List (List ℕ)) (c : Candidate) (p : PathParts) : Type 0 where
   pub place : ℕ
   pub stands : Stands s x ds c p place
   pub least : (d : Candidate) (q : PathParts) (i : ℕ) → Stands s x ds d q i → q.name ≡ p.name → (level_of p < level_of q) ⊎ ((level_of p ≡ level_of q) × (place ≤ i))
@@ -90,14 +79,14 @@ abbrev pub Precedes : Owner → ℕ → ℕ → Owner → ℕ → ℕ → Type 0
 Precedes a l i b m j = (turn a < turn b) ⊎ ((turn a ≡ turn b) × ((l < m) ⊎ ((l ≡ m) × (i ≤ j))))
 
 -- the candidate at the path is taken for the path's file name, where ds are folders of names and ts those of types: of all that stand for it in either, it has the least turn, level and place
-pub record IsTakenOver (s : View) (x : Search) (ds ts : List (List ℕ)) (c : Candidate) (p : PathParts) : Type 0 where
+pub record IsTakenOver (s : HostViewMap) (x : Search) (ds ts : List (List ℕ)) (c : Candidate) (p : PathParts) : Type 0 where
   pub owner : Owner
   pub place : ℕ
   pub stands : Stands s x (dirs_by owner ds ts) c p place
   pub least : (d : Candidate) (q : PathParts) (o : Owner) (i : ℕ) → Stands s x (dirs_by o ds ts) d q i → q.name ≡ p.name → Precedes owner (level_of p) place o (level_of q) i
 
 -- what is taken for a file name
-pub record TakenFor (s : View) (x : Search) (ds : List (List ℕ)) (f : List ℕ) (c : Candidate) : Type 0 where
+pub record TakenFor (s : HostViewMap) (x : Search) (ds : List (List ℕ)) (f : List ℕ) (c : Candidate) : Type 0 where
   pub path : PathParts
   pub name_is : path.name ≡ f
   pub taken : IsTaken s x ds c path
@@ -119,41 +108,41 @@ abbrev pub type_dirs : List Name → List (List ℕ)
 type_dirs fs = dirs_with (codes ".d") (types_of fs)
 
 -- the path is a drop-in of a unit with these folders: it is taken in them, or else in those of their types
-abbrev pub IsDropInOf : View → List Name → PathParts → Type 0
+abbrev pub IsDropInOf : HostViewMap → List Name → PathParts → Type 0
 IsDropInOf s fs p = IsTakenOver s DropIns (name_dirs fs) (type_dirs fs) (At p) p
 
 -- the path is a drop-in of a unit of these names
-abbrev pub IsDropIn : View → List Name → PathParts → Type 0
+abbrev pub IsDropIn : HostViewMap → List Name → PathParts → Type 0
 IsDropIn s ns p = IsDropInOf s (folders ns) p
 
 -- the same of a place: it is that of a path which is one
-abbrev pub IsDropInAtOf : View → List Name → PlaceParts → Type 0
-IsDropInAtOf s fs place = (p : PathParts) × (seen_place s p ≡ place) × IsDropInOf s fs p
+abbrev pub IsDropInAtOf : HostViewMap → List Name → PlaceParts → Type 0
+IsDropInAtOf s fs place = (p : PathParts) × (viewed_place s p ≡ place) × IsDropInOf s fs p
 
-abbrev pub IsDropInAt : View → List Name → PlaceParts → Type 0
+abbrev pub IsDropInAt : HostViewMap → List Name → PlaceParts → Type 0
 IsDropInAt s ns place = IsDropInAtOf s (folders ns) place
 
 -- the link folders of this sort of a unit with these folders give this name: it is a unit's, and a link is taken for it
-pub record IsLinkedOf (s : View) (fs : List Name) (d : Folder) (n : Name) : Type 0 where
+pub record IsLinkedOf (s : HostViewMap) (fs : List Name) (d : Folder) (n : Name) : Type 0 where
   pub name : IsName n
   pub path : PathParts
   pub name_is : path.name ≡ n
   pub taken : IsTaken s Links (dirs_with (ending d) fs) (At path) path
 
 -- and those of a unit of these names
-abbrev pub IsLinked : View → List Name → Folder → Name → Type 0
+abbrev pub IsLinked : HostViewMap → List Name → Folder → Name → Type 0
 IsLinked s ns d n = IsLinkedOf s (folders ns) d n
 
 abbrev pub file_name : PlaceParts → List ℕ
 file_name place = place.path.name
 
 -- the place of an entry that is seen, and its file name
-abbrev pub entry_place : View → PathParts × Entry → PlaceParts
-entry_place s p = seen_place s p.0
+abbrev pub entry_place : HostViewMap → PathParts × Entry → PlaceParts
+entry_place s p = viewed_place s p.0
 
 abbrev pub entry_name : PathParts × Entry → List ℕ
 entry_name p = p.0.name
 
 -- these entries are those that are seen at the drop-ins of a unit with these folders
-abbrev pub AreDropInsOf : View → List Name → List (PathParts × Entry) → Type 0
-AreDropInsOf s fs ps = (p : PathParts × Entry) → Contains ps p ↔ (IsDropInOf s fs p.0 × (finmap.get (seen s) p.0 ≡ Some p.1))
+abbrev pub AreDropInsOf : HostViewMap → List Name → List (PathParts × Entry) → Type 0
+AreDropInsOf s fs ps = (p : PathParts × Entry) → Contains ps p ↔ (IsDropInOf s fs p.0 × (finmap.get (view s) p.0 ≡ Some p.1))

@@ -1,42 +1,31 @@
 -- Laws of drop-ins in folders of types: they count last, and where none shows anything the folders of names decide alone.
-use Rattle.std.proofs.Common.{◌≡◌, ℕ, zero, suc, Some, None, List, [], ◌∷◌, ◌++◌, ap, sym, ◌∙◌, subst, inl, inr, codes}
-use Rattle.std.specs.Prelude.{◌↔◌, ◌⊎◌, slice_get}
-use Rattle.std.specs.Option.{option_and_then}
-use Rattle.std.specs.List.{All, Contains}
+use Rattle.std.proofs.Common.{[], ◌++◌, ◌↔◌, ◌∙◌, ◌∷◌, ◌≡◌, ◌⊎◌, All, ap, codes, inl, inr, List, None, slice_get, Some, subst, suc, sym, zero, ℕ}
 use Rattle.std.proofs.lemmas.List.{append_cancel_right}
 use Rattle.std.proofs.lemmas.Option.{none-some, same_Some}
-use Rattle.list_laws.specs.Members.{IsAmong, contains_from_among}
-use Rattle.load_path.specs.Paths.{PathParts}
-use Rattle.path_maps.specs.Views.{View, seen_at}
-use Rattle.unit_name.specs.declared.kinds.Kind.{Kind}
-use Rattle.unit_name.specs.Names.{Name, IsName, word}
-use Rattle.dropins.specs.declared.precedence.Search.TheVariants.{DropIns}
-use Rattle.dropins.specs.FolderLists.{folders, types_of}
-use Rattle.dropins.specs.FolderLaws.{folders_are_names}
-use Rattle.dropins.specs.OverLaws.{NoneStands, over_is_either, over_of_names, over_once}
-use Rattle.dropins.specs.Taken.Candidate.{Mask, At}
-use Rattle.dropins.specs.Taken.{Candidate, Stands, IsTaken, IsDropIn, as_found, name_dirs, type_dirs}
-use Rattle.dropins.specs.TypeLaws.{among_made, folders_keep_types, no_name_has_a_types_folder, types_are_kinds}
+use Rattle.std.specs.List.{Contains}
+use Rattle.std.specs.Option.{option_and_then}
+use Rattle.dropins.specs.Prelude.{contains_from_among, HostViewMap, IsAmong, IsName, Kind, Name, PathParts, viewed_at, word}
+use Rattle.dropins.specs.{declared.precedence.Search.TheVariants.DropIns, FolderLaws.folders_are_names, FolderLists.folders, FolderLists.types_of, OverLaws.NoneStands, OverLaws.over_is_either, OverLaws.over_of_names, OverLaws.over_once, Taken.as_found, Taken.Candidate, Taken.Candidate.At, Taken.Candidate.Mask, Taken.IsDropIn, Taken.IsTaken, Taken.name_dirs, Taken.Stands, Taken.type_dirs, TypeLaws.among_made, TypeLaws.folders_keep_types, TypeLaws.no_name_has_a_types_folder, TypeLaws.types_are_kinds}
 
 -- the folder of a kind's drop-ins, as service.d
 abbrev pub kind_dir : Kind → List ℕ
 kind_dir k = word k ++ codes ".d"
 
--- What is taken in the folders of names is a drop-in, in whichever rank: no type's folder hides it, nor a mask there.
+-- What is taken in the folders of names is a drop-in, at whichever level: nothing in a type's folder hides it, not even a mask.
 abbrev pub NamesGoFirst : Type 0
-NamesGoFirst = (s : View) (ns : List Name) (p : PathParts) → IsTaken s DropIns (name_dirs (folders ns)) (At p) p → IsDropIn s ns p
+NamesGoFirst = (s : HostViewMap) (ns : List Name) (p : PathParts) → IsTaken s DropIns (name_dirs (folders ns)) (At p) p → IsDropIn s ns p
 
--- A drop-in of a type's folder is one of the names' type, and nothing of its file name stands in a folder of a name.
+-- Where a drop-in is in the folder of a kind, one of the names is of this type, and nothing of its file name stands in a folder of a name.
 abbrev pub TypesComeLast : Type 0
-TypesComeLast = (s : View) (ns : List Name) (k : Kind) (p : PathParts) → All IsName ns → p.folder ≡ kind_dir k → IsDropIn s ns p → Contains (types_of ns) (word k) × NoneStands s DropIns (name_dirs (folders ns)) p.name
+TypesComeLast = (s : HostViewMap) (ns : List Name) (k : Kind) (p : PathParts) → All IsName ns → p.folder ≡ kind_dir k → IsDropIn s ns p → Contains (types_of ns) (word k) × NoneStands s DropIns (name_dirs (folders ns)) p.name
 
--- A mask that is taken in the folders of names hides what a type's folder has for its file name.
+-- Where a mask is taken in the folders of names, there is no drop-in of its file name, whatever a type's folder has for it.
 abbrev pub MasksHideTypes : Type 0
-MasksHideTypes = (s : View) (ns : List Name) (p q : PathParts) → IsTaken s DropIns (name_dirs (folders ns)) Mask p → p.name ≡ q.name → IsDropIn s ns q → ⊥
+MasksHideTypes = (s : HostViewMap) (ns : List Name) (p q : PathParts) → IsTaken s DropIns (name_dirs (folders ns)) Mask p → p.name ≡ q.name → IsDropIn s ns q → ⊥
 
 -- Where no folder of a type shows anything, the drop-ins are just what is taken in the folders of names.
 abbrev pub NamesAloneWithoutTypes : Type 0
-NamesAloneWithoutTypes = (s : View) (ns : List Name) → All IsName ns → ((k : Kind) (q : PathParts) → q.folder ≡ kind_dir k → seen_at s q ≡ None)
+NamesAloneWithoutTypes = (s : HostViewMap) (ns : List Name) → All IsName ns → ((k : Kind) (q : PathParts) → q.folder ≡ kind_dir k → viewed_at s q ≡ None)
     → (p : PathParts) → IsDropIn s ns p ↔ IsTaken s DropIns (name_dirs (folders ns)) (At p) p
 
 pub names_go_first : NamesGoFirst
@@ -66,7 +55,7 @@ masks_hide_types s ns p q a n d =
     cc ((over_once s DropIns (name_dirs (folders ns)) (type_dirs (folders ns)) Mask (At q) p q (over_of_names s DropIns (name_dirs (folders ns)) (type_dirs (folders ns)) Mask p a) d n).1)
 
 -- nothing stands in the folders of types
-module _ (s : View) (ns : List Name) (a : All IsName ns) (none : (k : Kind) (q : PathParts) → q.folder ≡ kind_dir k → seen_at s q ≡ None) where
+module _ (s : HostViewMap) (ns : List Name) (a : All IsName ns) (none : (k : Kind) (q : PathParts) → q.folder ≡ kind_dir k → viewed_at s q ≡ None) where
   nowhere : (c : Candidate) (p : PathParts) (i : ℕ) → Stands s DropIns (type_dirs (folders ns)) c p i → ⊥
   nowhere c p i st =
       let t = among_made (λ t. t ++ codes ".d") p.folder (types_of (folders ns)) (placed_there (type_dirs (folders ns)) i p.folder st.folder_is) in

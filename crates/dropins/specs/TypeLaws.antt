@@ -1,45 +1,36 @@
--- Laws of types: a unit's names and folders have the same, and no folder of a name is called as a type's.
-use Rattle.std.proofs.Common.{◌≡◌, ℕ, Bool, true, false, cond, ◌||◌, Option, Some, None, List, [], ◌∷◌, ◌++◌, map, fold, refl, ap, sym, ◌∙◌, subst, inl, inr, codes}
-use Rattle.std.specs.Prelude.{◌⊎◌}
-use Rattle.std.specs.List.{All, Contains, flat_map}
-use Rattle.std.specs.Str.{bytes_eq}
+-- Laws of types: a unit's names and folders have the same types, and no folder of a name is named like that of a type.
+use Rattle.std.proofs.Common.{[], ◌++◌, ◌||◌, ◌∙◌, ◌∷◌, ◌≡◌, ◌⊎◌, All, ap, Bool, codes, cond, false, fold, inl, inr, List, map, None, Option, refl, Some, subst, sym, true, ℕ}
 use Rattle.std.proofs.lemmas.Bool.{or_right}
-use Rattle.std.proofs.lemmas.List.{append_cancel_right, map-append}
-use Rattle.std.proofs.lemmas.List.Elements.{All-nil, All-cons, All-append, All-contains, All-head, All-tail}
 use Rattle.std.proofs.lemmas.Grind.{fold-append}
+use Rattle.std.proofs.lemmas.List.{append_cancel_right, map-append}
+use Rattle.std.proofs.lemmas.List.Elements.{All-append, All-cons, All-contains, All-head, All-nil, All-tail}
 use Rattle.std.proofs.lemmas.Slice.Eq.{bytes_eq-Decides}
-use Rattle.list_laws.specs.Members.{IsAmong, among_from_contains, contains_from_among, first_there, later_there}
-use Rattle.unit_name.specs.declared.kinds.Kind.{Kind}
-use Rattle.unit_name.specs.declared.kinds.Kind.TheVariants.{Service, Socket, Device, Mount, Automount, Swap, Target, Path, Timer, Slice, Scope}
-use Rattle.unit_name.specs.Names.{Name, IsName, is_empty, name_of, kind, prefix, suffix, word}
-use Rattle.unit_name.specs.Forms.{template_of}
-use Rattle.unit_name.specs.NameLaws.{made_of_name, prefixes_may_be_cut, suffix_is_word, templates_keep_parts}
-use Rattle.dropins.specs.FolderLists.{cuts, firsts, folders, folders_of, is_among, listed, types_of, with_name, with_prefix, with_template}
-use Rattle.dropins.specs.CutLaws.{IsDashedFront, cuts_are_dashed_fronts}
-use Rattle.dropins.specs.FolderJoinLaws.{among_all, among_firsts}
-use Rattle.dropins.specs.FolderLaws.{ends_somewhere, folders_are_names}
-use Rattle.dropins.specs.Taken.{name_dirs}
+use Rattle.std.specs.List.{Contains, flat_map}
+use Rattle.std.specs.Str.{bytes_eq}
+use Rattle.dropins.specs.Prelude.{among_from_contains, Automount, contains_from_among, Device, first_there, is_empty, IsAmong, IsName, Kind, kind, later_there, made_of_name, Mount, Name, Path, prefix, prefixes_may_be_cut, Scope, Service, Slice, Socket, suffix, suffix_is_word, Swap, Target, template_of, templates_keep_parts, Timer, word}
+use Rattle.dropins.specs.{CutLaws.cuts_are_dashed_prefixes, CutLaws.IsDashedPrefix, FolderJoinLaws.among_all, FolderJoinLaws.among_firsts, FolderLaws.ends_somewhere, FolderLaws.folders_are_names, FolderLists.cuts, FolderLists.firsts, FolderLists.folders, FolderLists.folders_of, FolderLists.is_among, FolderLists.listed, FolderLists.types_of, FolderLists.with_name, FolderLists.with_prefix, FolderLists.with_template, Taken.name_dirs}
+use Rattle.unit_name.specs.Names.{name_of}
 
--- the types of names are words of kinds
+-- The types of names are words of kinds.
 abbrev pub TypesAreKinds : Type 0
 TypesAreKinds = (ns : List Name) (t : List ℕ) → All IsName ns → Contains (types_of ns) t → (k : Kind) × (t ≡ word k)
 
--- names of one kind have its word as their one type
+-- Names of one kind have the word of this kind as their only type.
 abbrev pub OneType : Type 0
 OneType = (n : Name) (ns : List Name) (k : Kind) → All (λ m. kind m ≡ Some k) (n ∷ ns) → types_of (n ∷ ns) ≡ word k ∷ []
 
--- the folders of names have the names' types, in the same order
+-- The folders of names have the types of the names, in the same order.
 abbrev pub FoldersKeepTypes : Type 0
 FoldersKeepTypes = (ns : List Name) → All IsName ns → types_of (folders ns) ≡ types_of ns
 
--- a kind's word is no name: so no folder of a name is called as a type's
+-- The word of a kind is no name, so no folder of a name is named like that of a type.
 abbrev pub WordsAreNoNames : Type 0
 WordsAreNoNames = (k : Kind) → IsName (word k) → ⊥
 
 abbrev pub NoNameHasATypesFolder : Type 0
 NoNameHasATypesFolder = (ns : List Name) (k : Kind) → All IsName ns → Contains (name_dirs (folders ns)) (word k ++ codes ".d") → ⊥
 
--- ---- what is known of each is known of what is made of it
+-- ---- what holds of each item holds of its image
 
 made_among : (g : Name → List ℕ) (x : Name) (ns : List Name) → IsAmong x ns → IsAmong (g x) (map g ns)
 made_among g x [] h = absurd h
@@ -83,7 +74,7 @@ word_there ns t a h =
 pub types_are_kinds : TypesAreKinds
 types_are_kinds ns t a c = word_there ns t a (among_firsts t (map suffix ns) (among_from_contains t (types_of ns) c))
 
--- what has a suffix that is listed adds nothing
+-- A name with a suffix that is listed adds nothing.
 nothing_added : (t : List ℕ) (ms ts : List Name) → IsAmong t ts → All (λ m. suffix m ≡ t) ms → fold with_name ts (map suffix ms) ≡ ts
 nothing_added t [] ts h a = refl
 nothing_added t (m ∷ ms) ts h a =
@@ -117,7 +108,7 @@ module _ (n : Name) (h : IsName n) where
   with_template_keeps = All-cons (λ m. suffix m ≡ suffix n) n (listed (template_of n)) refl template_keeps
 
 module _ (n : Name) (h : IsName n) where
-  cut_keeps : (c : List ℕ) → IsDashedFront (prefix n) c → All (λ m. suffix m ≡ suffix n) (with_template (with_prefix n c))
+  cut_keeps : (c : List ℕ) → IsDashedPrefix (prefix n) c → All (λ m. suffix m ≡ suffix n) (with_template (with_prefix n c))
   cut_keeps c f =
       let k = prefixes_may_be_cut n c (f.next ∷ f.rest) h f.proper (ap is_empty f.ends_in_dash ∙ ends_somewhere f.start 45) in
       let same : suffix (with_prefix n c) ≡ suffix n = k.2.suffix_is ∙ sym (suffix_is_word n k.0 k.1) in
@@ -127,7 +118,7 @@ module _ (n : Name) (h : IsName n) where
       moved {t = t} {u = u} [] e a = All-nil (λ m. suffix m ≡ u)
       moved {t = t} {u = u} (m ∷ ms) e a = All-cons (λ x. suffix x ≡ u) m ms (All-head (λ x. suffix x ≡ t) m ms a ∙ e) (moved ms e (All-tail (λ x. suffix x ≡ t) m ms a))
 
-  cuts_keep : (cs : List (List ℕ)) → ((c : List ℕ) → Contains cs c → IsDashedFront (prefix n) c) → All (λ m. suffix m ≡ suffix n) (flat_map (λ p. with_template (with_prefix n p)) cs)
+  cuts_keep : (cs : List (List ℕ)) → ((c : List ℕ) → Contains cs c → IsDashedPrefix (prefix n) c) → All (λ m. suffix m ≡ suffix n) (flat_map (λ p. with_template (with_prefix n p)) cs)
   cuts_keep [] each = All-nil (λ m. suffix m ≡ suffix n)
   cuts_keep (c ∷ cs) each =
       All-append (λ m. suffix m ≡ suffix n) (with_template (with_prefix n c)) (flat_map (λ p. with_template (with_prefix n p)) cs)
@@ -136,9 +127,9 @@ module _ (n : Name) (h : IsName n) where
   own_keep : All (λ m. suffix m ≡ suffix n) (listed (template_of n) ++ flat_map (λ p. with_template (with_prefix n p)) (cuts (prefix n)))
   own_keep =
       All-append (λ m. suffix m ≡ suffix n) (listed (template_of n)) (flat_map (λ p. with_template (with_prefix n p)) (cuts (prefix n)))
-      (template_keeps n h) (cuts_keep (cuts (prefix n)) (λ c k. (cuts_are_dashed_fronts (prefix n) c).0 k))
+      (template_keeps n h) (cuts_keep (cuts (prefix n)) (λ c k. (cuts_are_dashed_prefixes (prefix n) c).0 k))
 
--- the name is listed behind others
+-- The name is listed after the others.
 now_there : (ts : List Name) (t : Name) → IsAmong t (with_name ts t)
 now_there ts t = by (is_among t ts) refl
   where
@@ -150,7 +141,7 @@ now_there ts t = by (is_among t ts) refl
     by true e = tested_among t ts e
     by false e = last ts
 
--- the folders of a name add its suffix alone
+-- The folders of a name add only its suffix.
 own_add : (n : Name) → IsName n → (ts : List Name) → fold with_name ts (map suffix (folders_of n)) ≡ with_name ts (suffix n)
 own_add n h ts =
     nothing_added (suffix n) (listed (template_of n) ++ flat_map (λ p. with_template (with_prefix n p)) (cuts (prefix n))) (with_name ts (suffix n)) (now_there ts (suffix n)) (own_keep n h)
@@ -163,7 +154,7 @@ all_add (n ∷ ns) ts a =
     ∙ ap (λ us. fold with_name us (map suffix (flat_map folders_of ns))) (own_add n (All-head IsName n ns a) ts)
     ∙ all_add ns (with_name ts (suffix n)) (All-tail IsName n ns a)
 
--- a list without repetitions has the types of the whole list
+-- A list without repetitions has the types of the whole list.
 module _ (ns : List Name) (x : Name) where
   one_more : (b : Bool) → is_among x ns ≡ b → types_of (cond b ns (ns ++ x ∷ [])) ≡ with_name (types_of ns) (suffix x)
   one_more true e = sym (with_known (suffix x) (types_of ns) (among_all (suffix x) (map suffix ns) (made_among suffix x ns (tested_among x ns e))))
@@ -176,7 +167,7 @@ firsts_keep (x ∷ xs) ns = firsts_keep xs (with_name ns x) ∙ ap (λ ts. fold 
 pub folders_keep_types : FoldersKeepTypes
 folders_keep_types ns a = firsts_keep (flat_map folders_of ns) [] ∙ all_add ns [] a
 
--- ---- no name is called as a type
+-- ---- no name is a type's word
 
 pub words_are_no_names : WordsAreNoNames
 unfolding name_of

@@ -1,23 +1,12 @@
 -- Laws of the walk: what it finds first for a file name is what is taken for it, and nothing else is.
-use Rattle.std.proofs.Common.{◌≡◌, ℕ, ◌<◌, ◌≤◌, Bool, true, false, cond, Option, Some, None, List, [], ◌∷◌, length, get_or, refl, ap, sym, ◌∙◌, subst, inl, inr, arith}
-use Rattle.std.specs.Prelude.{◌↔◌, ◌⊎◌, slice_get}
-use Rattle.std.specs.Option.{option_and_then}
+use Rattle.std.proofs.Common.{[], ◌<◌, ◌↔◌, ◌∙◌, ◌∷◌, ◌≡◌, ◌≤◌, ◌⊎◌, ap, arith, Bool, cond, false, get_or, inl, inr, length, List, None, Option, refl, slice_get, Some, subst, sym, true, ℕ}
 use Rattle.std.proofs.lemmas.Bool.{cases_lt}
-use Rattle.std.proofs.lemmas.Option.{none-some, same_Some, slice_get-get_or, get_or_from_slice_get, slice_get_within}
-use Rattle.load_path.specs.Paths.{PathParts}
-use Rattle.path_maps.specs.Views.{View, seen_at}
-use Rattle.edit_sums.specs.declared.contents.Content.{Content}
-use Rattle.edit_sums.specs.declared.contents.Content.TheVariants.{Gone, Link, File}
-use Rattle.dropins.specs.Taken.Candidate.{Mask, At}
-use Rattle.dropins.specs.declared.precedence.Search.{Search}
-use Rattle.dropins.specs.declared.precedence.Search.TheVariants.{DropIns, Links}
-use Rattle.dropins.specs.Taken.{Candidate, is_conf, is_null, content_as_drop_in, as_found, candidate_at, Stands, IsTaken, TakenFor}
-use Rattle.load_places.specs.Levels.{levels}
-use Rattle.load_places.specs.LevelLaws.{level_is}
-use Rattle.dropins.specs.Walks.{path, taken_in, taken}
-use Rattle.list_laws.specs.FirstSaid.{IsFirst, first_is, none_says}
+use Rattle.std.proofs.lemmas.Option.{get_or_from_slice_get, none-some, same_Some, slice_get-get_or, slice_get_within}
+use Rattle.std.specs.Option.{option_and_then}
+use Rattle.dropins.specs.Prelude.{Content, File, first_is, Gone, HostViewMap, IsFirst, level_is, levels, Link, none_says, PathParts, viewed_at}
+use Rattle.dropins.specs.{declared.precedence.Search.Search, declared.precedence.Search.TheVariants.DropIns, declared.precedence.Search.TheVariants.Links, Taken.as_found, Taken.Candidate, Taken.Candidate.At, Taken.Candidate.Mask, Taken.candidate_at, Taken.content_as_drop_in, Taken.is_conf, Taken.is_null, Taken.IsTaken, Taken.Stands, Taken.TakenFor, Walks.path, Walks.taken, Walks.taken_in}
 
--- ---- a candidate that is a path stands at that path
+-- ---- a candidate that gives a path is at that path
 
 unfoldable pub path_or : PathParts → Option Candidate → PathParts
 path_or q None = q
@@ -54,25 +43,25 @@ unfolding path_or
 found_path x q None = refl
 found_path x q (Some c) = content_path x q c
 
-pub stands_there : (s : View) (x : Search) (p q : PathParts) → candidate_at s x q ≡ Some (At p) → q ≡ p
+pub stands_there : (s : HostViewMap) (x : Search) (p q : PathParts) → candidate_at s x q ≡ Some (At p) → q ≡ p
 unfolding path_or
-stands_there s x p q h = sym (found_path x q (seen_at s q)) ∙ ap (path_or q) h
+stands_there s x p q h = sym (found_path x q (viewed_at s q)) ∙ ap (path_or q) h
 
 -- ---- the walk
 
 parts : (p : PathParts) (r : ℕ) (d f : List ℕ) → p.rank ≡ r → p.folder ≡ d → p.name ≡ f → p ≡ path r d f
 parts p r d f a b c = ap (λ y. path y p.folder p.name) a ∙ ap (λ y. path r y p.name) b ∙ ap (path r d) c
 
-module _ (s : View) (x : Search) (ds : List (List ℕ)) where
-  -- where nothing is found, nothing stands
+module _ (s : HostViewMap) (x : Search) (ds : List (List ℕ)) where
+  -- If nothing is found, there is no candidate.
   pub none_stands : (f : List ℕ) → taken s x ds f ≡ None → (c : Candidate) (p : PathParts) (i : ℕ) → Stands s x ds c p i → p.name ≡ f → ⊥
   none_stands f h c p i st e =
       let folder = get_or_from_slice_get ds i p.folder [] st.folder_is in
       let none = none_says (λ d. candidate_at s x (path p.rank d f)) ds [] (ap (taken_in s x ds f) (sym (level_is p.rank 0 st.level_within)) ∙ none_says (taken_in s x ds f) levels 0 h p.rank st.level_within) i (slice_get_within ds i p.folder st.folder_is) in
       none-some _ (sym none ∙ ap (candidate_at s x) (sym (parts p p.rank (get_or ds i []) f refl (sym folder) e)) ∙ st.says)
 
--- what is found first is taken
-module _ (s : View) (x : Search) (ds : List (List ℕ)) (f : List ℕ) (c : Candidate) (h : taken s x ds f ≡ Some c) where
+-- What is found first is taken.
+module _ (s : HostViewMap) (x : Search) (ds : List (List ℕ)) (f : List ℕ) (c : Candidate) (h : taken s x ds f ≡ Some c) where
   first_level_said : IsFirst (taken_in s x ds f) levels 0 c
   first_level_said = first_is (taken_in s x ds f) levels 0 c h
 
@@ -106,8 +95,8 @@ module _ (s : View) (x : Search) (ds : List (List ℕ)) (f : List ℕ) (c : Cand
     };
   }
 
-module _ (s : View) (x : Search) (ds : List (List ℕ)) where
-  -- for a file name one candidate at most is taken
+module _ (s : HostViewMap) (x : Search) (ds : List (List ℕ)) where
+  -- At most one candidate is taken for a file name.
   pub taken_once : (c d : Candidate) (p q : PathParts) → IsTaken s x ds c p → IsTaken s x ds d q → p.name ≡ q.name → (p ≡ q) × (c ≡ d)
   taken_once c d p q a b n = by (a.least d q b.place b.stands (sym n)) (b.least c p a.place a.stands n)
     where
@@ -123,7 +112,7 @@ module _ (s : View) (x : Search) (ds : List (List ℕ)) where
       by (inr l) (inl g) = absurd (omega (arith, l.0, g))
       by (inr l) (inr g) = same l.0 (omega (arith, l.1, g.1))
 
-  -- what is taken is found first
+  -- What is taken is found first.
   pub taken_is_found : (c : Candidate) (p : PathParts) → IsTaken s x ds c p → taken s x ds p.name ≡ Some c
   taken_is_found c p a = by (taken s x ds p.name) refl
     where
@@ -131,13 +120,13 @@ module _ (s : View) (x : Search) (ds : List (List ℕ)) where
       by None h = absurd (none_stands s x ds p.name h c p a.place a.stands refl)
       by (Some d) h = let b = found_is_taken s x ds p.name d h in ap Some (taken_once d c b.path p b.taken a b.name_is).1
 
-  -- a path is found for its file name exactly where it is taken
+  -- A path is found for its file name exactly if it is taken.
   pub found_iff_taken : (p : PathParts) → (taken s x ds p.name ≡ Some (At p)) ↔ IsTaken s x ds (At p) p
   found_iff_taken p = (λ h. by (found_is_taken s x ds p.name (At p) h), taken_is_found (At p) p)
     where
       by : TakenFor s x ds p.name (At p) → IsTaken s x ds (At p) p
       by b = subst (IsTaken s x ds (At p)) (stands_there s x p b.path b.taken.stands.says) b.taken
 
-  -- a path that is found for a file name has it
+  -- A path that is found for a file name has this file name.
   pub found_name : (f : List ℕ) (p : PathParts) → taken s x ds f ≡ Some (At p) → p.name ≡ f
   found_name f p h = let b = found_is_taken s x ds f (At p) h in ap (λ (q : PathParts). q.name) (sym (stands_there s x p b.path b.taken.stands.says)) ∙ b.name_is

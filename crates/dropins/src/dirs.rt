@@ -1,4 +1,4 @@
-//! What the folders are called in which a unit's files are looked for.
+//! The names of the folders in which a unit's files are searched for.
 ghost use Rattle.std.specs.Prelude.{◌≡◌, IfOk, map};
 ghost use Rattle.unit_name.specs.Names.{word};
 ghost use Rattle.dropins.specs.{FolderLists.{is_among, types_of}, Taken.{dirs_with}};
@@ -7,7 +7,7 @@ use plain_values::Bytes;
 use std::alloc::{AllocError, Global};
 use unit_name::{Kind, UnitName};
 
-/// The folders of names with an ending.
+/// Returns the folder name of each unit name: the name with this ending. Fails only if memory runs out.
 pub fn name_dirs(alloc: Global, names: &[UnitName], ending: &[u8]) -> Result<Vec<Bytes>, AllocError>
     ensures dirs { IfOk result (λ dirs. dirs.items ≡ dirs_with ending.now names.now) }
 {
@@ -18,7 +18,8 @@ pub fn name_dirs(alloc: Global, names: &[UnitName], ending: &[u8]) -> Result<Vec
     Ok(dirs)
 }
 
-/// The folders that the types of names have with an ending, each once.
+/// Returns the folder names of the types of these unit names: each type once, with this ending. Fails only if memory
+/// runs out.
 pub fn type_dirs(alloc: Global, names: &[UnitName], ending: &[u8]) -> Result<Vec<Bytes>, AllocError>
     ensures dirs { IfOk result (λ dirs. dirs.items ≡ dirs_with ending.now (types_of names.now)) }
 {
@@ -26,7 +27,7 @@ pub fn type_dirs(alloc: Global, names: &[UnitName], ending: &[u8]) -> Result<Vec
     kind_dirs(alloc, &kinds, ending)
 }
 
-// The folders of kinds with an ending.
+// Returns the folder names of kinds, with this ending.
 fn kind_dirs(alloc: Global, kinds: &[Kind], ending: &[u8]) -> Result<Vec<Bytes>, AllocError>
     ensures dirs { IfOk result (λ dirs. dirs.items ≡ dirs_with ending.now (map word kinds.now)) }
 {
@@ -37,7 +38,7 @@ fn kind_dirs(alloc: Global, kinds: &[Kind], ending: &[u8]) -> Result<Vec<Bytes>,
     Ok(dirs)
 }
 
-// The kinds of names, each once.
+// Returns the kinds of names, each once.
 fn kinds_of(alloc: Global, names: &[UnitName]) -> Result<Vec<Kind>, AllocError>
     ensures kinds { IfOk result (λ kinds. map word kinds.items ≡ types_of names.now) }
 {
@@ -51,7 +52,7 @@ fn kinds_of(alloc: Global, names: &[UnitName]) -> Result<Vec<Kind>, AllocError>
     Ok(kinds)
 }
 
-// Whether a kind is one of these.
+// Returns whether a kind is one of these.
 fn has_kind(kinds: &[Kind], kind: Kind) -> bool
     ensures test { result ≡ is_among (word kind) (map word kinds.now) }
 {

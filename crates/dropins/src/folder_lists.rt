@@ -8,11 +8,11 @@ use std::collections::BTreeSet;
 use std::marker::Model;
 use unit_name::{NameFault, Shape, UnitName};
 
-// Names in the order of their first places, and the same names in a set.
+// Names in the order of their first occurrence, and the same names in a set.
 #[derive(Drop)]
 struct Listing {
     names: Vec<UnitName>,
-    seen: BTreeSet<UnitName>,
+    view: BTreeSet<UnitName>,
 }
 
 impl Listing {
@@ -22,23 +22,23 @@ impl Listing {
     {
         Listing {
             names: Vec::new(alloc),
-            seen: BTreeSet::new(alloc),
+            view: BTreeSet::new(alloc),
         }
     }
 
-    // Adds a name unless it is there.
+    // Adds a name unless it is already listed.
     fn add(&mut self, name: UnitName) -> Result<(), AllocError>
         requires kept { IsKept self.now }
         ensures added { OnOk result (self.new.names.items ≡ with_name self.old.names.items name) }
         ensures kept { OnOk result (IsKept self.new) }
     {
-        if self.seen.insert(name.try_clone()?)? {
+        if self.view.insert(name.try_clone()?)? {
             self.names.push(name)?;
         }
         Ok(())
     }
 
-    // Adds a name, and of an instance its template.
+    // Adds a name, and for an instance its template.
     fn add_with_template(&mut self, name: UnitName) -> Result<(), AllocError>
         requires kept { IsKept self.now }
         ensures added { OnOk result (self.new.names.items ≡ fold with_name self.old.names.items
@@ -73,13 +73,13 @@ impl Listing {
     }
 }
 
-/// The names whose folders hold what is added to a unit of these names (systemd.unit(5),
-/// "Description"), name by name: the name, and its template where it is an instance; then the same
-/// with the prefix cut behind each of its dashes, from the last dash to the first, where that is
-/// shorter. A name that repeats keeps its first place. The folders of types aren't among them.
+/// Returns the names whose folders hold what is added to a unit with these names (systemd.unit(5), "Description"). For
+/// each name these are the name, and its template if it is an instance; then the same for the name with its prefix cut
+/// after each of its dashes, from the last dash to the first, if the cut is shorter than the prefix. A repeated name
+/// keeps its first position. The folders of types aren't included.
 ///
-/// There are at most two for each name and for each dash of one; each is sought in a set of those
-/// before it, so the cost is O(n log n). It fails for want of memory alone.
+/// There are at most two folders for each name and two for each dash in a prefix. Each is looked up in a set of those
+/// before it, so the cost is O(n log n). Fails only if memory runs out.
 pub fn folders(alloc: Global, names: &[UnitName]) -> Result<Vec<UnitName>, AllocError>
     ensures folders { IfOk result (λ all. all.items ≡ folders names.now) }
 {
@@ -95,7 +95,7 @@ pub fn folders(alloc: Global, names: &[UnitName]) -> Result<Vec<UnitName>, Alloc
     Ok(all.names)
 }
 
-// Whether a name is seen to be its only folder, as most are: no set is made for it.
+// Returns true only if a name is its own only folder, as most names are. For such a name no set is made.
 fn is_only_folder(name: &UnitName) -> bool
     ensures only { IsTrue result → folders (name.now ∷ []) ≡ name.now ∷ [] }
 {
@@ -105,7 +105,7 @@ fn is_only_folder(name: &UnitName) -> bool
     }
 }
 
-// A list of one name.
+// Returns a list of one name.
 fn alone(alloc: Global, name: &UnitName) -> Result<Vec<UnitName>, AllocError>
     ensures alone { IfOk result (λ names. names.items ≡ name.now ∷ []) }
 {
@@ -114,8 +114,8 @@ fn alone(alloc: Global, name: &UnitName) -> Result<Vec<UnitName>, AllocError>
     Ok(names)
 }
 
-/// The folders of a unit, listed once for its drop-ins and its links: in contracts the list. Those of types aren't in
-/// it; the names' types say them.
+/// The folders of a unit, listed once for its drop-ins and its links. In contracts it is the list. The folders of types
+/// aren't in it; they follow from the names.
 #[derive(Drop)]
 pub struct UnitFolders {
     names: Vec<UnitName>,
@@ -131,7 +131,7 @@ impl Model for UnitFolders {
 }
 
 impl UnitFolders {
-    /// Those of a unit of these names, as `folders` lists them.
+    /// Returns the folders of a unit with these names, as `folders` lists them. Fails only if memory runs out.
     pub fn of(alloc: Global, names: &[UnitName]) -> Result<UnitFolders, AllocError>
         ensures folders { IfOk result (λ all. all ≡ folders names.now) }
     {
@@ -139,7 +139,7 @@ impl UnitFolders {
         Ok(UnitFolders { names })
     }
 
-    /// The names of the folders, without an ending.
+    /// Returns the names of the folders, without an ending.
     pub fn names(&self) -> &[UnitName]
         ensures names { result.now ≡ self.now }
     {
@@ -147,9 +147,9 @@ impl UnitFolders {
     }
 }
 
-// The name with another prefix.
+// Returns the name with another prefix.
 fn cut_name(alloc: Global, name: &UnitName, prefix: &[u8]) -> Result<UnitName, AllocError>
-    requires lawful { IsName (with_prefix name.now prefix.now) }
+    requires well_formed { IsName (with_prefix name.now prefix.now) }
     ensures cut { IfOk result (λ cut. cut ≡ with_prefix name.now prefix.now) }
 {
     let mut bytes = Vec::from_slice(alloc, prefix)?;

@@ -1,9 +1,10 @@
 //! What is true of all stores and names: laws, each the contract of a function that does nothing.
 ghost use Rattle.dropins.specs.PrecedenceLaws.{LevelsGoFirst, SomethingIsTaken, TakenOnce, MasksHide, FoldersDecide, RemovalsGiveBack};
-ghost use Rattle.dropins.specs.CutLaws.{CutsAreDashedFronts, LongerCutsComeFirst};
+ghost use Rattle.dropins.specs.CutLaws.{CutsAreDashedPrefixes, LongerCutsComeFirst};
 ghost use Rattle.dropins.specs.{FolderLaws.{OneFolder, FoldersAreNames, FoldersStandOnce}, FolderJoinLaws.{FoldersOfEach, FoldersJoin}};
+ghost use Rattle.dropins.specs.FolderOrderLaws.{FoldersOfInstances, FoldersOfOtherNames};
 ghost use Rattle.dropins.specs.HostLaws.{DropInsAreTheFleets, HostsWithoutPlacesHaveTheseDropIns, HostsWithoutPlacesHaveTheseLinks, LinksAreTheFleets};
-ghost use Rattle.dropins.specs.{LentLaws.{LentAreDropIns}, OrderLaws.{OneOrder, DropInsAreFiles}};
+ghost use Rattle.dropins.specs.{BorrowedLaws.{BorrowedAreDropIns}, OrderLaws.{OneOrder, DropInsAreFiles}};
 ghost use Rattle.dropins.specs.OverLaws.{NamesOrElseTypes, SomethingIsTakenOver, OverOnce, FoldersDecideOver, RemovalsGiveBackOver};
 ghost use Rattle.dropins.specs.TypeLaws.{TypesAreKinds, OneType, FoldersKeepTypes, WordsAreNoNames, NoNameHasATypesFolder};
 ghost use Rattle.dropins.specs.TypeFolderLaws.{NamesGoFirst, TypesComeLast, MasksHideTypes, NamesAloneWithoutTypes};
@@ -41,9 +42,9 @@ pub fn type_laws()
     ensures apart { NoNameHasATypesFolder }
 {}
 
-/// What is taken in the folders of names is a drop-in, whatever types' folders have; a mask there hides a type's file.
-/// A drop-in of a type's folder is one of the unit's type, and no name's folder has its file name. Where no type's folder
-/// shows anything, the drop-ins are what is taken in the folders of names.
+/// What is taken in the folders of names is a drop-in, whatever types' folders have; where it is a mask, there is none of its
+/// file name. Where a drop-in is in a type's folder, the type is one of the names', and nothing of its file name stands in a
+/// name's folder. Where no type's folder shows anything, the drop-ins are what is taken in the folders of names.
 pub fn type_folder_laws()
     ensures first { NamesGoFirst }
     ensures last { TypesComeLast }
@@ -56,20 +57,23 @@ pub fn type_folder_laws()
 pub fn order_laws()
     ensures same { OneOrder }
     ensures files { DropInsAreFiles }
-    ensures lent { LentAreDropIns }
+    ensures borrowed { BorrowedAreDropIns }
 {}
 
 /// The folders of names are names, and each stands in the list once; names without dashes and
-/// without an instance have one folder. Several names have the folders of each; those of two lists
+/// without an instance have one folder. An instance has its own, its template's, and the same two for each cut of its
+/// prefix in turn; another name its own, and then one for each cut. Several names have the folders of each; those of two lists
 /// in a row are the first's, then what is new of the second's. What a prefix is cut to are just its
 /// proper fronts that end in a dash, the longer ones first.
 pub fn folder_laws()
     ensures one { OneFolder }
+    ensures instances { FoldersOfInstances }
+    ensures others { FoldersOfOtherNames }
     ensures each { FoldersOfEach }
     ensures joined { FoldersJoin }
     ensures names { FoldersAreNames }
     ensures once { FoldersStandOnce }
-    ensures cuts { CutsAreDashedFronts }
+    ensures cuts { CutsAreDashedPrefixes }
     ensures longer { LongerCutsComeFirst }
 {}
 

@@ -1,8 +1,8 @@
-//! What is taken for each file name of some folders of names and of types.
+//! What is taken for each file name in the folders of names and of types.
 ghost use Rattle.std.specs.{Prelude.{◌≡◌, ℕ, ◌↔◌, List, IfOk, OnOk, Some, None, map}, BTreeMap.{get, IsOrdered}, List.{Contains}};
 ghost use Rattle.std.specs.List.Sorted.{IsStrictlySortedBy};
 ghost use Rattle.std.specs.FinMap as finmap;
-ghost use Rattle.path_maps.specs.Views.{seen as all_seen};
+ghost use Rattle.path_maps.specs.HostViews.{view as all_viewed};
 ghost use Rattle.load_path.specs.Paths.{PathParts};
 ghost use Rattle.edit_sums.specs.Entries.{Entry};
 ghost use Rattle.unit_name.specs.Names.{name_cmp};
@@ -12,11 +12,11 @@ ghost use Rattle.dropins.specs.Walks.{Adds, first_for, path, said_for, take_at, 
 
 use load_places::LEVELS;
 use plain_values::Bytes;
-use replica_store::{Content, LinkTarget, Seen, SeenEntry};
+use replica_store::{Content, HostView, HostViewEntry, LinkTarget};
 use std::alloc::{AllocError, Global};
 use std::collections::BTreeMap;
 
-/// What is looked for in folders.
+/// What is searched for in folders.
 #[derive(Clone, Copy, Debug, PartialEq, Eq)]
 pub enum Search {
     /// Files whose name ends in `.conf`.
@@ -28,57 +28,60 @@ pub enum Search {
 /// What is taken for a file name.
 #[derive(Drop)]
 pub enum Take<'a> {
-    /// A mask: it takes the place and gives nothing.
+    /// A mask: it is taken and gives nothing.
     Nothing,
     /// This entry.
-    Placed(SeenEntry<'a>),
+    Placed(HostViewEntry<'a>),
 }
 
-// What may be taken, by file name, in the order in which it is looked for: of one name the first is taken.
+// The candidates with their file names, in the order in which they are searched for. For each file name the first is
+// taken.
 type Candidates<'a> = Vec<(Bytes, Take<'a>)>;
 
 // What is taken, by file name.
 type TakenByName<'a> = BTreeMap<Bytes, Take<'a>>;
 
-/// What is taken in folders of names, or else in those of types, by file name, without masks.
+/// Returns what is taken in the folders of names, or else in those of types, in byte order of file names and without
+/// masks. Fails only if memory runs out.
 pub fn taken_entries<'a>(
     alloc: Global,
-    seen: &Seen<'a>,
+    view: &HostView<'a>,
     search: Search,
     name_dirs: &[Bytes],
     type_dirs: &[Bytes],
-) -> Result<Vec<SeenEntry<'a>>, AllocError>
-    ensures rising { IfOk result (λ taken. IsStrictlySortedBy name_cmp (map entry_name taken.items)) }
+) -> Result<Vec<HostViewEntry<'a>>, AllocError>
+    ensures ascending { IfOk result (λ taken. IsStrictlySortedBy name_cmp (map entry_name taken.items)) }
     ensures exact { IfOk result (λ taken. (p : PathParts × Entry) → Contains taken.items p ↔
-        (IsTakenOver seen.now search name_dirs.now type_dirs.now (At p.0) p.0
-        × (finmap.get (all_seen seen.now) p.0 ≡ Some p.1))) }
+        (IsTakenOver view.now search name_dirs.now type_dirs.now (At p.0) p.0
+        × (finmap.get (all_viewed view.now) p.0 ≡ Some p.1))) }
 {
-    let takes = taken(alloc, seen, search, name_dirs, type_dirs)?;
+    let takes = taken(alloc, view, search, name_dirs, type_dirs)?;
     unmasked(alloc, takes)
 }
 
-// For each file name what is taken in the folders of names, or else in those of types: each time at the least level, and
-// there in the first of the folders.
+// Returns for each file name what is taken in the folders of names, or else in those of types: in either at the least
+// level, and at that level in the first of the folders.
 //
-// A search in the store for each folder at each level, and then one sort of all that stands there, which comes in runs:
-// O(r log n + p log p) with p paths in r such folders.
+// Costs a search in the store for each folder at each level, and then one sort of all candidates, which come in sorted
+// runs: O(r log n + p log p) with p paths in r such folders.
 fn taken<'a>(
     alloc: Global,
-    seen: &Seen<'a>,
+    view: &HostView<'a>,
     search: Search,
     name_dirs: &[Bytes],
     type_dirs: &[Bytes],
 ) -> Result<TakenByName<'a>, AllocError>
-    ensures taken { IfOk result (λ takes. (f : List ℕ) → get name_cmp takes f ≡ took_over seen.now search
+    ensures taken { IfOk result (λ takes. (f : List ℕ) → get name_cmp takes f ≡ took_over view.now search
         name_dirs.now type_dirs.now f) }
 {
     let mut found = Vec::new(alloc);
-    add_levels(seen, &mut found, search, name_dirs)?;
-    add_levels(seen, &mut found, search, type_dirs)?;
+    add_levels(view, &mut found, search, name_dirs)?;
+    add_levels(view, &mut found, search, type_dirs)?;
     firsts(alloc, found)
 }
 
-// Of each file name the first candidate. The last of several stays in a map, so they are given from behind.
+// Returns the first candidate for each file name. Collecting into a map keeps the last of several, so the candidates
+// are reversed first.
 fn firsts<'a>(alloc: Global, found: Candidates<'a>) -> Result<TakenByName<'a>, AllocError>
     ensures firsts { IfOk result (λ takes. (f : List ℕ) → get name_cmp takes f ≡ first_for found.entry.items f) }
 {
@@ -87,59 +90,59 @@ fn firsts<'a>(alloc: Global, found: Candidates<'a>) -> Result<TakenByName<'a>, A
     found.into_iter().collect(alloc)
 }
 
-// Adds what stands at all levels.
+// Adds the candidates at all levels.
 fn add_levels<'a>(
-    seen: &Seen<'a>,
+    view: &HostView<'a>,
     found: &mut Candidates<'a>,
     search: Search,
     dirs: &[Bytes],
 ) -> Result<(), AllocError>
-    ensures added { OnOk result (Adds found.old.items found.new.items (took seen.now search dirs.now)) }
+    ensures added { OnOk result (Adds found.old.items found.new.items (took view.now search dirs.now)) }
 {
     for level in 0..LEVELS {
-        add_level(seen, found, search, level, dirs)?;
+        add_level(view, found, search, level, dirs)?;
     }
     Ok(())
 }
 
-// Adds what stands at one level.
+// Adds the candidates at one level.
 fn add_level<'a>(
-    seen: &Seen<'a>,
+    view: &HostView<'a>,
     found: &mut Candidates<'a>,
     search: Search,
     level: u8,
     dirs: &[Bytes],
 ) -> Result<(), AllocError>
-    ensures added { OnOk result (Adds found.old.items found.new.items (λ f. took_in seen.now search dirs.now f level)) }
+    ensures added { OnOk result (Adds found.old.items found.new.items (λ f. took_in view.now search dirs.now f level)) }
 {
     for dir in dirs {
-        add_folder(seen, found, search, level, dir.as_slice())?;
+        add_folder(view, found, search, level, dir.as_slice())?;
     }
     Ok(())
 }
 
-// Adds what stands in one folder.
+// Adds the candidates in one folder.
 fn add_folder<'a>(
-    seen: &Seen<'a>,
+    view: &HostView<'a>,
     found: &mut Candidates<'a>,
     search: Search,
     level: u8,
     dir: &[u8],
 ) -> Result<(), AllocError>
-    ensures added { OnOk result (Adds found.old.items found.new.items (λ f. take_at seen.now search (path level dir.now f))) }
+    ensures added { OnOk result (Adds found.old.items found.new.items (λ f. take_at view.now search (path level dir.now f))) }
 {
-    let mut entries = seen.entries_in(level, dir);
+    let mut entries = view.entries_in(level, dir);
     while let Some(placed) = entries.next_entry() {
         add_entry(found, search, placed)?;
     }
     Ok(())
 }
 
-// Adds an entry, unless it says nothing.
+// Adds an entry if it is a candidate.
 fn add_entry<'a>(
     found: &mut Candidates<'a>,
     search: Search,
-    placed: SeenEntry<'a>,
+    placed: HostViewEntry<'a>,
 ) -> Result<(), AllocError>
     ensures added { OnOk result (Adds found.old.items found.new.items (λ f. said_for search f placed.entry)) }
 {
@@ -150,8 +153,8 @@ fn add_entry<'a>(
     Ok(())
 }
 
-// What is taken where an entry comes first.
-fn take_of<'a>(search: Search, placed: SeenEntry<'a>) -> Option<Take<'a>>
+// Returns what is taken if an entry comes first; `None` if it is no candidate.
+fn take_of<'a>(search: Search, placed: HostViewEntry<'a>) -> Option<Take<'a>>
     ensures take { result ≡ take_of search placed.entry }
 {
     match search {
@@ -160,7 +163,7 @@ fn take_of<'a>(search: Search, placed: SeenEntry<'a>) -> Option<Take<'a>>
     }
 }
 
-fn as_drop_in<'a>(placed: SeenEntry<'a>) -> Option<Take<'a>>
+fn as_drop_in<'a>(placed: HostViewEntry<'a>) -> Option<Take<'a>>
     ensures take { result ≡ take_of DropIns placed.entry }
 {
     if !is_conf(placed.name().as_slice()) {
@@ -183,7 +186,7 @@ fn as_drop_in<'a>(placed: SeenEntry<'a>) -> Option<Take<'a>>
     }
 }
 
-fn as_link<'a>(placed: SeenEntry<'a>) -> Option<Take<'a>>
+fn as_link<'a>(placed: HostViewEntry<'a>) -> Option<Take<'a>>
     ensures take { result ≡ take_of Links placed.entry }
 {
     match &placed.entry().content {
@@ -197,22 +200,22 @@ fn as_link<'a>(placed: SeenEntry<'a>) -> Option<Take<'a>>
     }
 }
 
-// Whether a file name is a drop-in's.
+// Returns whether a file name is that of a drop-in.
 fn is_conf(name: &[u8]) -> bool
     ensures test { result ≡ is_conf name.now }
 {
     name.len() > 5 && &name[name.len() - 5..] == b".conf".as_slice()
 }
 
-// Whether a link masks.
+// Returns whether a link is a mask.
 fn is_null(target: &LinkTarget) -> bool
     ensures test { result ≡ is_null target.now }
 {
     target.bytes() == b"/dev/null".as_slice()
 }
 
-// The entries that are taken, by file name, without masks.
-fn unmasked<'a>(alloc: Global, takes: TakenByName<'a>) -> Result<Vec<SeenEntry<'a>>, AllocError>
+// Returns the entries that are taken, by file name and without masks.
+fn unmasked<'a>(alloc: Global, takes: TakenByName<'a>) -> Result<Vec<HostViewEntry<'a>>, AllocError>
     ensures entries { IfOk result (λ taken. taken.items ≡ unmasked takes.entry.entries) }
     ensures ordered { IsOrdered name_cmp takes.entry }
 {

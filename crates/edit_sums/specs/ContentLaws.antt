@@ -1,13 +1,11 @@
 -- The order of contents is total, and only equal contents tie.
-use Rattle.std.proofs.Common.{◌≡◌, ap, refl, arith}
-use Rattle.std.specs.Cmp.{IsTotalOrder, then_total, on_total, nat_cmp_total}
+use Rattle.std.proofs.Common.{◌≡◌, ap, arith, refl}
+use Rattle.std.specs.Cmp.{IsTotalOrder, nat_cmp_total, on_total, then_total}
 use Rattle.std.specs.Cmp.Lexicographic.{nat_list_cmp_total}
-use Rattle.std.specs.FinMap.{slice_cmp-IsAntisymmetric, nat_cmp-IsAntisymmetric}
+use Rattle.std.specs.FinMap.{nat_cmp-IsAntisymmetric, slice_cmp-IsAntisymmetric}
 use Rattle.std.specs.declared.cmp.Ordering.TheVariants.{Equal}
-use Rattle.join_law.specs.VersionOrderLaws.{tied_parts}
-use Rattle.edit_sums.specs.Contents.{sort_of, bytes_of, content_cmp}
-use Rattle.edit_sums.specs.declared.contents.Content.{Content}
-use Rattle.edit_sums.specs.declared.contents.Content.TheVariants.{Gone, Link, File}
+use Rattle.edit_sums.specs.Prelude.{tied_parts}
+use Rattle.edit_sums.specs.{Contents.bytes_of, Contents.content_cmp, Contents.sort_of, declared.contents.Content.Content, declared.contents.Content.TheVariants.File, declared.contents.Content.TheVariants.Gone, declared.contents.Content.TheVariants.Link}
 
 pub content_cmp_total : IsTotalOrder content_cmp
 content_cmp_total = then_total (on_total sort_of nat_cmp_total) (on_total bytes_of nat_list_cmp_total)

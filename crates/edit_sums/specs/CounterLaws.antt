@@ -1,25 +1,19 @@
 -- The greatest counter that a sum or a join holds.
-use Rattle.std.proofs.Common.{◌≡◌, ℕ, ◌≤◌, false, Option, Some, None, List, [], ◌∷◌, ◌++◌, map, inl, inr, refl, ap, subst, ◌∙◌, arith}
+use Rattle.std.proofs.Common.{[], ◌++◌, ◌∙◌, ◌∷◌, ◌≡◌, ◌≤◌, ap, arith, false, inl, inr, List, map, None, Option, refl, Some, subst, ℕ}
+use Rattle.std.proofs.lemmas.Bool.Decides.{nat_tests}
+use Rattle.std.specs.Ordering.{is_gt, nat_cmp, ordering_then}
 use Rattle.std.specs.Prelude.{max}
 use Rattle.std.specs.declared.cmp.Ordering.{Ordering}
-use Rattle.std.specs.declared.cmp.Ordering.TheVariants.{Less, Equal, Greater}
-use Rattle.std.specs.Ordering.{nat_cmp, ordering_then, is_gt}
-use Rattle.std.proofs.lemmas.Bool.Decides.{nat_tests}
+use Rattle.std.specs.declared.cmp.Ordering.TheVariants.{Equal, Greater, Less}
+use Rattle.edit_sums.specs.Prelude.{IsAmong, PlaceParts}
+use Rattle.edit_sums.specs.{declared.entries.Edit.Edit, Entries.Entry, Entries.IsBelow, GreatestLaws.get_from_edits_of, SumLaws.sum_of-edits_of, SumLaws.sum_of-IsSum, Sums.edit_of, Sums.edits_of, Sums.entry_of, Sums.EntryMap, Sums.greatest_counter, Sums.high_among, Sums.high_of, Sums.join, Sums.sum_of}
 use Rattle.std.specs.FinMap as finmap
-use Rattle.list_laws.specs.Members.{IsAmong}
-use Rattle.load_places.specs.Places.{PlaceParts}
-use Rattle.edit_sums.specs.Entries.{Entry}
-use Rattle.edit_sums.specs.declared.entries.Edit.{Edit}
-use Rattle.edit_sums.specs.Entries.{IsBelow}
-use Rattle.edit_sums.specs.GreatestLaws.{get_from_edits_of}
-use Rattle.edit_sums.specs.SumLaws.{sum_of-IsSum, sum_of-edits_of}
-use Rattle.edit_sums.specs.Sums.{EntryMap, entry_of, edit_of, edits_of, sum_of, join, greatest_counter, high_of, high_among}
 
 high_among-append : (xs ys : List Edit) → high_among (xs ++ ys) ≡ max (high_among xs) (high_among ys)
 high_among-append [] ys = omega arith
 high_among-append (x ∷ xs) ys = omega (arith, high_among-append xs ys)
 
--- what is held has the greatest counter of the entries as edits
+-- the greatest counter of a store is that of its entries as edits
 pub high_among-edits_of : (s : EntryMap) → high_among (edits_of s) ≡ high_of s
 high_among-edits_of s = by (finmap.entries s)
   where
@@ -33,7 +27,7 @@ counter_among e [] h = absurd h
 counter_among e (f ∷ fs) (inl h) = let same : f.version.counter ≡ e.version.counter = ap (λ (g : Edit). g.version.counter) h in omega arith
 counter_among e (f ∷ fs) (inr h) = let rest = counter_among e fs h in omega arith
 
--- and it is the least such bound
+-- it is the least such bound
 pub high_among-least : (es : List Edit) (n : ℕ) → ((e : Edit) → IsAmong e es → e.version.counter ≤ n) → high_among es ≤ n
 high_among-least [] n h = omega arith
 high_among-least (e ∷ es) n h =
@@ -49,15 +43,15 @@ not_greater a b r s h = by (nat_cmp a b) refl h
     by Equal e h = grind (arith, nat_tests)
     by Greater e h = cc (h)
 
--- an entry that is at most another has no greater counter
+-- an entry that is at most another has at most its counter
 pub counter_of_below : (x : Entry) (y : Entry) → IsBelow (Some x) (Some y) → x.version.counter ≤ y.version.counter
 counter_of_below x y h = not_greater _ _ _ _ h
 
--- what is held at a place is one of the entries as edits
+-- an entry that a store holds is one of its edits
 pub edits_of-found : (s : EntryMap) (q : PlaceParts) (x : Entry) → finmap.get s q ≡ Some x → IsAmong (edit_of (q, x)) (edits_of s)
 edits_of-found s q x h = (sum_of-IsSum (edits_of s)).found q x (ap (λ (t : EntryMap). finmap.get t q) (sum_of-edits_of s) ∙ h)
 
--- each entry that is held has at most the greatest counter
+-- every entry that is held has at most the greatest counter
 pub high_of-above : (s : EntryMap) (q : PlaceParts) (x : Entry) → finmap.get s q ≡ Some x → x.version.counter ≤ high_of s
 high_of-above s q x h = subst (λ n. x.version.counter ≤ n) (high_among-edits_of s) (counter_among (edit_of (q, x)) (edits_of s) (edits_of-found s q x h))
 

@@ -1,11 +1,10 @@
 -- The entries of stores: contents of unit files with their versions.
 -- Source (a register in which the last writer wins): Shapiro, Preguica, Baquero, Zawirski 2011.
-use Rattle.std.specs.Prelude.{Option}
+use Rattle.std.proofs.Common.{Option}
 use Rattle.std.specs.declared.cmp.Ordering.{Ordering}
+use Rattle.edit_sums.specs.{Contents.content_cmp, declared.contents.Content.Content}
 use Rattle.join_law.specs.VersionOrder as order
 use Rattle.join_law.specs.declared.versions.Entry as versioned
-use Rattle.edit_sums.specs.Contents.{content_cmp}
-use Rattle.edit_sums.specs.declared.contents.Content.{Content}
 
 -- a content with its version
 abbrev pub Entry : Type 0
@@ -15,10 +14,10 @@ Entry = versioned.Entry Content
 abbrev pub entry_cmp : Entry → Entry → Ordering
 entry_cmp = order.entry_cmp content_cmp
 
--- x is at most y; nothing is at most anything
+-- x is at most y; an absent entry is at most every other
 abbrev pub IsBelow : Option Entry → Option Entry → Type 0
 IsBelow = order.IsBelow content_cmp
 
--- the larger of two, where there are two
+-- the greater of two optional entries
 abbrev pub larger : Option Entry → Option Entry → Option Entry
 larger = order.larger content_cmp

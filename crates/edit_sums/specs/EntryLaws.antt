@@ -1,11 +1,9 @@
--- The laws of entries, at the order of contents.
-use Rattle.std.proofs.Common.{◌≡◌, Option, None, ◌⊎◌}
-use Rattle.std.specs.declared.cmp.Ordering.TheVariants.{Equal}
+-- The laws of entries, for the order of contents.
+use Rattle.std.proofs.Common.{◌≡◌, ◌⊎◌, None, Option}
 use Rattle.std.specs.Cmp.{IsTotalOrder}
+use Rattle.std.specs.declared.cmp.Ordering.TheVariants.{Equal}
+use Rattle.edit_sums.specs.{ContentLaws.content_cmp-IsAntisymmetric, ContentLaws.content_cmp_total, Contents.content_cmp, Entries.Entry, Entries.entry_cmp, Entries.IsBelow, Entries.larger}
 use Rattle.join_law.specs.EntryLaws as law
-use Rattle.edit_sums.specs.Contents.{content_cmp}
-use Rattle.edit_sums.specs.ContentLaws.{content_cmp_total, content_cmp-IsAntisymmetric}
-use Rattle.edit_sums.specs.Entries.{Entry, entry_cmp, IsBelow, larger}
 
 pub entry_cmp_total : IsTotalOrder entry_cmp
 entry_cmp_total = law.entry_cmp_total content_cmp content_cmp_total
@@ -32,7 +30,7 @@ larger-right = law.larger-right content_cmp content_cmp_total
 pub larger-least : (x y z : Option Entry) → IsBelow x z → IsBelow y z → IsBelow (larger x y) z
 larger-least = law.larger-least content_cmp content_cmp_total
 
--- the larger is one of the two
+-- the greater is one of the two
 pub larger_cases : (x y : Option Entry) → (larger x y ≡ x) ⊎ (larger x y ≡ y)
 larger_cases = law.larger_cases content_cmp
 

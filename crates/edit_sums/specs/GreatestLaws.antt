@@ -1,22 +1,14 @@
 -- What sums and joins hold at a place.
-use Rattle.std.proofs.Common.{◌≡◌, Bool, true, false, cond, Option, Some, None, List, [], ◌∷◌, ◌++◌, map, refl, sym, ap, subst, ◌∙◌, inl, inr}
-use Rattle.std.specs.Prelude.{filter, unwrap_or, T}
-use Rattle.std.specs.declared.cmp.Ordering.{Ordering}
-use Rattle.std.specs.declared.cmp.Ordering.TheVariants.{Less, Equal, Greater}
-use Rattle.std.specs.Ordering.{eq_by_cmp, is_eq, is_lt, is_gt}
-use Rattle.std.specs.FinMap as finmap
+use Rattle.std.proofs.Common.{[], ◌++◌, ◌∙◌, ◌∷◌, ◌≡◌, ap, Bool, cond, false, filter, inl, inr, List, map, None, Option, refl, Some, subst, sym, T, true, unwrap_or}
 use Rattle.std.specs.FinMap.{find, is_sorted}
 use Rattle.std.specs.FinMap.Entries.{below_all}
+use Rattle.std.specs.Ordering.{eq_by_cmp, is_eq, is_gt, is_lt}
+use Rattle.std.specs.declared.cmp.Ordering.{Ordering}
+use Rattle.std.specs.declared.cmp.Ordering.TheVariants.{Equal, Greater, Less}
+use Rattle.edit_sums.specs.Prelude.{IsAmong, place_cmp, place_cmp-IsAntisymmetric, place_cmp_total, PlaceParts, T-both}
+use Rattle.edit_sums.specs.{declared.entries.Edit.Edit, Entries.Entry, Entries.entry_cmp, Entries.IsBelow, Entries.larger, EntryLaws.below_trans, EntryLaws.larger-least, EntryLaws.larger-left, EntryLaws.larger-right, EntryLaws.larger_assoc, EntryLaws.larger_cases, Sums.edit_of, Sums.edits_of, Sums.entry_of, Sums.EntryMap, Sums.greatest_at, Sums.join, Sums.sum_of, Sums.with_edit}
+use Rattle.std.specs.FinMap as finmap
 use Rattle.std.specs.Cmp.{tied_itself}
-use Rattle.list_laws.specs.Members.{IsAmong}
-use Rattle.load_places.specs.Places.{PlaceParts, place_cmp}
-use Rattle.load_places.specs.PlaceLaws.{place_cmp_total, place_cmp-IsAntisymmetric}
-use Rattle.edit_sums.specs.Entries.{Entry}
-use Rattle.edit_sums.specs.declared.entries.Edit.{Edit}
-use Rattle.edit_sums.specs.Entries.{entry_cmp, IsBelow, larger}
-use Rattle.edit_sums.specs.Sums.{EntryMap, entry_of, edit_of, greatest_at, with_edit, sum_of, edits_of, join}
-use Rattle.edit_sums.specs.EntryLaws.{larger_assoc, larger-left, larger-right, larger-least, larger_cases, below_trans}
-use Rattle.list_laws.specs.Truths.{T-both}
 
 is_equal : (r : Ordering) → is_eq r ≡ true → r ≡ Equal
 is_equal Less h = cc
@@ -84,7 +76,7 @@ greatest_at-found q (f ∷ fs) x h =
       | false ↦ λ t g. inr (greatest_at-found q fs x g)
     ] refl h
 
--- the greatest is at most what each is at most
+-- the greatest is at most everything that each edit is at most
 pub greatest_at-least : (q : PlaceParts) (es : List Edit) (z : Option Entry) → ((e : Edit) → IsAmong e es → e.place ≡ q → IsBelow (Some (entry_of e)) z) → IsBelow (greatest_at q es) z
 greatest_at-least q [] z h = tt
 greatest_at-least q (f ∷ fs) z h =
@@ -94,12 +86,12 @@ greatest_at-least q (f ∷ fs) z h =
       | false ↦ λ t. rest
     ] refl
 
--- more edits, a greater sum
+-- more edits give a greater sum
 pub greatest_at-mono : (q : PlaceParts) (xs ys : List Edit) → ((e : Edit) → IsAmong e xs → IsAmong e ys) → IsBelow (greatest_at q xs) (greatest_at q ys)
 greatest_at-mono q xs ys within =
     greatest_at-least q xs _ (λ e a p. subst (λ (r : PlaceParts). IsBelow (Some (entry_of e)) (greatest_at r ys)) p (greatest_at-above e ys (within e a)))
 
--- the edits of a store
+-- The edits of a store.
 
 not_tied : (r : Ordering) → T (is_lt r) → is_eq r ≡ false
 not_tied Less h = refl
@@ -148,7 +140,7 @@ passed_any : (q : PlaceParts) (y : Option Entry) → passed (λ _. true) q y ≡
 passed_any q None = refl
 passed_any q (Some x) = refl
 
--- the edits of a store give the store back
+-- the sum of a store's edits is the store
 pub greatest_at-edits_of : (q : PlaceParts) (s : EntryMap) → greatest_at q (edits_of s) ≡ finmap.get s q
 greatest_at-edits_of q s =
     ap (greatest_at q) (sym (filter_any (edits_of s))) ∙ greatest_at-filter (λ _. true) q s ∙ passed_any q (finmap.get s q)
@@ -174,7 +166,7 @@ entry_in e (f ∷ fs) h (inr a) =
       | false ↦ λ t. rest
     ] refl
 
--- an edit of a store is what the store has at its place
+-- an edit of a store is the store's entry at its place
 pub get_from_edits_of : (e : Edit) (s : EntryMap) → IsAmong e (edits_of s) → finmap.get s e.place ≡ Some (entry_of e)
 get_from_edits_of e s a = finmap.get-entries s e.place ∙ entry_in e (finmap.entries s) (finmap.entries_sorted s) a
 
@@ -183,7 +175,7 @@ passed_was p q None x h = cc
 passed_was p q (Some y) x h =
     elim (p (edit_of (q, y))) as (λ b. cond b (Some y) None ≡ Some x → Some y ≡ Some x) [ true ↦ λ k. k | false ↦ λ k. cc ] h
 
--- membership
+-- Membership.
 
 pub IsAmong_from_filter : (p : Edit → Bool) (e : Edit) (xs : List Edit) → IsAmong e (filter p xs) → IsAmong e xs
 IsAmong_from_filter p e [] h = absurd h

@@ -1,3 +1,4 @@
+pub mod Prelude
 pub mod ContentLaws
 pub mod Contents
 pub mod CounterLaws

@@ -1,13 +1,13 @@
--- Which bytes a file or a link may have.
+-- Which bytes are allowed in a file or a link.
 -- Source: this project's own.
-use Rattle.std.specs.Prelude.{ℕ, Bool, ◌&&◌, nat_lt, nat_le, List, length}
+use Rattle.std.proofs.Common.{◌&&◌, Bool, length, List, nat_le, nat_lt, ℕ}
 use Rattle.std.specs.List.{list_all}
 
 -- the bytes of a file: at most 65,536
 abbrev pub is_file : List ℕ → Bool
 is_file bytes = nat_le (length bytes) 65536
 
--- printable ASCII but the space
+-- printable ASCII other than the space
 abbrev pub is_graphic : ℕ → Bool
 is_graphic b = nat_le 33 b && nat_le b 126
 

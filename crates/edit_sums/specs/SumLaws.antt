@@ -1,18 +1,12 @@
 -- The laws of sums and joins.
-use Rattle.std.proofs.Common.{◌≡◌, ◌↔◌, true, false, cond, Some, None, List, [], ◌∷◌, ◌++◌, sym, ap, subst, ◌∙◌}
-use Rattle.std.specs.FinMap as finmap
-use Rattle.std.specs.Ordering.{eq_by_cmp}
+use Rattle.std.proofs.Common.{[], ◌++◌, ◌↔◌, ◌∙◌, ◌∷◌, ◌≡◌, ap, cond, false, List, None, Some, subst, sym, true}
 use Rattle.std.specs.FinMap.{same_map}
-use Rattle.list_laws.specs.Members.{IsAmong}
-use Rattle.load_places.specs.Places.{PlaceParts, place_cmp}
-use Rattle.load_places.specs.PlaceLaws.{place_cmp_total, place_cmp-IsAntisymmetric}
-use Rattle.edit_sums.specs.declared.entries.Edit.{Edit}
-use Rattle.edit_sums.specs.Entries.{IsBelow, larger}
-use Rattle.edit_sums.specs.Sums.{EntryMap, entry_of, greatest_at, with_edit, sum_of, edits_of, join, IsAboveEdits, IsStoreBelow, IsSum}
-use Rattle.edit_sums.specs.EntryLaws.{larger_assoc, larger_comm, larger_idem, larger-None, larger-left, larger-right, larger-least, below_refl, below_trans, below_antisym}
-use Rattle.edit_sums.specs.GreatestLaws.{get-with_edit, get-sum_of, get-join, greatest_at-append, greatest_at-edits_of, greatest_at-mono, greatest_at-above, greatest_at-found, greatest_at-least}
+use Rattle.std.specs.Ordering.{eq_by_cmp}
+use Rattle.edit_sums.specs.Prelude.{IsAmong, place_cmp, place_cmp-IsAntisymmetric, place_cmp_total, PlaceParts}
+use Rattle.edit_sums.specs.{declared.entries.Edit.Edit, Entries.IsBelow, Entries.larger, EntryLaws.below_antisym, EntryLaws.below_refl, EntryLaws.below_trans, EntryLaws.larger-least, EntryLaws.larger-left, EntryLaws.larger-None, EntryLaws.larger-right, EntryLaws.larger_assoc, EntryLaws.larger_comm, EntryLaws.larger_idem, GreatestLaws.get-join, GreatestLaws.get-sum_of, GreatestLaws.get-with_edit, GreatestLaws.greatest_at-above, GreatestLaws.greatest_at-append, GreatestLaws.greatest_at-edits_of, GreatestLaws.greatest_at-found, GreatestLaws.greatest_at-least, GreatestLaws.greatest_at-mono, Sums.edits_of, Sums.entry_of, Sums.EntryMap, Sums.greatest_at, Sums.IsAboveEdits, Sums.IsStoreBelow, Sums.IsSum, Sums.join, Sums.sum_of, Sums.with_edit}
+use Rattle.std.specs.FinMap as finmap
 
--- stores that have the same at each place are the same
+-- stores with the same entry at each place are equal
 pub same_store : (s t : EntryMap) → ((q : PlaceParts) → finmap.get s q ≡ finmap.get t q) → s ≡ t
 same_store s t is = same_map place_cmp_total place_cmp-IsAntisymmetric s t is
 
@@ -22,7 +16,7 @@ store_below_refl s q = below_refl (finmap.get s q)
 pub store_below_trans : (s t u : EntryMap) → IsStoreBelow s t → IsStoreBelow t u → IsStoreBelow s u
 store_below_trans s t u h k q = below_trans (finmap.get s q) (finmap.get t q) (finmap.get u q) (h q) (k q)
 
--- stores that are below each other are the same
+-- stores that are below each other are equal
 pub store_below_antisym : (s t : EntryMap) → IsStoreBelow s t → IsStoreBelow t s → s ≡ t
 store_below_antisym s t h k = same_store s t (λ q. below_antisym (finmap.get s q) (finmap.get t q) (h q) (k q))
 
@@ -32,7 +26,7 @@ sum_of-append xs ys =
     (λ q. get-sum_of (xs ++ ys) q ∙ greatest_at-append q xs ys ∙
     sym (get-join (sum_of xs) (sum_of ys) q ∙ ap (λ y. larger y (finmap.get (sum_of ys) q)) (get-sum_of xs q) ∙ ap (larger (greatest_at q xs)) (get-sum_of ys q)))
 
--- a sum depends on which edits there are, and not on their order or number
+-- a sum depends only on the set of edits, not on their order or on repetitions
 pub sum_of-same_edits : (xs ys : List Edit) → ((e : Edit) → IsAmong e xs → IsAmong e ys) → ((e : Edit) → IsAmong e ys → IsAmong e xs) → sum_of xs ≡ sum_of ys
 sum_of-same_edits xs ys there back =
     same_store _ _
@@ -68,7 +62,7 @@ sum_of-IsSum es = record {
   found = λ q x h. greatest_at-found q es x (sym (get-sum_of es q) ∙ h);
 }
 
--- the sum lies below just those stores that are above its edits
+-- a store is above the sum exactly if it is above each of the edits
 pub sum_of-least : (es : List Edit) (s : EntryMap) → IsStoreBelow (sum_of es) s ↔ IsAboveEdits es s
 sum_of-least es s = (
   λ below e a. below_trans (Some (entry_of e)) (finmap.get (sum_of es) e.place) (finmap.get s e.place) ((sum_of-IsSum es).above e a) (below e.place),

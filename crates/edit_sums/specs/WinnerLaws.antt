@@ -1,30 +1,22 @@
--- Which of two edits at one place is held: the order of versions and contents in plain words.
--- Source (the last writer wins): Shapiro, Preguica, Baquero, Zawirski 2011; that ties go by content is this project's own.
-use Rattle.std.proofs.Common.{◌≡◌, ℕ, ◌<◌, true, cond, Some, None, [], ◌∷◌, refl, ap, sym, ◌∙◌, arith}
-use Rattle.std.specs.FinMap as finmap
-use Rattle.std.specs.Ordering.{nat_cmp, ordering_then, eq_by_cmp, is_eq, is_gt}
+-- Which of two edits at one place is held: the order of versions and contents, spelled out.
+-- Source (the last writer wins): Shapiro, Preguica, Baquero, Zawirski 2011; breaking ties by content is this project's
+-- own.
+use Rattle.std.proofs.Common.{[], ◌<◌, ◌∙◌, ◌∷◌, ◌≡◌, ap, arith, cond, None, refl, Some, sym, true, ℕ}
+use Rattle.std.proofs.lemmas.Cmp.{ranked, tied_itself}
 use Rattle.std.specs.Cmp.{nat_cmp_total}
 use Rattle.std.specs.Cmp.Lexicographic.{slice_cmp}
+use Rattle.std.specs.Ordering.{eq_by_cmp, is_eq, is_gt, nat_cmp, ordering_then}
 use Rattle.std.specs.declared.cmp.Ordering.{Ordering}
-use Rattle.std.specs.declared.cmp.Ordering.TheVariants.{Less, Equal, Greater}
-use Rattle.std.proofs.lemmas.Cmp.{ranked, tied_itself}
-use Rattle.join_law.specs.VersionOrder.{version_cmp}
-use Rattle.join_law.specs.VersionOrderLaws.{version_cmp_total}
-use Rattle.load_places.specs.Places.{PlaceParts, place_cmp}
-use Rattle.load_places.specs.PlaceLaws.{place_cmp_total}
-use Rattle.edit_sums.specs.declared.contents.Content.{Content}
-use Rattle.edit_sums.specs.declared.contents.Content.TheVariants.{Gone, Link, File}
-use Rattle.edit_sums.specs.declared.entries.Edit.{Edit}
-use Rattle.edit_sums.specs.Contents.{sort_of, bytes_of, content_cmp}
-use Rattle.edit_sums.specs.Entries.{entry_cmp, larger}
-use Rattle.edit_sums.specs.Sums.{entry_of, greatest_at, sum_of}
-use Rattle.edit_sums.specs.GreatestLaws.{get-sum_of}
+use Rattle.std.specs.declared.cmp.Ordering.TheVariants.{Equal, Greater, Less}
+use Rattle.edit_sums.specs.Prelude.{place_cmp, place_cmp_total, PlaceParts, version_cmp, version_cmp_total}
+use Rattle.edit_sums.specs.{Contents.bytes_of, Contents.content_cmp, Contents.sort_of, declared.contents.Content.Content, declared.contents.Content.TheVariants.File, declared.contents.Content.TheVariants.Gone, declared.contents.Content.TheVariants.Link, declared.entries.Edit.Edit, Entries.entry_cmp, Entries.larger, GreatestLaws.get-sum_of, Sums.entry_of, Sums.greatest_at, Sums.sum_of}
+use Rattle.std.specs.FinMap as finmap
 
 -- of two edits at one place the first is held
 abbrev pub Wins : Edit → Edit → Type 0
 Wins e f = e.place ≡ f.place → finmap.get (sum_of (e ∷ f ∷ [])) e.place ≡ Some (entry_of e)
 
--- a removal is less than a link and a file, and a link is less than a file
+-- a removal is less than a link or a file, and a link is less than a file
 abbrev pub IsLesserSort : Content → Content → Type 0
 IsLesserSort Gone Gone = ⊥
 IsLesserSort Gone (Link target) = Unit {0}
@@ -38,11 +30,11 @@ IsLesserSort (File bytes) other = ⊥
 abbrev pub CountersDecide : Type 0
 CountersDecide = (e f : Edit) → f.version.counter < e.version.counter → Wins e f
 
--- Under one counter the greater writer wins.
+-- For equal counters the greater writer wins.
 abbrev pub WritersDecide : Type 0
 WritersDecide = (e f : Edit) → f.version.counter ≡ e.version.counter → f.version.writer < e.version.writer → Wins e f
 
--- Under one version files win over links, and links over removals.
+-- For equal versions files win over links, and links over removals.
 abbrev pub SortsDecide : Type 0
 SortsDecide = (e f : Edit) → f.version ≡ e.version → IsLesserSort f.content e.content → Wins e f
 

@@ -1,4 +1,4 @@
-//! What a place holds.
+//! Contents: what a place holds.
 ghost use Rattle.std.specs.{Prelude.{◌≡◌, ◌≤◌, ◌⊎◌, length, Err, IsErr, IfOk}, List.{list_all}};
 ghost use Rattle.edit_sums.specs.Limits.{is_target, is_graphic};
 
@@ -14,21 +14,21 @@ pub const FILE_LIMIT: usize = 65_536;
 /// The most bytes of a link's target.
 pub const TARGET_LIMIT: usize = 4_095;
 
-/// Why bytes are no content.
+/// Why bytes can't become a content.
 #[derive(Clone, Copy, Debug, PartialEq, Eq, Error)]
 pub enum ContentFault {
-    /// C1: a file of over 65,536 bytes.
+    /// C1: a file of more than 65,536 bytes.
     #[error("C1 FileTooLarge")]
     FileTooLarge,
-    /// C2: a target without bytes, with over 4,095 of them, or with one outside 33 to 126.
+    /// C2: a target that is empty, has more than 4,095 bytes, or has a byte outside 33 to 126.
     #[error("C2 BadLink")]
     BadLink,
-    /// Memory was refused.
+    /// Memory ran out.
     #[error("out of memory")]
     Memory,
 }
 
-/// The bytes of a file, at most 65,536.
+/// The bytes of a file: at most 65,536.
 #[derive(Debug, Drop)]
 pub struct FileBytes {
     inner: SharedBytes,
@@ -48,7 +48,7 @@ impl Model for FileBytes {
 }
 
 impl FileBytes {
-    /// The bytes. It takes no memory.
+    /// Borrows the bytes. Allocates nothing.
     pub fn bytes(&self) -> &[u8]
         ensures bytes { result.now ≡ self.now }
         ensures within { length result.now ≤ FILE_LIMIT }
@@ -88,10 +88,10 @@ impl LinkTarget {
     ghost use Rattle.std.specs.Prelude.{IsTrue};
     ghost use Rattle.edit_sums.specs.Limits.{is_target};
 
-    /// The bytes. It takes no memory.
+    /// Borrows the bytes. Allocates nothing.
     pub fn bytes(&self) -> &[u8]
         ensures bytes { result.now ≡ self.now }
-        ensures lawful { IsTrue (is_target result.now) }
+        ensures well_formed { IsTrue (is_target result.now) }
     {
         self.target.as_slice()
     }
@@ -105,13 +105,13 @@ impl LinkTarget {
     }
 }
 
-/// What an edit writes at a place: a removal, a symbolic link or a file.
+/// What an edit writes at a place: a removal (tombstone), a symbolic link or a file.
 ///
-/// Contents are ordered removal, link, file, and two of one sort by their bytes; that order
-/// decides between edits that claim one version.
+/// Removals come before links, links before files; two contents of the same kind are ordered by their bytes. This order
+/// decides between edits that have the same version.
 #[derive(Debug, Drop)]
 pub enum Content {
-    /// Nothing: the file or link that was there is removed.
+    /// A tombstone: the file or link that was here is removed.
     Gone,
     /// A symbolic link.
     Link(LinkTarget),
@@ -119,9 +119,9 @@ pub enum Content {
     File(FileBytes),
 }
 
-/// Whether bytes are a lawful target of a link.
-fn is_lawful_target(target: &[u8]) -> bool
-    ensures lawful { result ≡ is_target target.now }
+// Returns whether bytes are a valid target of a link.
+fn is_well_formed_target(target: &[u8]) -> bool
+    ensures well_formed { result ≡ is_target target.now }
 {
     !target.is_empty() && target.len() <= TARGET_LIMIT && all_graphic(target)
 }
@@ -141,7 +141,8 @@ fn is_printable(b: u8) -> bool
 impl Content {
     ghost use Rattle.edit_sums.specs.{Contents.{file_of, link_of, sort_of, bytes_of}, declared.contents.Content.TheVariants.{Gone}};
 
-    /// A file of these bytes, which aren't copied, or `FileTooLarge`; `Memory` only where they are no more than a file has.
+    /// Makes a file of these bytes without copying them, or returns `FileTooLarge`. `Memory` if memory runs out, which
+    /// happens only for a valid length.
     pub fn file(bytes: Vec<u8>) -> Result<Content, ContentFault>
         ensures made { (result ≡ Err ContentFault.Memory) ⊎ (result ≡ file_of bytes.items) }
         ensures faults { IsErr (file_of bytes.items) → result ≡ file_of bytes.items }
@@ -155,12 +156,13 @@ impl Content {
         }
     }
 
-    /// A symbolic link to this target, which isn't copied, or `BadLink`; `Memory` only where links may have it.
+    /// Makes a symbolic link to this target without copying it, or returns `BadLink`. `Memory` if memory runs out,
+    /// which happens only for a valid target.
     pub fn link(target: Vec<u8>) -> Result<Content, ContentFault>
         ensures made { (result ≡ Err ContentFault.Memory) ⊎ (result ≡ link_of target.items) }
         ensures faults { IsErr (link_of target.items) → result ≡ link_of target.items }
     {
-        if !is_lawful_target(&target) {
+        if !is_well_formed_target(&target) {
             return Err(ContentFault::BadLink);
         }
         match SharedBytes::from_vec(target) {
@@ -169,14 +171,14 @@ impl Content {
         }
     }
 
-    /// A removal.
+    /// Returns a removal.
     pub fn gone() -> Content
         ensures made { result ≡ Gone }
     {
         Content::Gone
     }
 
-    // The place of its sort in the order: removal, link, file.
+    // The rank of its kind in the order: removal, link, file.
     fn sort(&self) -> u8
         ensures sort { result ≡ sort_of self.now }
     {
@@ -197,7 +199,7 @@ impl Content {
             Content::File(file) => file.bytes(),
         }
     }
-    /// An equal content, which shares its bytes. It fails for want of memory alone.
+    /// Returns an equal content that shares its bytes. Fails only if memory runs out.
     pub fn try_clone(&self) -> Result<Content, AllocError>
         ensures copy { IfOk result (λ copy. copy ≡ self.now) }
     {

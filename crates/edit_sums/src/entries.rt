@@ -1,4 +1,4 @@
-//! Entries and edits.
+//! Entries of stores, and edits.
 ghost use Rattle.std.specs.Prelude.{◌≡◌, IfOk};
 ghost use Rattle.edit_sums.specs.Flat.{at_fleet};
 
@@ -9,23 +9,23 @@ use load_places::{Place, Scope};
 use plain_values::Key;
 use std::alloc::AllocError;
 
-/// What a store has at a place: a version and a content, ordered by version, then content. Of two
-/// entries at one place the greater one wins.
+/// What a store holds at a place: a version and a content, ordered by version, then by content. Of two entries at one
+/// place the greater one wins.
 pub type Entry = join_law::Entry<Content>;
 
-/// What a writer does at a place: under a version it writes a content there.
+/// A write to one place: a content with the version of the write.
 #[derive(Debug, PartialEq, Eq, Drop)]
 pub struct Edit {
-    /// Where it writes.
+    /// The place that it writes to.
     pub place: Place,
-    /// The number of the edit.
+    /// The version of the edit.
     pub version: Version,
-    /// What it writes.
+    /// The content that it writes.
     pub content: Content,
 }
 
 impl Edit {
-    /// An equal edit. It fails for want of memory alone.
+    /// Returns an equal edit. Fails only if memory runs out.
     pub fn try_clone(&self) -> Result<Edit, AllocError>
         ensures copy { IfOk result (λ copy. copy ≡ self.now) }
     {
@@ -37,19 +37,19 @@ impl Edit {
     }
 }
 
-/// An edit of a store that knew no hosts: what a writer does at a path. It is the whole fleet's.
+/// An edit from a store without hosts: a write to a path, for the whole fleet.
 #[derive(Debug, PartialEq, Eq, Drop)]
 pub struct FlatEdit {
-    /// Where it writes.
+    /// The path that it writes to.
     pub path: Path,
-    /// The number of the edit.
+    /// The version of the edit.
     pub version: Version,
-    /// What it writes.
+    /// The content that it writes.
     pub content: Content,
 }
 
 impl FlatEdit {
-    /// The fleet's edit that it is, which shares its bytes. It fails for want of memory alone.
+    /// Returns the same edit as one for the whole fleet, with shared bytes. Fails only if memory runs out.
     pub fn at_fleet(&self) -> Result<Edit, AllocError>
         ensures edit { IfOk result (λ edit. edit ≡ at_fleet self.now) }
     {

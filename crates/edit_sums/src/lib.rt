@@ -1,9 +1,13 @@
-//! Edits of unit files, the sum of a list of edits, and the laws of sums. What a store holds is the sum of the
-//! edits that it took: at each place the greatest of them.
+//! Edits of unit files, the sum of a list of edits, and the laws of sums. A store holds the sum of the edits that it
+//! received: at each place the greatest one, so the last writer wins.
 //!
 //! Promise: merge is the least upper bound; the store is its map.
 //!
-//! Sums are defined here from the list of edits, without any store.
+//! Sums are defined from the list of edits alone, without any store.
+//!
+//! - `Content`: a file, a link or a removal; `ContentFault` says why bytes can't become one.
+//! - `Edit` and `Entry`: a write to a place, and what a store holds at a place; `FlatEdit`: an edit without a host.
+//! - `sums_of_edits`, `winners_of_sums`, `order_of_stores`, `joins_of_stores`, `counters_of_sums`: the laws.
 #![tactic(auto)]
 
 mod contents;

@@ -1,5 +1,6 @@
-//! A store that is asked many times: its units are loaded for the first question, and read again where something changed.
-use crate::faults::Fault;
+//! A store that is asked many times: its units are loaded for the first question; later only what changed is read
+//! again.
+use crate::faults::EmbeddingFault;
 use crate::meeting::put;
 use fleet_answers::{Answer, Question, Snapshots, answer_again};
 use plain_values::Items;
@@ -10,11 +11,11 @@ use std::thread::Threads;
 use unit_name::{NameFault, UnitName};
 use worker_rounds::OpenGate;
 
-/// So many workers load where all must be loaded.
+/// The number of workers where everything must be loaded.
 const WORKERS: usize = 4;
 
 /// Asks for the plan of a target, changes a drop-in, and asks again.
-pub fn ask_often(rt: &(impl AllocGlobal + Threads + Sync)) -> Result<Vec<u8>, Fault> {
+pub fn ask_often(rt: &(impl AllocGlobal + Threads + Sync)) -> Result<Vec<u8>, EmbeddingFault> {
     let alloc = rt.alloc();
     let mut node = web_and_database(alloc)?;
     let mut snapshots = Snapshots::new(alloc);
@@ -29,8 +30,8 @@ pub fn ask_often(rt: &(impl AllocGlobal + Threads + Sync)) -> Result<Vec<u8>, Fa
     Ok(text)
 }
 
-// A node with two units, of which one wishes for the other.
-fn web_and_database(alloc: Global) -> Result<Replica, Fault> {
+// A node with two units, of which one has a weak dependency (`Wants=`) on the other.
+fn web_and_database(alloc: Global) -> Result<Replica, EmbeddingFault> {
     let mut node = Replica::new(alloc, 1);
     put(
         &mut node,
@@ -45,15 +46,15 @@ fn web_and_database(alloc: Global) -> Result<Replica, Fault> {
     Ok(node)
 }
 
-/// Writes which units start for a target where none runs, in order: the answer of this store, made from what is remembered
-/// of the one before.
+/// Writes which units start for a target, in order, when none runs. The answer for this store is made from the cached
+/// snapshot of the one before.
 pub fn append_starts(
     rt: &(impl AllocGlobal + Threads + Sync),
     snapshots: &mut Snapshots,
     store: &Store,
     target: &[u8],
     text: &mut Vec<u8>,
-) -> Result<(), Fault> {
+) -> Result<(), EmbeddingFault> {
     let question = plan_of(rt.alloc(), target)?;
     let answer = answer_again(
         rt,
@@ -68,7 +69,7 @@ pub fn append_starts(
     Ok(append_answer(text, &answer)?)
 }
 
-// The question which units start for a target where none runs.
+// The question which units start for a target when none runs.
 fn plan_of(alloc: Global, target: &[u8]) -> Result<Question, NameFault> {
     Ok(Question::Plan(Request {
         host: None,
@@ -77,7 +78,7 @@ fn plan_of(alloc: Global, target: &[u8]) -> Result<Question, NameFault> {
     }))
 }
 
-// Writes the units that start, if the answer is a plan, in a line.
+// Writes a line of the units that start, if the answer is a plan.
 fn append_answer(text: &mut Vec<u8>, answer: &Answer) -> Result<(), AllocError> {
     text.extend_from_slice(b"starts:")?;
     if let Answer::Planned(plan) = answer {
@@ -86,7 +87,7 @@ fn append_answer(text: &mut Vec<u8>, answer: &Answer) -> Result<(), AllocError> 
     text.extend_from_slice(b"\n")
 }
 
-// Writes names, each behind a space.
+// Writes names, each after a space.
 fn append_names(text: &mut Vec<u8>, names: &[UnitName]) -> Result<(), AllocError> {
     for name in names {
         text.extend_from_slice(b" ")?;

@@ -1,14 +1,14 @@
-//! Two nodes that exchange pieces over a channel of bytes, which loses messages, repeats them and changes their order.
-use crate::faults::Fault;
+//! Two nodes exchange pieces over a channel of bytes that loses messages, repeats them and changes their order.
+use crate::faults::EmbeddingFault;
 use crate::meeting::put;
 use crate::messages::{message_of, piece_of};
 use delta_pieces::{delta_for, digest, take};
 use replica_store::Replica;
 use std::alloc::{AllocError, Global};
 
-/// Each node sends all that it holds, an edit a message. The first messages come last and twice, and what was lost is sent
-/// again: whether both then hold the same.
-pub fn exchange_messages(alloc: Global) -> Result<bool, Fault> {
+/// Each node sends all that it holds, one edit in a message. The first messages arrive last and twice, and what was
+/// lost is sent again. Returns whether both then hold the same.
+pub fn exchange_messages(alloc: Global) -> Result<bool, EmbeddingFault> {
     let mut a = Replica::new(alloc, 1);
     let mut b = Replica::new(alloc, 2);
     put(&mut a, b"/etc/systemd/system/x.service", b"[Unit]\n")?;
@@ -30,22 +30,22 @@ pub fn exchange_messages(alloc: Global) -> Result<bool, Fault> {
 }
 
 // Gives a node what a message carries.
-fn give(node: &mut Replica, message: &[u8]) -> Result<(), Fault> {
+fn give(node: &mut Replica, message: &[u8]) -> Result<(), EmbeddingFault> {
     let alloc = node.store().allocator();
     match take(node, piece_of(alloc, message)?) {
         Ok(_) => Ok(()),
-        Err(_) => Err(Fault::Memory(AllocError)),
+        Err(_) => Err(EmbeddingFault::Memory(AllocError)),
     }
 }
 
-// All that a node holds, an edit a message: what one lacks that holds nothing.
-fn messages_of(alloc: Global, node: &Replica) -> Result<Vec<Vec<u8>>, Fault> {
+// All that a node holds, one edit in a message: what a node lacks that holds nothing.
+fn messages_of(alloc: Global, node: &Replica) -> Result<Vec<Vec<u8>>, EmbeddingFault> {
     let nothing = digest(alloc, &Replica::new(alloc, 0))?;
     let mut left = delta_for(alloc, node, &nothing)?;
     let mut messages = Vec::new(alloc);
     for _ in 0..left.len() {
         let Ok((first, others)) = left.split(1) else {
-            return Err(Fault::Memory(AllocError));
+            return Err(EmbeddingFault::Memory(AllocError));
         };
         messages.push(message_of(alloc, &first)?)?;
         left = others;

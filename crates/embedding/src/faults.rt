@@ -6,22 +6,22 @@ use std::alloc::{AllocError, AllocFailed};
 use thiserror::Error;
 use unit_name::NameFault;
 
-/// What may go wrong here.
+/// What may go wrong in these examples.
 #[derive(Debug, Drop, Error)]
-pub enum Fault {
-    /// A text that is no place.
+pub enum EmbeddingFault {
+    /// A text that writes no place.
     #[error("{0}")]
     Place(#[from] PlaceFault),
     /// Bytes that are no content.
     #[error("{0}")]
     Content(#[from] ContentFault),
-    /// An edit that a replica doesn't make.
+    /// An edit that a replica refuses.
     #[error("{0}")]
     Edit(#[from] EditFault),
     /// Bytes that are no unit's name.
     #[error("{0}")]
     Name(#[from] NameFault),
-    /// A script that isn't answered to its end.
+    /// A script that wasn't answered to its end.
     #[error("{0}")]
     Script(#[from] ShellFault),
     /// A question without an answer.
@@ -30,16 +30,16 @@ pub enum Fault {
     /// Bytes that are no message.
     #[error("no message")]
     Message,
-    /// A node that threads share refused what was asked of it.
+    /// A node that threads share refused a call.
     #[error("the node refused")]
     Node,
-    /// Memory was refused.
+    /// Memory ran out.
     #[error("out of memory")]
     Memory(#[from] AllocError),
 }
 
-impl<T: Drop> From<AllocFailed<T>> for Fault {
-    fn from(_fault: AllocFailed<T>) -> Fault {
-        Fault::Memory(AllocError)
+impl<T: Drop> From<AllocFailed<T>> for EmbeddingFault {
+    fn from(_fault: AllocFailed<T>) -> EmbeddingFault {
+        EmbeddingFault::Memory(AllocError)
     }
 }

@@ -9,27 +9,22 @@
 mod asking;
 mod exchanging;
 mod faults;
+mod lines;
 mod meeting;
 mod messages;
 mod scripts;
 mod sharing;
 
-use faults::Fault;
+use faults::EmbeddingFault;
+use lines::truth_of;
 use script_pipes::{Watched, write_all};
-use std::alloc::Global;
 use std::io;
 use std::process::ExitCode;
 use std::sync::Wait;
 use std::thread::Threads;
 
-// A line that says whether something holds.
-fn truth_of(alloc: Global, what: &str, holds: bool) -> Result<Vec<u8>, Fault> {
-    let line = format!(in alloc; "{what}: {holds}\n")?;
-    Ok(Vec::from_slice(alloc, line.as_bytes())?)
-}
-
 // What all ways come to, one behind another.
-fn shown(rt: &(impl AllocGlobal + Threads + Wait + Sync)) -> Result<Vec<u8>, Fault> {
+fn shown(rt: &(impl AllocGlobal + Threads + Wait + Sync)) -> Result<Vec<u8>, EmbeddingFault> {
     let alloc = rt.alloc();
     let mut text = scripts::answers_to(
         rt,
@@ -39,14 +34,14 @@ fn shown(rt: &(impl AllocGlobal + Threads + Wait + Sync)) -> Result<Vec<u8>, Fau
     text.extend_from_slice(&asking::ask_often(rt)?)?;
     let alike = exchanging::exchange_messages(alloc)?;
     text.extend_from_slice(&truth_of(alloc, "exchanged alike", alike)?)?;
-    let (told, takes) = sharing::share(rt)?;
+    let (told, takes) = sharing::edit_from_threads(rt)?;
     text.extend_from_slice(&told)?;
     text.extend_from_slice(format!(in alloc; "takes by threads: {takes}\n")?.as_bytes())?;
     Ok(text)
 }
 
 // What all ways come to, or why one of them came to nothing.
-fn told(rt: &(impl AllocGlobal + Threads + Wait + Sync)) -> Result<Vec<u8>, Fault> {
+fn told(rt: &(impl AllocGlobal + Threads + Wait + Sync)) -> Result<Vec<u8>, EmbeddingFault> {
     match shown(rt) {
         Ok(text) => Ok(text),
         Err(fault) => {

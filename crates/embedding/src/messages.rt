@@ -1,9 +1,9 @@
-//! Pieces as bytes, for any channel that carries bytes: a file, a pipe, a socket, a queue. The libraries prescribe no such
-//! form; this is one.
+//! Pieces as bytes, for any channel that carries bytes: a file, a pipe, a socket, a queue. This is one format; the
+//! libraries prescribe none.
 //!
-//! A message is edits, one behind another: counter and writer of the version, the sort of the content, and the lengths of the
-//! place's text and of the content, each as eight bytes, the greatest first; then these two.
-use crate::faults::Fault;
+//! A message is a sequence of edits. Each has the counter and writer of its version, the kind of its content, and the
+//! lengths of the place's text and of the content, each in eight bytes, the most significant first; then the two texts.
+use crate::faults::EmbeddingFault;
 use delta_pieces::Piece;
 use join_law::Version;
 use replica_store::{Content, Edit, Entry, Place};
@@ -52,7 +52,7 @@ fn append_edit(message: &mut Vec<u8>, place: &[u8], entry: &Entry) -> Result<(),
 }
 
 /// The piece that a message carries.
-pub fn piece_of(alloc: Global, message: &[u8]) -> Result<Piece, Fault> {
+pub fn piece_of(alloc: Global, message: &[u8]) -> Result<Piece, EmbeddingFault> {
     let mut rest = Rest { bytes: message };
     let mut edits = Vec::new(alloc);
     for _ in 0..message.len() {
@@ -64,18 +64,18 @@ pub fn piece_of(alloc: Global, message: &[u8]) -> Result<Piece, Fault> {
     Ok(Piece::from_edits(alloc, &edits)?)
 }
 
-// What is left of a message.
+// The rest of a message.
 #[derive(Drop)]
 struct Rest<'a> {
     bytes: &'a [u8],
 }
 
 impl<'a> Rest<'a> {
-    // The next bytes, so many.
-    fn take(&mut self, count: u64) -> Result<&'a [u8], Fault> {
+    // The next bytes, `count` of them.
+    fn take(&mut self, count: u64) -> Result<&'a [u8], EmbeddingFault> {
         let bytes = self.bytes;
         if count > bytes.len() as u64 {
-            return Err(Fault::Message);
+            return Err(EmbeddingFault::Message);
         }
         let count = count as usize;
         self.bytes = &bytes[count..];
@@ -83,7 +83,7 @@ impl<'a> Rest<'a> {
     }
 
     // The next number.
-    fn number(&mut self) -> Result<u64, Fault> {
+    fn number(&mut self) -> Result<u64, EmbeddingFault> {
         let mut number: u64 = 0;
         for byte in self.take(8)? {
             number = number << 8 | *byte as u64;
@@ -92,10 +92,10 @@ impl<'a> Rest<'a> {
     }
 
     // The next edit.
-    fn edit(&mut self, alloc: Global) -> Result<Edit, Fault> {
+    fn edit(&mut self, alloc: Global) -> Result<Edit, EmbeddingFault> {
         let counter = self.number()?;
         let Ok(writer) = u32::try_from(self.number()?) else {
-            return Err(Fault::Message);
+            return Err(EmbeddingFault::Message);
         };
         let sort = self.number()?;
         let (place_bytes, content_bytes) = (self.number()?, self.number()?);
@@ -109,12 +109,12 @@ impl<'a> Rest<'a> {
     }
 }
 
-// The content of this sort.
-fn content_of(alloc: Global, sort: u64, bytes: &[u8]) -> Result<Content, Fault> {
+// The content of this kind.
+fn content_of(alloc: Global, sort: u64, bytes: &[u8]) -> Result<Content, EmbeddingFault> {
     match sort {
         FILE => Ok(Content::file(Vec::from_slice(alloc, bytes)?)?),
         LINK => Ok(Content::link(Vec::from_slice(alloc, bytes)?)?),
         GONE => Ok(Content::gone()),
-        _ => Err(Fault::Message),
+        _ => Err(EmbeddingFault::Message),
     }
 }

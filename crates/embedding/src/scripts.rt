@@ -4,7 +4,7 @@ use script_pipes::Watched;
 use std::sync::Wait;
 use std::thread::Threads;
 
-/// What a script is answered.
+/// The answers to a script.
 pub fn answers_to(
     rt: &(impl AllocGlobal + Threads + Wait + Sync),
     script: &[u8],

@@ -3,7 +3,8 @@
 ghost use Rattle.std.specs.Prelude.{◌≡◌};
 
 use crate::asking::append_starts;
-use crate::faults::Fault;
+use crate::faults::EmbeddingFault;
+use crate::lines::truth_of;
 use fleet_answers::Snapshots;
 use node_histories::NodeName;
 use replica_store::{Content, Place, Replica};
@@ -18,10 +19,12 @@ use std::thread::Threads;
 const SEATS: usize = 4;
 
 /// What the seat was answered, and how many takes the node counted when it was closed.
-pub fn share<R: AllocGlobal + Threads + Wait + Sync>(rt: &R) -> Result<(Vec<u8>, u64), Fault> {
+pub fn edit_from_threads<R: AllocGlobal + Threads + Wait + Sync>(
+    rt: &R,
+) -> Result<(Vec<u8>, u64), EmbeddingFault> {
     match Blank::new(rt, Replica::new(rt.alloc(), 1), SEATS) {
         Ok(blank) => share_at::<Brand, R>(rt, blank),
-        Err(_) => Err(Fault::Node),
+        Err(_) => Err(EmbeddingFault::Node),
     }
 }
 
@@ -29,7 +32,7 @@ pub fn share<R: AllocGlobal + Threads + Wait + Sync>(rt: &R) -> Result<(Vec<u8>,
 fn share_at<N: NodeName + Send + Sync, R: AllocGlobal + Threads + Wait + Sync>(
     rt: &R,
     blank: Blank,
-) -> Result<(Vec<u8>, u64), Fault>
+) -> Result<(Vec<u8>, u64), EmbeddingFault>
     requires book { blank.book ≡ N.book }
     requires opening { blank.opening ≡ N.opening }
     requires seats { blank.seats ≡ N.seats }
@@ -50,16 +53,18 @@ fn work_all<N: NodeName + Send + Sync, R: AllocGlobal + Threads + Wait + Sync>(
     rt: &R,
     node: &Node<N>,
     text: &mut Vec<u8>,
-) -> Result<Vec<Seat<N>>, Fault> {
+) -> Result<Vec<Seat<N>>, EmbeddingFault> {
     let alloc = rt.alloc();
     let seats = seats_of(rt, alloc, node)?;
-    let work_one = |seat: Seat<N>| -> Result<Seat<N>, Fault> { work(rt, alloc, node, seat) };
+    let work_one = |seat: Seat<N>| -> Result<Seat<N>, EmbeddingFault> {
+        work(rt, alloc, node, seat)
+    };
     let mut back = Vec::new(alloc);
     for seat in thread::map_vec(rt, seats, &work_one)? {
         back.push(seat?)?;
     }
     let Some(seat) = back.pop() else {
-        return Err(Fault::Node);
+        return Err(EmbeddingFault::Node);
     };
     back.push(ask_twice(rt, node, seat, text)?)?;
     Ok(back)
@@ -70,11 +75,11 @@ fn seats_of<N: NodeName, R: Wait>(
     rt: &R,
     alloc: Global,
     node: &Node<N>,
-) -> Result<Vec<Seat<N>>, Fault> {
+) -> Result<Vec<Seat<N>>, EmbeddingFault> {
     let mut seats = Vec::new(alloc);
     for _ in 0..SEATS {
         let Ok(seat) = node.seat(rt) else {
-            return Err(Fault::Node);
+            return Err(EmbeddingFault::Node);
         };
         seats.push(seat)?;
     }
@@ -87,16 +92,20 @@ fn work<N: NodeName, R: Wait>(
     alloc: Global,
     node: &Node<N>,
     seat: Seat<N>,
-) -> Result<Seat<N>, Fault> {
+) -> Result<Seat<N>, EmbeddingFault> {
     let text = format!(in alloc; "/etc/systemd/system/thread-{}.service", seat.number())?;
     let place = Place::parse(alloc, text.as_bytes())?;
     let seat = edit(rt, alloc, node, seat, &place, b"[Unit]\n")?;
     let Ok(view) = seat.view() else {
-        return Err(Fault::Node);
+        return Err(EmbeddingFault::Node);
     };
     let stands = view.store().visible(&place).is_some();
     let seat = view.leave();
-    if stands { Ok(seat) } else { Err(Fault::Node) }
+    if stands {
+        Ok(seat)
+    } else {
+        Err(EmbeddingFault::Node)
+    }
 }
 
 // Puts a file from a seat.
@@ -107,34 +116,41 @@ fn edit<N: NodeName, R: Wait>(
     seat: Seat<N>,
     place: &Place,
     text: &[u8],
-) -> Result<Seat<N>, Fault> {
+) -> Result<Seat<N>, EmbeddingFault> {
     let mut seat = seat;
     let content = Content::file(Vec::from_slice(alloc, text)?)?;
     match node.edit(rt, &mut seat, place.try_clone()?, content) {
         Ok(_) => Ok(seat),
-        Err(_) => Err(Fault::Node),
+        Err(_) => Err(EmbeddingFault::Node),
     }
 }
 
-// Asks what is viewed, edits, and asks what is viewed then: only what changed is read again.
+// Asks what is viewed, edits, and asks what is viewed then, where only what changed is read again; and whether that is the answer
+// of the same view where nothing is remembered.
 fn ask_twice<N: NodeName, R: AllocGlobal + Threads + Wait + Sync>(
     rt: &R,
     node: &Node<N>,
     seat: Seat<N>,
     text: &mut Vec<u8>,
-) -> Result<Seat<N>, Fault> {
-    let mut snapshots = Snapshots::new(rt.alloc());
-    let place = Place::parse(rt.alloc(), b"/etc/systemd/system/thread-0.service")?;
-    let seat = ask(rt, seat, &mut snapshots, text)?;
+) -> Result<Seat<N>, EmbeddingFault> {
+    let alloc = rt.alloc();
+    let mut snapshots = Snapshots::new(alloc);
+    let place = Place::parse(alloc, b"/etc/systemd/system/thread-0.service")?;
+    let (seat, first) = ask(rt, seat, &mut snapshots)?;
     let seat = edit(
         rt,
-        rt.alloc(),
+        alloc,
         node,
         seat,
         &place,
         b"[Unit]\nRequires=thread-1.service\n",
     )?;
-    ask(rt, seat, &mut snapshots, text)
+    let (seat, second) = ask(rt, seat, &mut snapshots)?;
+    let (seat, anew) = ask(rt, seat, &mut Snapshots::new(alloc))?;
+    text.extend_from_slice(&first)?;
+    text.extend_from_slice(&second)?;
+    text.extend_from_slice(&truth_of(alloc, "asked again alike", second == anew)?)?;
+    Ok(seat)
 }
 
 // Asks what is viewed.
@@ -142,24 +158,28 @@ fn ask<N: NodeName>(
     rt: &(impl AllocGlobal + Threads + Sync),
     seat: Seat<N>,
     snapshots: &mut Snapshots,
-    text: &mut Vec<u8>,
-) -> Result<Seat<N>, Fault> {
+) -> Result<(Seat<N>, Vec<u8>), EmbeddingFault> {
     let Ok(view) = seat.view() else {
-        return Err(Fault::Node);
+        return Err(EmbeddingFault::Node);
     };
-    let told = append_starts(rt, snapshots, view.store(), b"thread-0.service", text);
+    let mut text = Vec::new(rt.alloc());
+    let told = append_starts(rt, snapshots, view.store(), b"thread-0.service", &mut text);
     let seat = view.leave();
     told?;
-    Ok(seat)
+    Ok((seat, text))
 }
 
 // Closes a node with all its seats.
-fn close<N: NodeName, R: Wait>(rt: &R, node: Node<N>, seats: Vec<Seat<N>>) -> Result<u64, Fault> {
+fn close<N: NodeName, R: Wait>(
+    rt: &R,
+    node: Node<N>,
+    seats: Vec<Seat<N>>,
+) -> Result<u64, EmbeddingFault> {
     match node.close(rt, seats) {
         Ok(closed) => Ok(closed.takes),
         Err(fault) => {
             fault.end(rt);
-            Err(Fault::Node)
+            Err(EmbeddingFault::Node)
         }
     }
 }

@@ -1,36 +1,22 @@
 -- Names and places that are compared.
-use Rattle.std.proofs.Common.{◌≡◌, Bool, true, List, [], ◌∷◌, refl, sym, ◌∙◌, subst, inl, inr, length, arith}
-use Rattle.std.specs.Prelude.{◌↔◌, ◌≢◌, ◌⊎◌, ◌==◌, vec_len}
-use Rattle.std.specs.declared.vec.Vec.{Vec}
-use Rattle.std.specs.declared.alloc.Global.{Global}
+use Rattle.std.proofs.Common.{[], ◌==◌, ◌↔◌, ◌∙◌, ◌∷◌, ◌≡◌, ◌≢◌, ◌⊎◌, arith, Bool, inl, inr, length, List, refl, subst, sym, true, vec_len}
 use Rattle.std.proofs.lemmas.Bool.{cases_eq, ne_eqb}
 use Rattle.std.specs.Cmp.Lexicographic.{pointwise}
 use Rattle.std.specs.Ordering.{eq_by_cmp}
-use Rattle.list_laws.specs.Members.{IsAmong}
-use Rattle.load_places.specs.Levels.{Looker}
-use Rattle.load_places.specs.Places.{PlaceParts}
-use Rattle.edit_sums.specs.Sums.{EntryMap, visible_at}
-use Rattle.parallel_load.specs.AskedLaws.{AreSources, asked_for, sources_make_the_load, sources_make_the_size}
-use Rattle.parallel_load.specs.Loads.{LoadMap}
-use Rattle.parallel_load.specs.SameLaws.{same_by}
-use Rattle.path_maps.specs.DifferenceLaws.{changed_or_same}
-use Rattle.path_maps.specs.SeenLaws.{one_looker}
-use Rattle.path_maps.specs.Views.{View, view_of}
-use Rattle.unit_name.specs.Names.{Name, name_cmp}
-use Rattle.fleet_answers.specs.Answers.{IsSnapshot, IsSnapshotOf}
-use Rattle.unit_name.specs.NameLaws.{name_eq-Decides}
-use Rattle.fleet_answers.specs.ShownLaws.{ShowTheSame, snapshots_stay}
+use Rattle.fleet_answers.proofs.Prelude.{AreSources, asked_for, changed_or_same, EntryMap, host_view_of, HostViewMap, IsAmong, IsSnapshot, IsSnapshotOf, LoadMap, Name, name_cmp, name_eq-Decides, one_viewer, PlaceParts, same_by, ShowTheSame, snapshots_stay, sources_make_the_load, sources_make_the_size, Viewer, visible_at}
+use Rattle.std.specs.declared.vec.Vec.{Vec}
+use Rattle.std.specs.declared.alloc.Global.{Global}
 
--- names that a test finds the same
+-- names that a test finds equal
 pub names_same : (xs ys : List Name) → pointwise (eq_by_cmp name_cmp) xs ys ≡ true → xs ≡ ys
 names_same = same_by (eq_by_cmp name_cmp) (λ x y. (name_eq-Decides x y).0)
 
--- places that are told as changed have all at which stores show otherwise
-pub rest_is : (new old : EntryMap) (places told : List PlaceParts) → told ≡ places → ((p : PlaceParts) → IsAmong p places ↔ (visible_at new p ≢ visible_at old p)) → (p : PlaceParts)
-    → IsAmong p told ⊎ (visible_at old p ≡ visible_at new p)
-rest_is new old places told e exact p = by (changed_or_same new old places exact p)
+-- the changed places are all at which stores show different contents
+pub rest_is : (new old : EntryMap) (places returned : List PlaceParts) → returned ≡ places → ((p : PlaceParts) → IsAmong p places ↔ (visible_at new p ≢ visible_at old p)) → (p : PlaceParts)
+    → IsAmong p returned ⊎ (visible_at old p ≡ visible_at new p)
+rest_is new old places returned e exact p = by (changed_or_same new old places exact p)
   where
-    by : IsAmong p places ⊎ (visible_at new p ≡ visible_at old p) → IsAmong p told ⊎ (visible_at old p ≡ visible_at new p)
+    by : IsAmong p places ⊎ (visible_at new p ≡ visible_at old p) → IsAmong p returned ⊎ (visible_at old p ≡ visible_at new p)
     by (inl a) = inl (subst (IsAmong p) (sym e) a)
     by (inr h) = inr (sym h)
 
@@ -39,14 +25,14 @@ none_listed [] e = refl
 none_listed (x ∷ xs) e = absurd (omega arith)
 
 -- what a test finds empty
-pub none_told : {X : Type 0} (xs : Vec X Global) (test : Bool) → test ≡ (vec_len xs == 0) → test ≡ true → xs.items ≡ []
-none_told {X} xs test e t = none_listed xs.items (by (cases_eq (vec_len xs) 0) (sym e ∙ t))
+pub none_returned : {X : Type 0} (xs : Vec X Global) (test : Bool) → test ≡ (vec_len xs == 0) → test ≡ true → xs.items ≡ []
+none_returned {X} xs test e t = none_listed xs.items (by (cases_eq (vec_len xs) 0) (sym e ∙ t))
   where
     by : (vec_len xs ≡ 0) ⊎ ((vec_len xs ≡ 0) → ⊥) → (vec_len xs == 0) ≡ true → length xs.items ≡ 0
     by (inl z) h = omega (arith, z, xs.ok)
     by (inr ne) h = let f = ne_eqb (vec_len xs) 0 ne in cc
 
--- where none is told, stores show the same
+-- if no place changed, stores show the same
 pub same_shown : (new old : EntryMap) (places : List PlaceParts) → places ≡ [] → ((p : PlaceParts) → IsAmong p places ↔ (visible_at new p ≢ visible_at old p)) → ShowTheSame old new
 same_shown new old places none exact p = by (changed_or_same new old places exact p)
   where
@@ -55,7 +41,7 @@ same_shown new old places none exact p = by (changed_or_same new old places exac
     by (inr h) = sym h
 
 -- a snapshot is one for other names that load the same
-pub asked_otherwise : (s : View) (extra names : List Name) (load : LoadMap) → AreSources s extra names → AreSources s names extra → IsSnapshot s extra load
+pub asked_otherwise : (s : HostViewMap) (extra names : List Name) (load : LoadMap) → AreSources s extra names → AreSources s names extra → IsSnapshot s extra load
     → IsSnapshot s names (asked_for names load)
 asked_otherwise s extra names load these those w = record {
   within = λ large. w.within (sources_make_the_size s names extra those these large);
@@ -63,7 +49,7 @@ asked_otherwise s extra names load these those w = record {
 }
 
 -- a snapshot of a store is one of each that shows the same
-pub shown_elsewhere : (s own : EntryMap) (host : Looker) (extra : List Name) (load : LoadMap) → ShowTheSame s own → IsSnapshot (view_of s host) extra load → IsSnapshotOf own load
+pub shown_elsewhere : (s own : EntryMap) (host : Viewer) (extra : List Name) (load : LoadMap) → ShowTheSame s own → IsSnapshot (host_view_of s host) extra load → IsSnapshotOf own load
 shown_elsewhere s own host extra load same made =
-    subst (λ (h : Looker). IsSnapshot (view_of own h) load.extra load) (sym (made.is_load.host_is ∙ one_looker s host))
-    (subst (λ (es : List Name). IsSnapshot (view_of own host) es load) (sym made.is_load.extra_is) (snapshots_stay s own host extra load same made))
+    subst (λ (h : Viewer). IsSnapshot (host_view_of own h) load.extra load) (sym (made.is_load.host_is ∙ one_viewer s host))
+    (subst (λ (es : List Name). IsSnapshot (host_view_of own host) es load) (sym made.is_load.extra_is) (snapshots_stay s own host extra load same made))

@@ -1,20 +1,7 @@
--- What the replica of a node answers, the node does.
-use Rattle.std.proofs.Common.{◌≡◌, ◌↔◌, ℕ, List, ◌++◌, Option, Some, None, sym, subst}
-use Rattle.std.specs.Prelude.{IfSome, reverse, slice_get}
-use Rattle.edit_sums.specs.Sums.{EntryMap, IsAboveEdits, IsStoreBelow, sum_of}
-use Rattle.replica_store.specs.Replicas.{Replicated}
-use Rattle.unit_name.specs.Names.{Name}
-use Rattle.world_law.specs.Took.{IsSumOf, Took}
-use Rattle.world_law.specs.Worlds.{AreSameEdits, EachStoreIsLeast, Node, SameTookSameStore, took_by}
-use Rattle.world_law.specs.declared.events.Event.{Event}
-use Rattle.delta_gossip.specs.Convergence.{AgreesLater as HoldsLater, HoldsSums, HoldsSumsAsTold}
-use Rattle.delta_gossip.specs.Shows.{IsWorld, NodeHolds, took_after, world_after}
-use Rattle.delta_gossip.specs.declared.worlds.World.{World}
-use Rattle.fleet_answers.specs.AnswerLaws.{one_answer}
-use Rattle.fleet_answers.specs.Answers.{IsAnswer}
-use Rattle.fleet_answers.specs.Fleets.{AgreesLater, AnswersAsTold, AnswersItsStore, AnswersItsSum, HoldsLeast, HoldsSameLater}
-use Rattle.fleet_answers.specs.declared.questions.Answer.{Answer}
-use Rattle.fleet_answers.specs.declared.questions.Question.{Question}
+-- A node answers what its replica answers.
+use Rattle.std.proofs.Common.{◌++◌, ◌↔◌, ◌≡◌, List, None, Option, reverse, slice_get, Some, subst, sym, ℕ}
+use Rattle.std.specs.Prelude.{IfSome}
+use Rattle.fleet_answers.proofs.Prelude.{AgreesLater, Answer, AnswersByEvents, AnswersItsStore, AnswersItsSum, AreSameEdits, EachStoreIsLeast, EntryMap, Event, HoldsLater, HoldsLeast, HoldsSameLater, HoldsSums, HoldsSumsByEvents, IsAboveEdits, IsAnswer, IsStoreBelow, IsSumOf, IsWorld, Name, Node, NodeHolds, one_answer, Question, Replicated, SameTookSameStore, sum_of, Took, took_after, took_by, World, world_after}
 use Rattle.fleet_answers.proofs.Held.{if_some, of_found, shown_at}
 
 -- the answer is that of the replica of a node
@@ -34,10 +21,10 @@ module _ (n : ℕ) (events : List Event) {world : World} {k : ℕ} {extra : List
       subst (λ (s : EntryMap). IsAnswer s extra question answer)
       (of_found (λ (x : Replicated). x.store ≡ sum_of (took_after n events k)) world.replicas.items k of.replica of.here (sums honest k)) of.answers
 
-  pub as_told : HoldsSumsAsTold n events world → AnswersAsTold n events k extra question answer
-  as_told told honest = record {
+  pub by_events : HoldsSumsByEvents n events world → AnswersByEvents n events k extra question answer
+  by_events returned honest = record {
     store = of.replica.store;
-    sum = of_found (λ (x : Replicated). IsSumOf (Took n (reverse events) k) x.store) world.replicas.items k of.replica of.here (told honest k);
+    sum = of_found (λ (x : Replicated). IsSumOf (Took n (reverse events) k) x.store) world.replicas.items k of.replica of.here (returned honest k);
     answers = of.answers;
   }
 

@@ -1,5 +1,6 @@
+pub mod Prelude
 mod Asked
 mod Fleets
 mod Held
-mod Told
+mod Returned
 pub mod Mirrors

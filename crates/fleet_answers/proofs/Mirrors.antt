@@ -1,23 +1,11 @@
 -- An edit with a counter above all that is held decides what is shown at its place, and nothing elsewhere.
-use Rattle.std.proofs.Common.{◌≡◌, ◌≢◌, ◌⊎◌, ◌+◌, ◌<◌, ℕ, Bool, true, false, cond, List, ◌∷◌, Option, Some, None, refl, sym, ap, subst, ◌∙◌, inl, inr, drop, arith}
-use Rattle.std.specs.Prelude.{unwrap_or}
+use Rattle.std.proofs.Common.{◌+◌, ◌<◌, ◌∙◌, ◌∷◌, ◌≡◌, ◌≢◌, ◌⊎◌, ap, arith, Bool, cond, drop, false, inl, inr, List, None, Option, refl, Some, subst, sym, true, unwrap_or, ℕ}
 use Rattle.std.specs.Cmp.{nat_cmp_is}
-use Rattle.std.specs.FinMap as finmap
 use Rattle.std.specs.Option.{option_and_then}
 use Rattle.std.specs.Ordering.{eq_by_cmp, is_gt, nat_cmp, ordering_then}
 use Rattle.std.specs.declared.cmp.Ordering.TheVariants.{Less}
-use Rattle.join_law.specs.declared.versions.Version.{Version}
-use Rattle.list_laws.specs.Members.{IsAmong}
-use Rattle.load_places.specs.Places.{PlaceParts, place_cmp}
-use Rattle.edit_sums.specs.declared.contents.Content.{Content}
-use Rattle.edit_sums.specs.declared.contents.Content.TheVariants.{Gone, Link, File}
-use Rattle.edit_sums.specs.declared.entries.Edit.{Edit}
-use Rattle.edit_sums.specs.Contents.{content_cmp}
-use Rattle.edit_sums.specs.CounterLaws.{high_of-above}
-use Rattle.edit_sums.specs.Entries.{Entry, IsBelow, larger}
-use Rattle.edit_sums.specs.EntryLaws.{larger-absorb}
-use Rattle.edit_sums.specs.GreatestLaws.{get-with_edit, same_place, tied}
-use Rattle.edit_sums.specs.Sums.{EntryMap, entry_of, high_of, shown, visible_at, with_edit}
+use Rattle.fleet_answers.proofs.Prelude.{Content, content_cmp, Edit, Entry, entry_of, EntryMap, File, get-with_edit, Gone, high_of, high_of-above, IsAmong, IsBelow, larger, larger-absorb, Link, place_cmp, PlaceParts, same_place, shown, tied, Version, visible_at, with_edit}
+use Rattle.std.specs.FinMap as finmap
 
 -- a content that is shown is shown under any version
 shown_again : (x : Entry) (c : Content) (v : Version) → shown x ≡ Some c → shown (record { version = v; content = c }) ≡ Some c
@@ -58,7 +46,7 @@ module _ (s : EntryMap) (e : Edit) where
       by true t = absurd (apart (tied p e.place t))
       by false t = refl
 
--- one place fewer is left where stores may show otherwise
+-- one place fewer is left where stores may differ
 module _ (places : List PlaceParts) (k : ℕ) (place : PlaceParts) (old new other : EntryMap) where
   pub one_fewer : drop k places ≡ place ∷ drop (k + 1) places
       → ((p : PlaceParts) → IsAmong p (drop k places) ⊎ (visible_at old p ≡ visible_at other p))

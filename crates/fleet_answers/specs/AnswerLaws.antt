@@ -1,57 +1,27 @@
--- Laws of answers: a store and a question have one, which no other host's place changes.
-use Rattle.std.proofs.Common.{◌≡◌, ℕ, Some, List, [], ◌∷◌, inl, inr, refl, ap, sym, subst, ◌∙◌}
-use Rattle.std.specs.Prelude.{◌↔◌, ◌≢◌, None}
-use Rattle.std.specs.FinMap as finmap
+-- Laws of answers: a store and a question have one answer, and no place of another host changes it.
+use Rattle.std.proofs.Common.{[], ◌↔◌, ◌∙◌, ◌∷◌, ◌≡◌, ◌≢◌, ap, inl, inr, List, None, refl, Some, subst, sym, ℕ}
 use Rattle.std.specs.Cmp.Lexicographic.{nat_list_cmp_total}
-use Rattle.list_laws.specs.Members.{IsAmong, IsAmong-append_right}
-use Rattle.edit_sums.specs.Sums.{EntryMap}
-use Rattle.load_places.specs.Levels.{level_for}
-use Rattle.load_places.specs.Places.{PlaceParts}
-use Rattle.path_maps.specs.SeenLaws.{others_arent_looked_at}
-use Rattle.path_maps.specs.Views.{View, view_of}
-use Rattle.unit_name.specs.Names.{Name, name_cmp}
-use Rattle.setting_rules.specs.declared.dependency_lists.DependencyList.{DependencyList}
-use Rattle.name_closure.specs.Chains.{IsDistance, IsDistances}
-use Rattle.name_closure.specs.DistanceLaws.{one_list_of_distances}
-use Rattle.name_closure.specs.ListedLaws.{Listed}
-use Rattle.name_closure.specs.SourceLaws.{AreSameSteps, same_distance}
-use Rattle.unit_loads.specs.declared.units.Unit.{Unit as LoadedUnit}
-use Rattle.parallel_load.specs.LoadLaws.{one_load}
-use Rattle.parallel_load.specs.Loads.{IsLoad, LoadMap, unit_in}
-use Rattle.inverse_deps.specs.EdgeLaws.{one_list_by_kind, one_list_of_edges}
-use Rattle.inverse_deps.specs.Edges.{AreEdges, AreEdgesOf, EdgeMap}
-use Rattle.unit_graph.specs.GraphLaws.{known_names}
-use Rattle.unit_graph.specs.Graphs.{AreDepths, IsKnown, LeadsBy, pulling}
-use Rattle.plan_choice.specs.Answers.{IsPlan, IsRefusal, Refusal as Why}
-use Rattle.plan_choice.specs.Case.{Case}
-use Rattle.start_plan.specs.declared.requests.Plan.{Plan as PlanMap}
-use Rattle.start_plan.specs.declared.requests.Refusal.{Refusal}
-use Rattle.start_plan.specs.declared.requests.Refusal.TheVariants.{Template, NotFound, Masked, Bad, ManualStart, Requisite, Conflict, Cycle, Memory}
-use Rattle.start_plan.specs.declared.requests.Request.{Request}
-use Rattle.start_plan.specs.Outcomes.{IsFault, IsPlanned, IsRefused, IsRefusalOf}
-use Rattle.start_plan.specs.PlanLaws.{one_case, one_plan, one_refusal_told, plan_or_refusal}
-use Rattle.fleet_answers.specs.Answers.{AreKnown, ArePulled, IsAnswer, IsLinkedUnit, IsPlanBy, IsTold, IsToldFrom, IsWholeAnswer, asked, graph_of, host_asked, names_asked}
-use Rattle.fleet_answers.specs.declared.questions.Answer.{Answer}
+use Rattle.fleet_answers.specs.Prelude.{AreDepths, AreEdges, AreEdgesOf, AreSameSuccessors, Bad, Case, Conflict, Cycle, DependencyList, EdgeMap, EntryMap, host_view_of, HostViewMap, IsAmong, IsAmong-append_right, IsDistance, IsDistances, IsFault, IsKnown, IsLoad, IsPlan, IsPlanned, IsRefusal, IsRefusalOf, IsRefused, known_names, LeadsBy, level_for, Listed, LoadedUnit, LoadMap, ManualStart, Masked, Memory, Name, name_cmp, NotFound, one_case, one_list_by_kind, one_list_of_distances, one_list_of_edges, one_load, one_plan, one_refusal_returned, other_hosts_are_not_in_view, PlaceParts, plan_or_refusal, PlanMap, pulling, Refusal, Request, Requisite, same_distance, Template, unit_in, Why}
+use Rattle.fleet_answers.specs.{Answers.AreKnown, Answers.ArePulled, Answers.asked, Answers.graph_of, Answers.host_asked, Answers.IsAnswer, Answers.IsLinkedUnit, Answers.IsPlanBy, Answers.IsReturned, Answers.IsReturnedFrom, Answers.IsWholeAnswer, Answers.names_asked, declared.questions.Answer.Answer, declared.questions.LinkedUnit.LinkedUnit, declared.questions.Question.Question, declared.questions.Question.TheVariants.Plan as OfPlan, declared.questions.Question.TheVariants.Pulled as OfPulled, declared.questions.Question.TheVariants.Unit as OfUnit}
+use Rattle.std.specs.FinMap as finmap
 use Rattle.fleet_answers.specs.declared.questions.Answer.TheVariants as answer
-use Rattle.fleet_answers.specs.declared.questions.LinkedUnit.{LinkedUnit}
-use Rattle.fleet_answers.specs.declared.questions.Question.{Question}
-use Rattle.fleet_answers.specs.declared.questions.Question.TheVariants.{Unit as OfUnit, Pulled as OfPulled, Plan as OfPlan}
 
 -- A store and a question have one answer.
 abbrev pub OneAnswer : Type 0
 OneAnswer = (s : EntryMap) (extra : List Name) (question : Question) (a b : Answer) → IsAnswer s extra question a → IsAnswer s extra question b → a ≡ b
 
--- What stands at another host's place changes no answer for this host, and what stands at any host's place changes none without one.
+-- What is at another host's place changes no answer for this host, and what is at any host's place changes none without
+-- a host.
 abbrev pub OtherHostsChangeNothing : Type 0
 OtherHostsChangeNothing = (s t : EntryMap) (extra : List Name) (question : Question) (place : PlaceParts) → level_for (host_asked question) place ≡ None
     → ((q : PlaceParts) → q ≢ place → finmap.get s q ≡ finmap.get t q) → (a : Answer) → IsAnswer s extra question a → IsAnswer t extra question a
 
--- ---- the names of a question are known to a load of them
+-- ---- the names of a question are in a load of them
 
-pub names_are_known : (s : View) (names : List Name) (load : LoadMap) → IsLoad s names load → AreKnown load names
+pub names_are_known : (s : HostViewMap) (names : List Name) (load : LoadMap) → IsLoad s names load → AreKnown load names
 names_are_known s names load is n a = (known_names s names load n is).1 (record { steps = 0; chain = inl a })
 
-pub own_are_known : (s : View) (extra : List Name) (question : Question) (load : LoadMap) → IsLoad s (asked extra question) load → AreKnown load (names_asked question)
+pub own_are_known : (s : HostViewMap) (extra : List Name) (question : Question) (load : LoadMap) → IsLoad s (asked extra question) load → AreKnown load (names_asked question)
 own_are_known s extra question load is n a = names_are_known s (asked extra question) load is n (IsAmong-append_right n extra (names_asked question) a)
 
 -- ---- units
@@ -72,11 +42,11 @@ one_linked load name a b l m =
     linked_is a b (same_some a.unit b.unit (sym l.unit_is ∙ ap (unit_in load) mains ∙ m.unit_is))
     (one_list_by_kind load m.main a.edges b.edges (subst (λ (main : Name). AreEdgesOf load main a.edges) mains l.edges_are) m.edges_are)
 
--- ---- a load answers the same by any lists of its edges
+-- ---- all lists of a load's edges give the same answers
 
 module _ (load : LoadMap) (x y : EdgeMap) (p : AreEdges load x) (q : AreEdges load y) where
-  same_steps : AreSameSteps (LeadsBy x pulling) (LeadsBy y pulling)
-  same_steps u v = (
+  same_successors : AreSameSuccessors (LeadsBy x pulling) (LeadsBy y pulling)
+  same_successors u v = (
     λ l. (l.0, (l.1.0, subst (λ (ns : List Name). IsAmong v ns) (one_list_of_edges load x y p q l.0 u) l.1.1)),
     λ l. (l.0, (l.1.0, subst (λ (ns : List Name). IsAmong v ns) (sym (one_list_of_edges load x y p q l.0 u)) l.1.1)),
   )
@@ -85,12 +55,12 @@ module _ (load : LoadMap) (x y : EdgeMap) (p : AreEdges load x) (q : AreEdges lo
       → IsDistances (Listed (from ∷ [])) (LeadsBy y pulling) name_cmp b → a ≡ b
   one_distances from a b d e =
       one_list_of_distances (Listed (from ∷ [])) (LeadsBy x pulling) name_cmp nat_list_cmp_total a b d (record {
-        rising = e.rising;
+        ascending = e.ascending;
         members = λ k n. (λ h. (same n k).1 ((e.members k n).0 h), λ h. (e.members k n).1 ((same n k).0 h));
       })
     where
       same : (n : Name) (k : ℕ) → IsDistance (Listed (from ∷ [])) (LeadsBy x pulling) n k ↔ IsDistance (Listed (from ∷ [])) (LeadsBy y pulling) n k
-      same = same_distance (Listed (from ∷ [])) (Listed (from ∷ [])) (LeadsBy x pulling) (LeadsBy y pulling) (λ n. (λ h. h, λ h. h)) same_steps
+      same = same_distance (Listed (from ∷ [])) (Listed (from ∷ [])) (LeadsBy x pulling) (LeadsBy y pulling) (λ n. (λ h. h, λ h. h)) same_successors
 
   one_depths : (name : Name) (a b : List (ℕ × Name)) → IsKnown load name → AreDepths (graph_of load x) name a → AreDepths (graph_of load y) name b → a ≡ b
   one_depths name a b known d e = one_distances known.0 a b (d known.0 known.1) (e known.0 known.1)
@@ -130,20 +100,20 @@ module _ (load : LoadMap) (request : Request) (x y : EdgeMap) (p : AreEdges load
   one_plan_by a b (inl f) (inl g) = f.2 ∙ ap answer.Planned (one_plan load y request f.0 g.0 (planned_by f.0 f.1) g.1) ∙ sym g.2
   one_plan_by a b (inl f) (inr g) = absurd (plan_or_refusal load y request f.0 g.0 (planned_by f.0 f.1) g.1 g.2)
   one_plan_by a b (inr f) (inl g) = absurd (plan_or_refusal load y request g.0 f.0 g.1 (refused_by f.0 f.1) f.2)
-  one_plan_by a b (inr f) (inr g) = f.3 ∙ ap answer.Refused (one_refusal_told load y request f.0 g.0 (refused_by f.0 f.1) g.1 f.2 g.2) ∙ sym g.3
+  one_plan_by a b (inr f) (inr g) = f.3 ∙ ap answer.Refused (one_refusal_returned load y request f.0 g.0 (refused_by f.0 f.1) g.1 f.2 g.2) ∙ sym g.3
 
 -- ---- answers
 
-one_told : (load : LoadMap) (question : Question) → AreKnown load (names_asked question) → (a b : Answer) → IsTold load question a → IsTold load question b → a ≡ b
-one_told load (OfUnit host name) known a b f g = f.2 ∙ ap answer.Unit (one_linked load name f.0 g.0 f.1 g.1) ∙ sym g.2
-one_told load (OfPulled host name) known a b f g = f.2 ∙ ap answer.Pulled (one_pulled load name f.0 g.0 (known name (inl refl)) f.1 g.1) ∙ sym g.2
-one_told load (OfPlan request) known a b f g = one_plan_by load request f.edges g.edges f.edges_are g.edges_are a b f.plan_is g.plan_is
+one_returned : (load : LoadMap) (question : Question) → AreKnown load (names_asked question) → (a b : Answer) → IsReturned load question a → IsReturned load question b → a ≡ b
+one_returned load (OfUnit host name) known a b f g = f.2 ∙ ap answer.Unit (one_linked load name f.0 g.0 f.1 g.1) ∙ sym g.2
+one_returned load (OfPulled host name) known a b f g = f.2 ∙ ap answer.Pulled (one_pulled load name f.0 g.0 (known name (inl refl)) f.1 g.1) ∙ sym g.2
+one_returned load (OfPlan request) known a b f g = one_plan_by load request f.edges g.edges f.edges_are g.edges_are a b f.plan_is g.plan_is
 
-module _ (s : View) (names : List Name) (question : Question) (own : (load : LoadMap) → IsLoad s names load → AreKnown load (names_asked question)) (a b : Answer) where
-  one_from : IsToldFrom s names question a → IsToldFrom s names question b → a ≡ b
+module _ (s : HostViewMap) (names : List Name) (question : Question) (own : (load : LoadMap) → IsLoad s names load → AreKnown load (names_asked question)) (a b : Answer) where
+  one_from : IsReturnedFrom s names question a → IsReturnedFrom s names question b → a ≡ b
   one_from f g =
       let same : f.load ≡ g.load = one_load s names f.load g.load f.snapshot.is_load g.snapshot.is_load in
-      one_told g.load question (own g.load g.snapshot.is_load) a b (subst (λ (l : LoadMap). IsTold l question a) same f.told_is) g.told_is
+      one_returned g.load question (own g.load g.snapshot.is_load) a b (subst (λ (l : LoadMap). IsReturned l question a) same f.returned_is) g.returned_is
 
   one_whole : IsWholeAnswer s names question a → IsWholeAnswer s names question b → a ≡ b
   one_whole (inl f) (inl g) = f.1 ∙ sym g.1
@@ -154,10 +124,10 @@ module _ (s : View) (names : List Name) (question : Question) (own : (load : Loa
 pub other_hosts_change_nothing : OtherHostsChangeNothing
 other_hosts_change_nothing s t extra question place none same a (inl template) = inl template
 other_hosts_change_nothing s t extra question place none same a (inr whole) =
-    inr (whole.0, subst (λ (v : View). IsWholeAnswer v (asked extra question) question a) (others_arent_looked_at s t (host_asked question) place none same) whole.1)
+    inr (whole.0, subst (λ (v : HostViewMap). IsWholeAnswer v (asked extra question) question a) (other_hosts_are_not_in_view s t (host_asked question) place none same) whole.1)
 
 pub one_answer : OneAnswer
 one_answer s extra question a b (inl f) (inl g) = f.1 ∙ sym g.1
 one_answer s extra question a b (inl f) (inr g) = absurd (g.0 f.0)
 one_answer s extra question a b (inr f) (inl g) = absurd (f.0 g.0)
-one_answer s extra question a b (inr f) (inr g) = one_whole (view_of s (host_asked question)) (asked extra question) question (own_are_known (view_of s (host_asked question)) extra question) a b f.1 g.1
+one_answer s extra question a b (inr f) (inr g) = one_whole (host_view_of s (host_asked question)) (asked extra question) question (own_are_known (host_view_of s (host_asked question)) extra question) a b f.1 g.1

@@ -1,26 +1,9 @@
 -- What a question of a store is answered: a unit with its edges, what a unit pulls, the plan of a request, or the first refusal.
 -- Source: this project's own.
-use Rattle.std.specs.Prelude.{◌≡◌, ◌≢◌, ◌⊎◌, ℕ, Some, List, [], ◌∷◌, ◌++◌}
-use Rattle.list_laws.specs.Members.{IsAmong}
-use Rattle.edit_sums.specs.Sums.{EntryMap}
-use Rattle.load_places.specs.Levels.{Looker}
-use Rattle.path_maps.specs.Views.{View, view_of}
-use Rattle.unit_name.specs.Names.{Name}
-use Rattle.parallel_load.specs.Loads.{IsLoad, LoadMap, main_in, unit_in}
-use Rattle.parallel_load.specs.Universe.{IsTooLarge}
-use Rattle.inverse_deps.specs.Edges.{AreEdges, AreEdgesOf, EdgeMap}
-use Rattle.unit_graph.specs.Graphs.{AreDepths, GraphMap, IsKnown}
-use Rattle.start_plan.specs.declared.requests.Plan.{Plan as PlanMap}
-use Rattle.start_plan.specs.declared.requests.Refusal.{Refusal}
-use Rattle.start_plan.specs.declared.requests.Refusal.TheVariants.{Memory}
-use Rattle.start_plan.specs.declared.requests.Request.{Request}
-use Rattle.start_plan.specs.Outcomes.{IsPlanned, IsRefusalOf}
-use Rattle.start_plan.specs.Requests.{HasTemplate}
-use Rattle.fleet_answers.specs.declared.questions.Answer.{Answer}
+use Rattle.std.proofs.Common.{[], ◌++◌, ◌∷◌, ◌≡◌, ◌≢◌, ◌⊎◌, List, None, Some, ℕ}
+use Rattle.fleet_answers.specs.Prelude.{AreDepths, AreEdges, AreEdgesOf, EdgeMap, EntryMap, GraphMap, HasTemplate, host_view_of, HostViewMap, IsAmong, IsKnown, IsLoad, IsPlanned, IsRefusalOf, IsTooLarge, LoadMap, main_in, Memory, Name, PlanMap, Refusal, Request, unit_in, Viewer}
+use Rattle.fleet_answers.specs.{declared.questions.Answer.Answer, declared.questions.LinkedUnit.LinkedUnit, declared.questions.Question.Question, declared.questions.Question.TheVariants.Plan as OfPlan, declared.questions.Question.TheVariants.Pulled as OfPulled, declared.questions.Question.TheVariants.Unit as OfUnit}
 use Rattle.fleet_answers.specs.declared.questions.Answer.TheVariants as answer
-use Rattle.fleet_answers.specs.declared.questions.LinkedUnit.{LinkedUnit}
-use Rattle.fleet_answers.specs.declared.questions.Question.{Question}
-use Rattle.fleet_answers.specs.declared.questions.Question.TheVariants.{Unit as OfUnit, Pulled as OfPulled, Plan as OfPlan}
 
 -- ---- names
 
@@ -31,10 +14,16 @@ names_asked (OfPulled host name) = name ∷ []
 names_asked (OfPlan request) = request.target ∷ request.running
 
 -- the host for which it is asked, if for one
-abbrev pub host_asked : Question → Looker
+abbrev pub host_asked : Question → Viewer
 host_asked (OfUnit host name) = host
 host_asked (OfPulled host name) = host
 host_asked (OfPlan request) = request.host
+
+-- the same question, asked without a host
+abbrev pub without_host : Question → Question
+without_host (OfUnit host name) = OfUnit None name
+without_host (OfPulled host name) = OfPulled None name
+without_host (OfPlan request) = OfPlan (record request { host = None })
 
 -- all names that are asked for
 abbrev pub asked : List Name → Question → List Name
@@ -52,11 +41,11 @@ graph_of load edges = record { load = load; edges = edges }
 
 module _ (load : LoadMap) where
   -- this is the unit for which a name stands, with its edges
-  pub record IsLinkedUnit (name : Name) (told : LinkedUnit) : Type 0 where
+  pub record IsLinkedUnit (name : Name) (returned : LinkedUnit) : Type 0 where
     pub main : Name
     pub main_is : main_in load name ≡ Some main
-    pub unit_is : unit_in load main ≡ Some told.unit
-    pub edges_are : AreEdgesOf load main told.edges
+    pub unit_is : unit_in load main ≡ Some returned.unit
+    pub edges_are : AreEdgesOf load main returned.edges
 
   -- over the load's edges these are what the unit pulls for which a name stands, each with its least distance
   pub record ArePulled (name : Name) (pairs : List (ℕ × Name)) : Type 0 where
@@ -66,45 +55,45 @@ module _ (load : LoadMap) where
 
   -- by these edges this is the plan of the request, or the first reason why there is none
   abbrev pub IsPlanBy : EdgeMap → Request → Answer → Type 0
-  IsPlanBy edges request told =
-      ((plan : PlanMap) × IsPlanned load edges request plan × (told ≡ answer.Planned plan))
-      ⊎ ((refusal : Refusal) × IsRefusalOf load edges request refusal × (refusal ≢ Memory) × (told ≡ answer.Refused refusal))
+  IsPlanBy edges request returned =
+      ((plan : PlanMap) × IsPlanned load edges request plan × (returned ≡ answer.Planned plan))
+      ⊎ ((refusal : Refusal) × IsRefusalOf load edges request refusal × (refusal ≢ Memory) × (returned ≡ answer.Refused refusal))
 
   -- the same by the load's edges
-  pub record IsPlanTold (request : Request) (told : Answer) : Type 0 where
+  pub record IsPlanReturned (request : Request) (returned : Answer) : Type 0 where
     pub edges : EdgeMap
     pub edges_are : AreEdges load edges
-    pub plan_is : IsPlanBy edges request told
+    pub plan_is : IsPlanBy edges request returned
 
   -- this is what a question is told, all of whose names stand for units
-  abbrev pub IsTold : Question → Answer → Type 0
-  IsTold (OfUnit host name) told = (unit : LinkedUnit) × IsLinkedUnit name unit × (told ≡ answer.Unit unit)
-  IsTold (OfPulled host name) told = (pairs : List (ℕ × Name)) × ArePulled name pairs × (told ≡ answer.Pulled pairs)
-  IsTold (OfPlan request) told = IsPlanTold request told
+  abbrev pub IsReturned : Question → Answer → Type 0
+  IsReturned (OfUnit host name) returned = (unit : LinkedUnit) × IsLinkedUnit name unit × (returned ≡ answer.Unit unit)
+  IsReturned (OfPulled host name) returned = (pairs : List (ℕ × Name)) × ArePulled name pairs × (returned ≡ answer.Pulled pairs)
+  IsReturned (OfPlan request) returned = IsPlanReturned request returned
 
 -- ---- what a store answers
 
 -- this is the load of what is looked at of a store with these names asked for, where it isn't too large
-pub record IsSnapshot (s : View) (extra : List Name) (load : LoadMap) : Type 0 where
+pub record IsSnapshot (s : HostViewMap) (extra : List Name) (load : LoadMap) : Type 0 where
   pub within : ¬ IsTooLarge s extra
   pub is_load : IsLoad s extra load
 
 -- the load is that of a store for its own host, with the names that were asked for
 abbrev pub IsSnapshotOf : EntryMap → LoadMap → Type 0
-IsSnapshotOf store load = IsSnapshot (view_of store load.host) load.extra load
+IsSnapshotOf store load = IsSnapshot (host_view_of store load.host) load.extra load
 
 -- this is what a question is told by such a load of all names that are asked for
-pub record IsToldFrom (s : View) (names : List Name) (question : Question) (told : Answer) : Type 0 where
+pub record IsReturnedFrom (s : HostViewMap) (names : List Name) (question : Question) (returned : Answer) : Type 0 where
   pub load : LoadMap
   pub snapshot : IsSnapshot s names load
-  pub told_is : IsTold load question told
+  pub returned_is : IsReturned load question returned
 
 -- the store is too large, or this is what the question is told
-abbrev pub IsWholeAnswer : View → List Name → Question → Answer → Type 0
-IsWholeAnswer s names question told = (IsTooLarge s names × (told ≡ answer.TooManyUnits)) ⊎ IsToldFrom s names question told
+abbrev pub IsWholeAnswer : HostViewMap → List Name → Question → Answer → Type 0
+IsWholeAnswer s names question returned = (IsTooLarge s names × (returned ≡ answer.TooManyUnits)) ⊎ IsReturnedFrom s names question returned
 
 -- This is what a question is answered from a store, as its host sees it or as it is seen without one, where further names are asked for: a template among the names is told before the store is looked at.
 abbrev pub IsAnswer : EntryMap → List Name → Question → Answer → Type 0
-IsAnswer s extra question told =
-    (HasTemplate (asked extra question) × (told ≡ answer.Template))
-    ⊎ (¬ HasTemplate (asked extra question) × IsWholeAnswer (view_of s (host_asked question)) (asked extra question) question told)
+IsAnswer s extra question returned =
+    (HasTemplate (asked extra question) × (returned ≡ answer.Template))
+    ⊎ (¬ HasTemplate (asked extra question) × IsWholeAnswer (host_view_of s (host_asked question)) (asked extra question) question returned)

@@ -1,4 +1,6 @@
+pub mod Prelude
 pub mod AnswerLaws
 pub mod Answers
 pub mod Fleets
+pub mod HostLaws
 pub mod ShownLaws

@@ -1,20 +1,20 @@
-//! What a question is answered from one store.
+//! Answers a question from one store.
 ghost use Rattle.std.specs.Prelude.{◌≡◌, ◌↔◌, ◌⊎◌, ◌<◌, Err, IfOk};
 ghost use Rattle.fleet_answers.specs.{Answers.{IsAnswer}, declared.questions.AnswerFault.TheVariants.{Workers}};
 
 use crate::names::whole_names;
 use crate::questions::{Answer, AnswerFault, Question};
 use crate::snapshots::Snapshot;
-use parallel_load::{Gate, LoadFault, is_crew};
+use parallel_load::{Gate, LoadFault, is_worker_count};
 use replica_store::Store;
 use std::alloc::{AllocError, Global};
 use std::thread::Threads;
 use unit_name::UnitName;
 
-/// Answers a question from a store for its host, on one thread, where these names are loaded beside those of the question. It fails for
-/// want of memory alone.
+/// Answers a question from a store for the question's host, in one thread. Loads these names besides those of the
+/// question. Fails only if memory runs out.
 ///
-/// A template among the names is told before anything is loaded.
+/// A template among the names is answered before anything is loaded.
 pub fn answer_here(
     alloc: Global,
     store: &Store,
@@ -33,8 +33,8 @@ pub fn answer_here(
     }
 }
 
-/// The same answer by 1 to 64 workers, whatever their number and whatever the gate answers. `Workers` exactly where they
-/// aren't 1 to 64, before anything else. It may wait for threads.
+/// The same answer, by 1 to 64 workers. Neither their number nor the gate's answers change it. `Workers`, before
+/// anything else, exactly if the number isn't 1 to 64. May wait for threads.
 pub fn answer_question<R: Threads + Sync, G: Gate + Sync>(
     rt: &R,
     alloc: Global,
@@ -47,7 +47,7 @@ pub fn answer_question<R: Threads + Sync, G: Gate + Sync>(
     ensures workers { (result ≡ Err Workers) ↔ ((workers ≡ 0) ⊎ (64 < workers)) }
     ensures answer { IfOk result (IsAnswer store.now extra.now question.now) }
 {
-    if !is_crew(workers) {
+    if !is_worker_count(workers) {
         return Err(AnswerFault::Workers);
     }
     let Ok(names) = whole_names(alloc, extra, question) else {

@@ -1,21 +1,21 @@
-//! What a fleet answers: each question of a unit, of what it pulls and of a plan, as a function of the edits that a node
-//! took. Two nodes that took the same edits give the same unit with the same settings, and for every request the same
-//! plan or refusal, with any number of workers.
+//! A fleet answers each question about a unit, about what a unit pulls and about a plan as a function of the edits that
+//! the node took. Two nodes that took the same edits give the same unit with the same settings, and for every request
+//! the same plan or refusal, with any number of workers.
 //!
 //! Promise: convergence.
 //!
-//! A question is asked of a store, or of a snapshot, which is what all that must be loaded of a store comes to. What is
-//! asked of the nodes of a world is asked of their stores, whatever was put, asked, cut and given, in whatever order.
+//! A question is put to a store, or to a snapshot, which is the result of loading a store. A question to a node of a
+//! world is put to its store, whatever was put, asked, cut and given before, in whatever order.
 #![tactic(auto)]
 
 mod answers;
+mod from_loads;
 mod laws;
 mod mirrored;
 mod names;
 mod questions;
 mod remembered;
 mod snapshots;
-mod tellings;
 mod worlds;
 
 pub use answers::{answer_here, answer_question};

@@ -1,4 +1,4 @@
-//! Stores that are made to show what others show.
+//! Makes a store show what another one shows.
 ghost use Rattle.std.specs.{Prelude.{◌≡◌, ◌≢◌, ◌⊎◌, IfOk, IsTrue}, Option.{IfSome}};
 ghost use Rattle.join_law.specs.declared.versions.Version.{Version};
 ghost use Rattle.list_laws.specs.Members.{IsAmong};
@@ -9,13 +9,14 @@ ghost use Rattle.fleet_answers.specs.ShownLaws.{ShowTheSame};
 use replica_store::{Content, Place, Replica, Store};
 use std::alloc::AllocError;
 
-/// At so many places at most a store is made to show what another one does; where they are more, a copy of that one is cheaper.
+/// The most places at which a store is changed to show what another one does. For more places a copy of the other store
+/// is cheaper.
 const MOST_PLACES: usize = 256;
 
-/// A store that shows what another one does, made of one that shows otherwise at these places alone. None, where they are
-/// over 256, where memory is refused, or where the store has the greatest counter.
+/// A store that shows what another one does, made from one that shows something else only at these places. None if
+/// there are more than 256 places, if memory runs out, or if the store holds the greatest counter.
 ///
-/// It costs a search for each place, and copies no bytes.
+/// Costs one search for each place, and copies no bytes.
 pub(crate) fn mirrored(own: Store, other: &Store, places: &[Place]) -> Option<Store>
     requires rest { (p : PlaceParts) → IsAmong p places.now ⊎ (visible_at own p ≡ visible_at other.now p) }
     ensures same { IfSome result (ShowTheSame other.now) }
@@ -32,7 +33,7 @@ pub(crate) fn mirrored(own: Store, other: &Store, places: &[Place]) -> Option<St
     Some(replica.into_store())
 }
 
-// Writes at a place what another store shows there, and answers whether that could be done.
+// Writes what another store shows at a place. Returns whether that succeeded.
 fn mirror(replica: &mut Replica, other: &Store, place: &Place) -> bool
     ensures there { IsTrue result → visible_at replica.new.store place.now ≡ visible_at other.now place.now }
     ensures elsewhere { IsTrue result → (p : PlaceParts) → p ≢ place.now → visible_at replica.new.store p ≡ visible_at replica.old.store p }
@@ -46,7 +47,7 @@ fn mirror(replica: &mut Replica, other: &Store, place: &Place) -> bool
     }
 }
 
-// A copy of what a store shows at a place, a removal where that is nothing.
+// A copy of what a store shows at a place. A removal if it shows nothing.
 fn content_at(store: &Store, place: &Place) -> Result<Content, AllocError>
     ensures content { IfOk result (λ content. (version : Version) →
         shown (record { version = version; content = content }) ≡ visible_at store.now place.now) }

@@ -9,7 +9,7 @@ use start_plan::has_template;
 use std::alloc::{AllocError, Global};
 use unit_name::UnitName;
 
-/// The names that are asked for beside a question, and then its own. None where one of them is a template.
+/// The additional names, then those of the question. None if one of them is a template.
 pub(crate) fn whole_names(
     alloc: Global,
     extra: &[UnitName],
@@ -26,7 +26,7 @@ pub(crate) fn whole_names(
     Ok(Some(names))
 }
 
-// The names that are asked for beside a question, and then its own.
+// The additional names, then those of the question.
 fn asked_names(
     alloc: Global,
     extra: &[UnitName],
@@ -71,7 +71,7 @@ fn append_copies(names: &mut Vec<UnitName>, others: &[UnitName]) -> Result<(), A
     Ok(())
 }
 
-/// Copies of names. It fails for want of memory alone.
+/// Copies of names. Fails only if memory runs out.
 pub(crate) fn copies_of(alloc: Global, names: &[UnitName]) -> Result<Items<UnitName>, AllocError>
     ensures copies { IfOk result (λ copies. copies ≡ names.now) }
 {

@@ -1,4 +1,4 @@
-//! What is asked of a store, and what is answered.
+//! Questions about a store, and their answers.
 ghost use Rattle.std.specs.{Prelude.{◌≡◌}, Option.{option_copied}};
 ghost use Rattle.fleet_answers.specs.Answers.{host_asked};
 
@@ -10,15 +10,15 @@ use thiserror::Error;
 use unit_loads::Unit;
 use unit_name::UnitName;
 
-/// A question of a store: what a host makes of it, or what comes of it without one. Names may be aliases.
+/// A question about a store, for one host or without a host. Names may be aliases.
 #[derive(Debug, Drop)]
 pub enum Question {
-    /// Which unit a name stands for, and what it depends on and what on it.
+    /// Which unit a name resolves to, what it depends on, and what depends on it.
     Unit {
         host: Option<HostName>,
         name: UnitName,
     },
-    /// Which units the unit pulls for which a name stands, and how far they are.
+    /// Which units the unit of a name pulls, and their distances.
     Pulled {
         host: Option<HostName>,
         name: UnitName,
@@ -28,7 +28,7 @@ pub enum Question {
 }
 
 impl Question {
-    /// The host for which it is asked; none where it is asked without one. It takes no memory.
+    /// The question's host; none for a question without one. Allocates nothing.
     pub fn host(&self) -> Option<&HostName>
         ensures host { option_copied result ≡ host_asked self.now }
     {
@@ -42,38 +42,38 @@ impl Question {
 /// A unit with its edges.
 #[derive(Debug, Drop)]
 pub struct LinkedUnit {
-    /// The unit, shared with what was loaded. Its dependencies are told by main names.
+    /// The unit, shared with the load. Its dependencies are given by main names.
     pub unit: Shared<Unit>,
-    /// For each kind, in the order of the kinds, the units to which edges of it lead, in byte order: those that the unit
-    /// names, and those that name it by the inverse.
+    /// For each kind, in the order of the kinds, the units to which edges of that kind lead, in byte order: those that
+    /// the unit names, and those that name it by the inverse kind.
     pub edges: Items<DependencyList>,
 }
 
-/// What is answered.
+/// An answer.
 #[derive(Debug, Drop)]
 pub enum Answer {
     /// P1: a name that is asked for is a template. Nothing was loaded.
     Template,
-    /// L2: more than 4,096 names must be loaded, aliases counted.
+    /// L2: more than 4,096 names must be loaded, aliases included.
     TooManyUnits,
     /// The unit, with its edges.
     Unit(LinkedUnit),
-    /// The units that are pulled over `Requires`, `Requisite`, `BindsTo` and `Wants`, the first too, each with its least
-    /// distance, by distance and then by name.
+    /// The units that are pulled over `Requires`, `Requisite`, `BindsTo` and `Wants`, with the unit itself, each with
+    /// its least distance. Ordered by distance, then by name.
     Pulled(Items<(u64, UnitName)>),
     /// Which units stop, and which start.
     Planned(Plan),
-    /// The first reason why there is no plan; never a template, and never want of memory.
+    /// The first reason why there is no plan. Never a template, and never that memory ran out.
     Refused(Refusal),
 }
 
 /// Why there is no answer.
 #[derive(Clone, Copy, Debug, PartialEq, Eq, Error)]
 pub enum AnswerFault {
-    /// L1: the workers aren't 1 to 64.
+    /// L1: the number of workers isn't 1 to 64.
     #[error("L1 Workers")]
     Workers,
-    /// Memory was refused.
+    /// Memory ran out.
     #[error("out of memory")]
     Memory,
 }

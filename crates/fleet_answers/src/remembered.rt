@@ -1,26 +1,26 @@
-//! Snapshots that are remembered, so that the next question reads again only what changed.
+//! Caches snapshots, so that the next question reads again only what changed.
 ghost use Rattle.std.specs.{Prelude.{◌≡◌, ◌↔◌, ◌⊎◌, ◌<◌, [], Err, IfOk, IfErr, IsTrue, None, length}, List.{slice_index_or}};
 ghost use Rattle.std.specs.Option.{IfSome, option_copied};
-ghost use Rattle.path_maps.specs.Views.{view_of};
+ghost use Rattle.path_maps.specs.HostViews.{host_view_of};
 ghost use Rattle.parallel_load.specs.{AskedLaws.{AreSources}, Refusals.{OnTooMany, OnWorkers}, Universe.{IsTooLarge}};
-ghost use Rattle.fleet_answers.specs.Answers.{AreKnown, IsAnswer, IsSnapshot, IsSnapshotOf, IsTold, host_asked, names_asked};
+ghost use Rattle.fleet_answers.specs.Answers.{AreKnown, IsAnswer, IsSnapshot, IsSnapshotOf, IsReturned, host_asked, names_asked};
 ghost use Rattle.fleet_answers.specs.declared.questions.AnswerFault.TheVariants.{Workers};
 
 use crate::mirrored::mirrored;
 use crate::names::{copies_of, whole_names};
 use crate::questions::{Answer, AnswerFault, Question};
 use crate::snapshots::Snapshot;
-use parallel_load::{Gate, LoadFault, are_sources, is_crew};
+use parallel_load::{Gate, LoadFault, are_sources, is_worker_count};
 use replica_store::{HostName, Store};
 use std::alloc::{AllocError, Global};
 use std::marker::Model;
 use std::thread::Threads;
 use unit_name::UnitName;
 
-/// So many snapshots are remembered at most.
+/// The most snapshots that are cached.
 pub const MOST_SNAPSHOTS: usize = 64;
 
-/// A snapshot, with the store that it is of.
+/// A snapshot, with the store that it was made from.
 #[derive(Drop)]
 struct Remembered {
     store: Store,
@@ -40,24 +40,24 @@ impl Model for Remembered {
     ghost invariant = { λ r. IsSnapshotOf r.store r.snapshot };
 }
 
-// By what a store is loaded.
+// What is needed to load a store.
 #[derive(Drop)]
-struct Means<'a, R, G> {
+struct LoadResources<'a, R, G> {
     rt: &'a R,
     alloc: Global,
     workers: usize,
     gate: &'a G,
 }
 
-/// A snapshot for a question, and the store that it is of where that is kept with it already.
+/// A snapshot for a question, and the store that it was made from if the cache has that already.
 #[derive(Drop)]
-struct Found {
+struct Renewed {
     snapshot: Snapshot,
-    kept_with: Option<Store>,
+    cached_with: Option<Store>,
 }
 
 impl Remembered {
-    // Whether it is for this host, or is one without a host.
+    // Whether the snapshot is for this host, or without a host if there is none.
     fn is_of(&self, host: Option<&HostName>) -> bool
         ensures host { IsTrue result → self.now.host ≡ option_copied host.entry }
     {
@@ -68,14 +68,14 @@ impl Remembered {
         }
     }
 
-    // Whether just these names were asked for, in this order.
+    // Whether exactly these names were asked for, in this order.
     fn is_asked(&self, names: &[UnitName]) -> bool
         ensures names { IsTrue result → self.now.extra ≡ names.now }
     {
         *self.snapshot.loaded().extra() == *names
     }
 
-    // The same for these names, where its load is theirs too. None otherwise, and where memory is refused.
+    // The same snapshot, asked for by these names, if its load is theirs too. None if it isn't, or if memory runs out.
     fn for_names(self, names: &[UnitName]) -> Option<Remembered>
         ensures host { IfSome result (λ one. one.host ≡ self.host) }
         ensures names { IfSome result (λ one. one.extra ≡ names.now) }
@@ -94,12 +94,12 @@ impl Remembered {
         Some(Remembered { store, snapshot })
     }
 
-    // The snapshot of another store for the same host and names: itself where that shows what its own does, and else
-    // refreshed by what changed.
-    fn renewed(self, store: &Store) -> Result<Found, LoadFault>
-        ensures snapshot { IfOk result (λ found. IsSnapshot (view_of store.now self.host) self.extra found.snapshot) }
-        ensures own { IfOk result (λ found. IfSome found.kept_with (λ own. IsSnapshotOf own found.snapshot)) }
-        ensures over { IfErr result (λ fault. OnTooMany fault (IsTooLarge (view_of store.now self.host) self.extra)) }
+    // The snapshot of another store for the same host and names: the same one if that store shows what its own does,
+    // else a refreshed one.
+    fn renewed(self, store: &Store) -> Result<Renewed, LoadFault>
+        ensures snapshot { IfOk result (λ found. IsSnapshot (host_view_of store.now self.host) self.extra found.snapshot) }
+        ensures own { IfOk result (λ found. IfSome found.cached_with (λ own. IsSnapshotOf own found.snapshot)) }
+        ensures over { IfErr result (λ fault. OnTooMany fault (IsTooLarge (host_view_of store.now self.host) self.extra)) }
         ensures no_workers { IfErr result (λ fault. OnWorkers fault ⊥) }
     {
         let touched = store.changed(&self.store)?;
@@ -108,77 +108,77 @@ impl Remembered {
             snapshot,
         } = self;
         if touched.is_empty() {
-            return Ok(Found {
+            return Ok(Renewed {
                 snapshot,
-                kept_with: Some(own),
+                cached_with: Some(own),
             });
         }
         let snapshot = snapshot.refreshed(store, &touched)?;
-        let kept_with = mirrored(own, store, &touched);
-        Ok(Found {
+        let cached_with = mirrored(own, store, &touched);
+        Ok(Renewed {
             snapshot,
-            kept_with,
+            cached_with,
         })
     }
 }
 
-// Whether a store's snapshot is seen to load what these names load: each of them was asked for or is visible, and each that was
+// Whether a store's snapshot has the load of these names: each of them was asked for or is visible, and each that was
 // asked for is one of them or visible.
 fn serves(store: &Store, snapshot: &Snapshot, names: &[UnitName]) -> bool
-    ensures these { IsTrue result → AreSources (view_of store.now snapshot.now.host) snapshot.now.extra names.now }
-    ensures those { IsTrue result → AreSources (view_of store.now snapshot.now.host) names.now snapshot.now.extra }
+    ensures these { IsTrue result → AreSources (host_view_of store.now snapshot.now.host) snapshot.now.extra names.now }
+    ensures those { IsTrue result → AreSources (host_view_of store.now snapshot.now.host) names.now snapshot.now.extra }
 {
     let loaded = snapshot.loaded();
-    let seen = store.seen_by(loaded.host());
+    let view = store.host_view(loaded.host());
     let asked = loaded.extra();
-    are_sources(&seen, asked, names) && are_sources(&seen, names, asked)
+    are_sources(&view, asked, names) && are_sources(&view, names, asked)
 }
 
-// All is loaded anew.
+// Loads everything anew.
 fn loaded_anew<R: Threads + Sync, G: Gate + Sync>(
-    means: &Means<R, G>,
+    resources: &LoadResources<R, G>,
     store: &Store,
     host: Option<&HostName>,
     names: &[UnitName],
-) -> Result<Found, LoadFault>
-    ensures snapshot { IfOk result (λ found. IsSnapshot (view_of store.now (option_copied host.entry)) names.now found.snapshot) }
-    ensures own { IfOk result (λ found. found.kept_with ≡ None) }
-    ensures over { IfErr result (λ fault. OnTooMany fault (IsTooLarge (view_of store.now (option_copied host.entry)) names.now)) }
+) -> Result<Renewed, LoadFault>
+    ensures snapshot { IfOk result (λ found. IsSnapshot (host_view_of store.now (option_copied host.entry)) names.now found.snapshot) }
+    ensures own { IfOk result (λ found. found.cached_with ≡ None) }
+    ensures over { IfErr result (λ fault. OnTooMany fault (IsTooLarge (host_view_of store.now (option_copied host.entry)) names.now)) }
 {
-    let Means {
+    let LoadResources {
         rt,
         alloc,
         workers,
         gate,
-    } = means;
+    } = resources;
     let snapshot = Snapshot::by_workers(*rt, *alloc, store, host, names, *workers, *gate)?;
-    Ok(Found {
+    Ok(Renewed {
         snapshot,
-        kept_with: None,
+        cached_with: None,
     })
 }
 
-/// Snapshots of nodes: of each node and host the one that was asked last, and at most 64 in all, of which the one that was
-/// used longest ago goes first.
+/// Cached snapshots of nodes: for each node and host the one of the last question, and at most 64 in all. The least
+/// recently used one is dropped first.
 #[derive(Drop)]
 pub struct Snapshots {
     kept: Vec<(usize, Remembered)>,
 }
 
 impl Snapshots {
-    /// None yet. It takes no memory.
+    /// An empty cache. Allocates nothing.
     pub fn new(alloc: Global) -> Snapshots {
         Snapshots {
             kept: Vec::new(alloc),
         }
     }
 
-    // Forgets all.
+    // Drops all snapshots.
     fn clear(&mut self) {
         self.kept.clear();
     }
 
-    // Where the snapshot of a node for a host stands.
+    // Where the snapshot of a node for a host is.
     fn place_of(&self, node: usize, host: Option<&HostName>) -> Option<usize>
         ensures there { IfSome result (λ at. at < length self.now.kept.items) }
         ensures host { IfSome result (λ at. (pair : _) → (slice_index_or self.now.kept.items at pair).1.host ≡ option_copied host.entry) }
@@ -191,7 +191,7 @@ impl Snapshots {
         None
     }
 
-    // Takes the snapshot of a node for a host out, if its load is that of these names. Another is forgotten.
+    // Takes out the snapshot of a node for a host, if its load is that of these names. Drops it if it is another.
     fn take(
         &mut self,
         node: usize,
@@ -206,7 +206,7 @@ impl Snapshots {
         one.for_names(names)
     }
 
-    // Keeps the snapshot of a node's store behind all others, unless memory is refused.
+    // Caches the snapshot of a node's store as the last one, unless memory runs out.
     fn keep(&mut self, node: usize, store: Store, snapshot: Snapshot)
         requires snapshot { IsSnapshotOf store snapshot }
     {
@@ -216,54 +216,54 @@ impl Snapshots {
         let _ = self.kept.push((node, Remembered { store, snapshot }));
     }
 
-    // The snapshot of a node's store for a host, with these names asked for: the one that is remembered, as it is or refreshed,
-    // or else all is loaded anew. Where memory is refused, all that is remembered is forgotten, and it is tried once more.
+    // The snapshot of a node's store for a host and these names: the cached one, as it is or refreshed, or else a new
+    // load. If memory runs out, drops the whole cache and tries once more.
     fn found<R: Threads + Sync, G: Gate + Sync>(
         &mut self,
-        means: &Means<R, G>,
+        resources: &LoadResources<R, G>,
         node: usize,
         store: &Store,
         host: Option<&HostName>,
         names: &[UnitName],
-    ) -> Result<Found, LoadFault>
-        ensures snapshot { IfOk result (λ found. IsSnapshot (view_of store.now (option_copied host.entry)) names.now found.snapshot) }
-        ensures own { IfOk result (λ found. IfSome found.kept_with (λ own. IsSnapshotOf own found.snapshot)) }
-        ensures over { IfErr result (λ fault. OnTooMany fault (IsTooLarge (view_of store.now (option_copied host.entry)) names.now)) }
+    ) -> Result<Renewed, LoadFault>
+        ensures snapshot { IfOk result (λ found. IsSnapshot (host_view_of store.now (option_copied host.entry)) names.now found.snapshot) }
+        ensures own { IfOk result (λ found. IfSome found.cached_with (λ own. IsSnapshotOf own found.snapshot)) }
+        ensures over { IfErr result (λ fault. OnTooMany fault (IsTooLarge (host_view_of store.now (option_copied host.entry)) names.now)) }
     {
         let made = match self.take(node, host, names) {
             Some(one) => one.renewed(store),
-            None => loaded_anew(means, store, host, names),
+            None => loaded_anew(resources, store, host, names),
         };
         match made {
             Err(LoadFault::Memory) => {
                 self.clear();
-                loaded_anew(means, store, host, names)
+                loaded_anew(resources, store, host, names)
             }
             made => made,
         }
     }
 
-    // What a snapshot of a node's store answers; it is then kept, with the store that it is kept with already or else with a copy
-    // of this one.
-    fn told(
+    // The answer of a snapshot of a node's store. Then caches the snapshot, with the store that belongs to it already,
+    // or else with a copy of this one.
+    fn returned(
         &mut self,
         node: usize,
         store: &Store,
-        found: Found,
+        found: Renewed,
         question: &Question,
     ) -> Result<Answer, AllocError>
         requires snapshot { IsSnapshotOf store.now found.snapshot }
-        requires own { IfSome found.kept_with (λ own. IsSnapshotOf own found.snapshot) }
+        requires own { IfSome found.cached_with (λ own. IsSnapshotOf own found.snapshot) }
         requires host { found.snapshot.host ≡ host_asked question.now }
         requires known { AreKnown found.snapshot (names_asked question.now) }
-        ensures told { IfOk result (IsTold found.snapshot question.now) }
+        ensures returned { IfOk result (IsReturned found.snapshot question.now) }
     {
-        let Found {
+        let Renewed {
             mut snapshot,
-            kept_with,
+            cached_with,
         } = found;
         let answer = self.answer(&mut snapshot, question)?;
-        let own = match kept_with {
+        let own = match cached_with {
             Some(own) => Ok(own),
             None => store.try_clone(),
         };
@@ -273,11 +273,11 @@ impl Snapshots {
         Ok(answer)
     }
 
-    // What a snapshot answers. Where memory is refused, all others are forgotten, and it is asked once more.
+    // The answer of a snapshot. If memory runs out, drops all others and tries once more.
     fn answer(&mut self, snapshot: &mut Snapshot, question: &Question) -> Result<Answer, AllocError>
         requires host { snapshot.old.host ≡ host_asked question.now }
         requires known { AreKnown snapshot.old (names_asked question.now) }
-        ensures told { IfOk result (IsTold snapshot.old question.now) }
+        ensures returned { IfOk result (IsReturned snapshot.old question.now) }
         ensures load { snapshot.new ≡ snapshot.old }
     {
         match snapshot.answer(question) {
@@ -290,8 +290,9 @@ impl Snapshots {
     }
 }
 
-/// The answer that `answer_question` gives of a node's store, where what was loaded for its last question is refreshed and
-/// kept for the next one: only what changed since is read again. What can't be kept for want of memory is forgotten.
+/// The answer that `answer_question` gives for a node's store. What was loaded for the node's last question is
+/// refreshed, and cached for the next one, so only what changed since is read again. What can't be cached because
+/// memory runs out is dropped.
 pub fn answer_again<R: Threads + Sync, G: Gate + Sync>(
     rt: &R,
     alloc: Global,
@@ -305,7 +306,7 @@ pub fn answer_again<R: Threads + Sync, G: Gate + Sync>(
     ensures workers { (result ≡ Err Workers) ↔ ((workers ≡ 0) ⊎ (64 < workers)) }
     ensures answer { IfOk result (IsAnswer store.now [] question.now) }
 {
-    if !is_crew(workers) {
+    if !is_worker_count(workers) {
         return Err(AnswerFault::Workers);
     }
     let Ok(names) = whole_names(alloc, &[], question) else {
@@ -315,15 +316,15 @@ pub fn answer_again<R: Threads + Sync, G: Gate + Sync>(
         return Ok(Answer::Template);
     };
     let host = question.host();
-    let means = Means {
+    let resources = LoadResources {
         rt,
         alloc,
         workers,
         gate,
     };
-    match snapshots.found(&means, node, store, host, &names) {
+    match snapshots.found(&resources, node, store, host, &names) {
         Ok(found) => snapshots
-            .told(node, store, found, question)
+            .returned(node, store, found, question)
             .map_err(|_| AnswerFault::Memory),
         Err(LoadFault::TooManyUnits) => Ok(Answer::TooManyUnits),
         Err(_) => Err(AnswerFault::Memory),

@@ -1,13 +1,13 @@
-//! What all that must be loaded of a store comes to.
+//! The result of loading a store.
 ghost use Rattle.std.specs.{Prelude.{◌≡◌, ◌↔◌, ◌⊎◌, ◌<◌, Err, IfOk, IfErr}, Option.{IfSome, option_copied}};
 ghost use Rattle.inverse_deps.specs.Edges.{AreEdges};
-ghost use Rattle.path_maps.specs.Views.{view_of};
+ghost use Rattle.path_maps.specs.HostViews.{host_view_of};
 ghost use Rattle.parallel_load.specs.{AskedLaws.{asked_for}, Refreshes.{IsBefore}, Refusals.{OnTooMany, OnWorkers}, Universe.{IsTooLarge}};
 ghost use Rattle.parallel_load.specs.declared.faults.LoadFault.TheVariants.{Workers};
-ghost use Rattle.fleet_answers.specs.Answers.{AreKnown, IsSnapshot, IsTold, host_asked, names_asked};
+ghost use Rattle.fleet_answers.specs.Answers.{AreKnown, IsSnapshot, IsReturned, host_asked, names_asked};
 
+use crate::from_loads::{linked_unit, planned, pulled};
 use crate::questions::{Answer, Question};
-use crate::tellings::{linked_unit, planned, pulled};
 use inverse_deps::{Edges, Links, are_linked_alike, edges};
 use parallel_load::{Gate, LoadFault, Loaded, Refreshed, load_fleet, load_here, refresh_in_place};
 use plain_values::{Items, Shared, TryClone};
@@ -17,7 +17,8 @@ use std::marker::Model;
 use std::thread::Threads;
 use unit_name::UnitName;
 
-/// All units that must be loaded of a store, the links of each, and all edges once a question asked for them. Contracts see the load.
+/// All units that must be loaded of a store, the links of each, and all edges once a question has needed them.
+/// Contracts see the load.
 #[derive(Debug, Drop)]
 pub struct Snapshot {
     loaded: Loaded,
@@ -40,26 +41,27 @@ impl Model for Snapshot {
 }
 
 impl Snapshot {
-    /// The snapshot of a store for a host, or without one, with these names asked for beside all at which something is visible, by one thread.
-    /// `TooManyUnits` exactly where more than 4,096 names must be loaded, aliases counted; or `Memory` for want of memory.
+    /// The snapshot of a store, for a host or without one, by one thread. Loads these names and all at which something
+    /// is visible. `TooManyUnits` exactly if more than 4,096 names must be loaded, aliases included. `Memory` if memory
+    /// runs out.
     ///
-    /// One load (systemd.unit(5)) with the links of each unit, and no edges yet.
+    /// Costs one load (systemd.unit(5)) and the links of each unit. Makes no edges yet.
     pub fn of(
         alloc: Global,
         store: &Store,
         host: Option<&HostName>,
         extra: &[UnitName],
     ) -> Result<Snapshot, LoadFault>
-        ensures snapshot { IfOk result (IsSnapshot (view_of store.now (option_copied host.entry)) extra.now) }
-        ensures over { IfErr result (λ fault. OnTooMany fault (IsTooLarge (view_of store.now (option_copied host.entry)) extra.now)) }
+        ensures snapshot { IfOk result (IsSnapshot (host_view_of store.now (option_copied host.entry)) extra.now) }
+        ensures over { IfErr result (λ fault. OnTooMany fault (IsTooLarge (host_view_of store.now (option_copied host.entry)) extra.now)) }
         ensures no_workers { IfErr result (λ fault. OnWorkers fault ⊥) }
     {
         let loaded = load_here(alloc, store, host, extra)?;
         Ok(Snapshot::of_load(loaded)?)
     }
 
-    /// The same snapshot by 1 to 64 workers, whatever their number and whatever the gate answers. `Workers` exactly where
-    /// they aren't 1 to 64, before anything else. It may wait for threads; one worker needs none.
+    /// The same snapshot, by 1 to 64 workers. Neither their number nor the gate's answers change it. `Workers`, before
+    /// anything else, exactly if the number isn't 1 to 64. May wait for threads; one worker needs none.
     pub fn by_workers<R: Threads + Sync, G: Gate + Sync>(
         rt: &R,
         alloc: Global,
@@ -70,8 +72,8 @@ impl Snapshot {
         gate: &G,
     ) -> Result<Snapshot, LoadFault>
         ensures workers { (result ≡ Err Workers) ↔ ((workers ≡ 0) ⊎ (64 < workers)) }
-        ensures snapshot { IfOk result (IsSnapshot (view_of store.now (option_copied host.entry)) extra.now) }
-        ensures over { IfErr result (λ fault. OnTooMany fault (IsTooLarge (view_of store.now (option_copied host.entry)) extra.now)) }
+        ensures snapshot { IfOk result (IsSnapshot (host_view_of store.now (option_copied host.entry)) extra.now) }
+        ensures over { IfErr result (λ fault. OnTooMany fault (IsTooLarge (host_view_of store.now (option_copied host.entry)) extra.now)) }
     {
         if workers == 1 {
             return Snapshot::of(alloc, store, host, extra);
@@ -80,7 +82,7 @@ impl Snapshot {
         Ok(Snapshot::of_load(loaded)?)
     }
 
-    // A load and its links. Its edges aren't made yet.
+    // A load and its links. Makes no edges yet.
     fn of_load(loaded: Loaded) -> Result<Snapshot, AllocError>
         ensures load { IfOk result (λ made. made ≡ loaded) }
     {
@@ -93,13 +95,13 @@ impl Snapshot {
         })
     }
 
-    /// The snapshot of another store for the same host with the same names asked for, where these places are all at which the
-    /// two stores show otherwise: what `of` gives of it, refusals too, but that only what changed is read. Links, and edges that
-    /// were made, are kept where names and dependencies stayed.
+    /// The snapshot of another store for the same host and names, if these places are all at which the two stores show
+    /// different contents. The result, refusals included, is that of `of`, but only what changed is read. Links, and
+    /// edges that were made, are reused if names and dependencies stayed the same.
     pub(crate) fn refreshed(self, store: &Store, touched: &[Place]) -> Result<Snapshot, LoadFault>
         requires before { IsBefore self store.now touched.now }
-        ensures snapshot { IfOk result (IsSnapshot (view_of store.now self.host) self.extra) }
-        ensures over { IfErr result (λ fault. OnTooMany fault (IsTooLarge (view_of store.now self.host) self.extra)) }
+        ensures snapshot { IfOk result (IsSnapshot (host_view_of store.now self.host) self.extra) }
+        ensures over { IfErr result (λ fault. OnTooMany fault (IsTooLarge (host_view_of store.now self.host) self.extra)) }
         ensures no_workers { IfErr result (λ fault. OnWorkers fault ⊥) }
     {
         let Snapshot {
@@ -126,7 +128,7 @@ impl Snapshot {
         }
     }
 
-    /// The same, as if these names had been asked for in place of those that were: links and edges stay. It takes no memory.
+    /// The same snapshot, asked for by these names: links and edges stay. Allocates nothing.
     pub(crate) fn asked_for(self, extra: Items<UnitName>) -> Snapshot
         ensures load { result ≡ asked_for extra self }
     {
@@ -142,14 +144,14 @@ impl Snapshot {
         }
     }
 
-    /// The units.
+    /// The load.
     pub fn loaded(&self) -> &Loaded
         ensures load { result.now ≡ self.now }
     {
         &self.loaded
     }
 
-    /// All edges between the units. They are made once, and kept. It fails for want of memory alone.
+    /// All edges between the units. Made once, then cached. Fails only if memory runs out.
     pub fn edges(&mut self) -> Result<Shared<Edges>, AllocError>
         ensures edges { IfOk result (AreEdges self.old) }
         ensures load { self.new ≡ self.old }
@@ -163,12 +165,12 @@ impl Snapshot {
         Ok(made)
     }
 
-    /// Answers a question for its host, all of whose names stand for units. It fails for want of memory alone. What a unit
-    /// pulls, and plans, need all edges, which are then kept.
+    /// Answers a question for its host, if all its names are in the load. What a unit pulls, and plans, need all edges,
+    /// which are then cached. Fails only if memory runs out.
     pub fn answer(&mut self, question: &Question) -> Result<Answer, AllocError>
         requires host { self.old.host ≡ host_asked question.now }
         requires known { AreKnown self.old (names_asked question.now) }
-        ensures told { IfOk result (IsTold self.old question.now) }
+        ensures returned { IfOk result (IsReturned self.old question.now) }
         ensures load { self.new ≡ self.old }
     {
         match question {

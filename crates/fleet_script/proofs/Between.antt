@@ -1,34 +1,19 @@
--- Commands between nodes: from what is kept to the outcome.
-use Rattle.std.proofs.Common.{◌≡◌, inl, inr, ℕ, ◌+◌, ◌-◌, ◌<◌, ◌==◌, Bool, true, false, cond, List, [], ◌∷◌, ◌++◌, map, length, set, get_or, Vec, Global, Option, Some, None, Result, Ok, Err, refl, sym, ap, subst, ◌∙◌, arith}
-use Rattle.std.specs.Prelude.{count_by, not, MatchOption, OnOk}
-use Rattle.std.specs.Ordering.{is_eq}
-use Rattle.std.specs.Cmp.{tied_itself}
-use Rattle.std.specs.Str.{bytes_eq}
-use Rattle.std.specs.FinMap as finmap
-use Rattle.std.proofs.lemmas.Bool.{true≢false, eq-eqb, eqb-true}
+-- Commands between nodes: from the shell's state to the outcome.
+use Rattle.std.proofs.Common.{[], ◌++◌, ◌+◌, ◌-◌, ◌<◌, ◌==◌, ◌∙◌, ◌∷◌, ◌≡◌, ap, arith, Bool, cond, Err, false, get_or, Global, inl, inr, length, List, map, MatchOption, None, not, Ok, OnOk, Option, refl, Result, set, Some, subst, sym, true, Vec, ℕ}
+use Rattle.std.proofs.lemmas.Bool.{eq-eqb, eqb-true, true≢false}
 use Rattle.std.proofs.lemmas.List.{nil_from_length, set-get_or}
 use Rattle.std.proofs.lemmas.List.Sums.{sum_by-cons}
-use Rattle.load_places.specs.Places.{PlaceParts}
-use Rattle.edit_sums.specs.SumLaws.{join-nothing, join_idem}
-use Rattle.edit_sums.specs.declared.entries.Edit.{Edit}
-use Rattle.edit_sums.specs.Entries.{Entry}
-use Rattle.edit_sums.specs.EntryLaws.{entry_cmp_total}
-use Rattle.edit_sums.specs.GreatestLaws.{get_from_edits_of}
-use Rattle.list_laws.specs.Members.{IsAmong}
-use Rattle.edit_sums.specs.Sums.{EntryMap, changed_places, edit_of, entry_of, is_other, join, sum_of}
-use Rattle.replica_store.specs.Replicas.{Replicated}
-use Rattle.world_law.specs.declared.events.Event.TheVariants.{Give}
-use Rattle.world_law.specs.Cuts.{VersionMap, cut, digest_of}
-use Rattle.script_commands.specs.declared.commands.LineRefusal.TheVariants.{UnknownNode, UnknownPiece}
-use Rattle.script_answers.specs.Texts.{changed_line, entries_line}
-use Rattle.script_worlds.specs.Worlds.{ScriptWorld, held, happened, merged, merged_all, parted, piece_named}
-use Rattle.fleet_script.specs.Does.{AtNode, Gives, Refuses, Sends, SendsTo, if_any}
-use Rattle.fleet_script.specs.Holds.{Continues, Goes, Holds, IsJoinedAt, IsNamed, IsPiece, Keeps, joined_with}
+use Rattle.std.specs.Cmp.{tied_itself}
+use Rattle.std.specs.Ordering.{is_eq}
+use Rattle.std.specs.Prelude.{count_by}
+use Rattle.std.specs.Str.{bytes_eq}
+use Rattle.fleet_script.proofs.Prelude.{AtNode, changed_line, changed_places, Continues, cut, digest_of, Edit, edit_of, entries_line, Entry, entry_cmp_total, entry_of, EntryMap, get_from_edits_of, Give, Gives, Goes, happened, held, Holds, if_any, is_other, IsAmong, IsJoinedAt, IsNamed, IsPiece, join, join-nothing, join_idem, joined_with, Keeps, merged, merged_all, parted, piece_named, PlaceParts, Refuses, Replicated, ScriptWorld, Sends, SendsTo, sum_of, UnknownNode, UnknownPiece, VersionMap}
 use Rattle.fleet_script.proofs.Nodes.{at_place, get_or_any, get_or_here, get_or_there, get_or_twice, holds_merge, holds_part, holds_send, length_set, set_twice, slice_get_at}
+use Rattle.std.specs.FinMap as finmap
 
 -- ---- merging two nodes
 
--- what stays as it is has no other place
+-- a store that holds each of these entries holds nothing else at their places
 none_other : (s : EntryMap) (es : List (PlaceParts × Entry)) → ((e : Edit) → IsAmong e (map edit_of es) → finmap.get s e.place ≡ Some (entry_of e)) → count_by (λ p. is_other (finmap.get s p.0) p.1) es ≡ 0
 none_other s [] held = refl
 none_other s (p ∷ ps) held =

@@ -1,53 +1,30 @@
--- What a step came to, one lemma for each word of the meaning.
-use Rattle.std.proofs.Common.{◌≡◌, ◌≢◌, inl, inr, ℕ, ◌+◌, ◌<◌, ◌==◌, Bool, true, false, cond, List, [], ◌∷◌, ◌++◌, length, set, get_or, Vec, Global, Option, Some, None, is_some, Result, Ok, Err, codes, refl, sym, ap, subst, ◌∙◌}
-use Rattle.std.specs.Prelude.{slice_get, MatchOption, MatchResult, IsErrOf, IsSome}
-use Rattle.std.specs.Bool.{MatchBool}
-use Rattle.std.specs.Str.{bytes_eq}
+-- The outcome of a step, with one lemma for each word of the meaning.
+use Rattle.std.proofs.Common.{[], ◌++◌, ◌+◌, ◌<◌, ◌==◌, ◌∙◌, ◌∷◌, ◌≡◌, ◌≢◌, ap, Bool, codes, cond, Err, false, get_or, Global, inl, inr, is_some, IsSome, length, List, MatchOption, MatchResult, None, Ok, Option, refl, Result, set, slice_get, Some, subst, sym, true, Vec, ℕ}
+use Rattle.std.proofs.lemmas.Bool.{eq-eqb, eqb-true, ne_eqb, true≢false}
+use Rattle.std.proofs.lemmas.Map.Text.{is_eq-slice_cmp}
 use Rattle.std.specs.Cmp.{Equal-is, nat_cmp_is}
 use Rattle.std.specs.Cmp.Lexicographic.{slice_cmp}
 use Rattle.std.specs.FinMap.{nat_cmp-IsAntisymmetric}
 use Rattle.std.specs.Ordering.{is_eq, nat_cmp}
+use Rattle.std.specs.Prelude.{IsErrOf, MatchBool}
+use Rattle.std.specs.Str.{bytes_eq}
 use Rattle.std.specs.declared.cmp.Ordering.TheVariants.{Equal}
-use Rattle.std.proofs.lemmas.Map.Text.{is_eq-slice_cmp}
-use Rattle.std.proofs.lemmas.Bool.{true≢false, eq-eqb, eqb-true, ne_eqb}
-use Rattle.join_law.specs.declared.versions.Version.{Version}
-use Rattle.load_places.specs.Texts.{place_of}
-use Rattle.load_places.specs.Places.{PlaceParts}
-use Rattle.load_places.specs.declared.texts.PlaceFault.{PlaceFault}
-use Rattle.load_places.specs.declared.texts.PlaceFault.TheVariants as place
-use Rattle.edit_sums.specs.declared.contents.Content.{Content}
-use Rattle.edit_sums.specs.declared.contents.Content.TheVariants.{Gone}
-use Rattle.edit_sums.specs.declared.entries.Edit.{Edit}
-use Rattle.edit_sums.specs.Sums.{EntryMap, high_of, sum_of, visible_at, with_edit}
-use Rattle.replica_store.specs.declared.replicas.EditFault.{EditFault}
-use Rattle.replica_store.specs.declared.replicas.EditFault.TheVariants as edit
-use Rattle.replica_store.specs.Replicas.{Replicated, next_version, with_put}
-use Rattle.world_law.specs.declared.events.Event.TheVariants.{Put}
-use Rattle.script_commands.specs.declared.commands.Fault.{Fault}
-use Rattle.script_commands.specs.declared.commands.Fault.TheVariants.{Refused, Memory}
-use Rattle.script_commands.specs.declared.commands.LineRefusal.{LineRefusal}
-use Rattle.script_commands.specs.declared.commands.LineRefusal.TheVariants.{UnknownNode, BadText, HostName, Directory, Depth, Component, FileTooLarge, BadLink, VersionsSpent, Nothing, NodeTaken, WriterTaken}
-use Rattle.script_commands.specs.Faults.{fault_of_edit, fault_of_place}
-use Rattle.script_commands.specs.Files.{IsFileOf, IsLinkTo, IsNoFile, IsNoLink, without_memory, bad_text, too_large}
-use Rattle.script_commands.specs.Outcomes.{IsSaid, Outcome}
-use Rattle.script_commands.specs.Places.{IsPlaceFault, places_of}
-use Rattle.script_answers.specs.Texts.{ok_line}
-use Rattle.script_worlds.specs.Worlds.{ScriptWorld, happened, has_writer, held, next_edit}
-use Rattle.script_worlds.specs.Worlds.{with_node as with_new_node}
-use Rattle.fleet_script.specs.Does.{AtNode, AtPlace, AtPlaces, Gives, IsRead, Names, Reads, Refuses, RefusesPlace, WithFile, WithTarget, WithText, Writes}
-use Rattle.fleet_script.specs.Holds.{Goes, HasNoNode, HasNoSite, Holds, IsNodeNamed, IsSite, Keeps}
+use Rattle.fleet_script.proofs.Prelude.{AtNode, AtPlace, AtPlaces, bad_text, BadLink, BadText, Component, Content, Depth, Directory, Edit, EditFault, EntryMap, Fault, fault_of_edit, fault_of_place, FileTooLarge, Gives, Goes, Gone, happened, has_writer, HasNoNode, HasNoSite, held, high_of, Holds, HostName, IsFileOf, IsLinkTo, IsNodeNamed, IsNoFile, IsNoLink, IsPlaceFault, IsRead, IsSaid, IsSite, Keeps, LineRefusal, Memory, Names, next_edit, next_version, NodeTaken, Nothing, ok_line, Outcome, place_of, PlaceFault, PlaceParts, places_of, Reads, Refused, Refuses, RefusesPlace, Replicated, ScriptWorld, sum_of, too_large, UnknownNode, Version, VersionsSpent, visible_at, with_edit, with_new_node, with_put, WithFile, without_memory, WithTarget, WithText, WriterTaken, Writes}
 use Rattle.fleet_script.proofs.Nodes.{holds_node, holds_put, set_same}
+use Rattle.load_places.specs.declared.texts.PlaceFault.TheVariants as place
+use Rattle.replica_store.specs.declared.replicas.EditFault.TheVariants as edit
+use Rattle.world_law.specs.declared.events.Event.TheVariants.{Put}
 
--- steps, and what they leave open
+-- steps, which constrain the outcome and the new world
 abbrev pub Step : Type 1
 Step = ScriptWorld → Outcome → ScriptWorld → Type 0
 
-abbrev pub Told : Type 0
-Told = Result (Vec ℕ Global) Fault
+abbrev pub Rendered : Type 0
+Rendered = Result (Vec ℕ Global) Fault
 
--- what is said of the outcome
-abbrev pub IsTold : Told → (Outcome → Type 0) → Type 0
-IsTold = IsSaid (λ (text : Vec ℕ Global). text.items)
+-- what holds of the outcome
+abbrev pub IsRendered : Rendered → (Outcome → Type 0) → Type 0
+IsRendered = IsSaid (λ (text : Vec ℕ Global). text.items)
 
 pub match_true : (b : Bool) (P Q : Type 0) → b ≡ true → P → MatchBool b P Q
 match_true true P Q e p = p
@@ -61,20 +38,20 @@ pub refuses : (world : ScriptWorld) (refusal : LineRefusal) → Refuses world re
 refuses world refusal = record { outcome_is = refl; world_is = refl }
 
 -- a step that follows from another
-pub weaker : (shell after : Keeps) (r : Told) (S T : Step) → ((old : ScriptWorld) → Holds shell old → (outcome : Outcome) (new : ScriptWorld) → S old outcome new → T old outcome new) → Goes shell after S r → Goes shell after T r
+pub weaker : (shell after : Keeps) (r : Rendered) (S T : Step) → ((old : ScriptWorld) → Holds shell old → (outcome : Outcome) (new : ScriptWorld) → S old outcome new → T old outcome new) → Goes shell after S r → Goes shell after T r
 weaker shell after (Ok text) S T f go = λ world h. (let next = go world h in (next.0, next.1, f world h (Ok text.items) next.0 next.2))
 weaker shell after (Err (Refused refusal)) S T f go = λ world h. (let next = go world h in (next.0, next.1, f world h (Err refusal) next.0 next.2))
 weaker shell after (Err Memory) S T f go = tt
 
--- a fault that is a refusal, or want of memory
+-- a fault that is a refusal, or that memory ran out
 pub refused : (shell : Keeps) (refusal : LineRefusal) (fault : Fault) (S : Step) → fault ≡ Refused refusal → ((old : ScriptWorld) → Holds shell old → S old (Err refusal) old) → Goes shell shell S (Err fault)
 refused shell refusal fault S e f = subst (λ (g : Fault). Goes shell shell S (Err g)) (sym e) (λ world h. (world, h, f world h))
 
 pub no_memory : (shell after : Keeps) (fault : Fault) (S : Step) → fault ≡ Memory → Goes shell after S (Err fault)
 no_memory shell after fault S e = subst (λ (g : Fault). Goes shell after S (Err g)) (sym e) tt
 
-module _ (shell after : Keeps) (r : Told) where
-  -- the node of a name
+module _ (shell after : Keeps) (r : Rendered) where
+  -- the node with a name
   pub with_node : (name : List ℕ) (at : ℕ) (P : ℕ → Step) → shell.number_of name ≡ Some at → Goes shell after (P at) r → Goes shell after (λ old outcome new. AtNode old outcome new name (λ k. P k old outcome new)) r
   with_node name at P some = weaker shell after r (P at) _ (λ old h outcome new p. subst (λ (o : Option ℕ). MatchOption o (Refuses old UnknownNode outcome new) (λ k. P k old outcome new)) (sym some ∙ h.numbers name) p)
 
@@ -85,7 +62,7 @@ module _ (shell after : Keeps) (r : Told) where
   pub with_all_written : (texts : List (List ℕ)) (ps : List PlaceParts) (P : List PlaceParts → Step) → places_of texts ≡ Ok ps → Goes shell after (P ps) r → Goes shell after (λ old outcome new. AtPlaces old outcome new texts (λ q. P q old outcome new)) r
   with_all_written texts ps P read = weaker shell after r (P ps) _ (λ old h outcome new q. subst (λ (x : Result (List PlaceParts) PlaceFault). MatchResult x (λ q. P q old outcome new) (RefusesPlace old outcome new)) (sym read) q)
 
-  -- a place that a text writes, of the node of a name
+  -- a place that a text writes, of the node with a name
   pub with_site : (name text : List ℕ) (at : ℕ) (p : PlaceParts) (P : ℕ → PlaceParts → Step)
       → IsSite shell name text at p → Goes shell after (P at p) r
       → Goes shell after (λ old outcome new. AtNode old outcome new name (λ k. AtPlace old outcome new text (λ q. P k q old outcome new))) r
@@ -137,28 +114,28 @@ module _ (shell : Keeps) (fault : Fault) where
   without_link target P (inl e) = no_memory shell shell fault _ e
   without_link target P (inr (bad, e)) = refused shell BadLink fault _ e (λ old h. match_false _ _ _ bad (refuses old BadLink))
 
--- ---- what is read alone
+-- ---- commands that only read
 
-read_told : (shell : Keeps) (r : Told) (i : ℕ) (node : Replicated) (Tells : EntryMap → Outcome → Type 0) → slice_get shell.nodes i ≡ Some node
-    → Goes shell shell (λ old outcome new. Tells node.store outcome × (new ≡ old)) r → Goes shell shell (λ old outcome new. IsRead (Tells (held old i)) old outcome new) r
-read_told shell r i node Tells at = weaker shell shell r _ _ (λ old h outcome new p. record { told = subst (λ (s : EntryMap). Tells s outcome) (h.stores i node at) p.0; world_is = p.1 })
+read_rendered : (shell : Keeps) (r : Rendered) (i : ℕ) (node : Replicated) (Renders : EntryMap → Outcome → Type 0) → slice_get shell.nodes i ≡ Some node
+    → Goes shell shell (λ old outcome new. Renders node.store outcome × (new ≡ old)) r → Goes shell shell (λ old outcome new. IsRead (Renders (held old i)) old outcome new) r
+read_rendered shell r i node Renders at = weaker shell shell r _ _ (λ old h outcome new p. record { rendered = subst (λ (s : EntryMap). Renders s outcome) (h.stores i node at) p.0; world_is = p.1 })
 
 -- nothing happens
-stays : (shell : Keeps) (r : Told) (P : Outcome → Type 0) → IsTold r P → Goes shell shell (λ old outcome new. P outcome × (new ≡ old)) r
+stays : (shell : Keeps) (r : Rendered) (P : Outcome → Type 0) → IsRendered r P → Goes shell shell (λ old outcome new. P outcome × (new ≡ old)) r
 stays shell (Ok text) P p = λ world h. (world, h, (p, refl))
 stays shell (Err (Refused refusal)) P p = λ world h. (world, h, (p, refl))
 stays shell (Err Memory) P p = tt
 
--- a command that only reads tells what it may tell of the store of a node of this name
-pub reads : (shell : Keeps) (r : Told) (name : List ℕ) (replica : Replicated) (s : EntryMap) (Tells : EntryMap → Outcome → Type 0) → IsNodeNamed shell name replica → s ≡ replica.store → IsTold r (Tells s)
-    → Goes shell shell (λ old outcome new. Reads old outcome new name Tells) r
-reads shell r name replica s Tells is same told =
-    with_node shell shell r name is.number (λ k old outcome new. IsRead (Tells (held old k)) old outcome new) is.named
-    (read_told shell r is.number replica Tells is.there (stays shell r (Tells replica.store) (subst (λ (t : EntryMap). IsTold r (Tells t)) same told)))
+-- a command that only reads answers what it may answer of the store of the node with this name
+pub reads : (shell : Keeps) (r : Rendered) (name : List ℕ) (replica : Replicated) (s : EntryMap) (Renders : EntryMap → Outcome → Type 0) → IsNodeNamed shell name replica → s ≡ replica.store → IsRendered r (Renders s)
+    → Goes shell shell (λ old outcome new. Reads old outcome new name Renders) r
+reads shell r name replica s Renders is same rendered =
+    with_node shell shell r name is.number (λ k old outcome new. IsRead (Renders (held old k)) old outcome new) is.named
+    (read_rendered shell r is.number replica Renders is.there (stays shell r (Renders replica.store) (subst (λ (t : EntryMap). IsRendered r (Renders t)) same rendered)))
 
 -- ---- writing
 
--- a node that is as it was
+-- a node that stays as it was
 pub set_again : (nodes : List Replicated) (i : ℕ) (node new : Replicated) → node ≡ get_or nodes i node → new ≡ node → set nodes i new ≡ nodes
 set_again nodes i node new is same = ap (set nodes i) same ∙ set_same nodes i node is
 
@@ -179,7 +156,7 @@ module _ (shell : Keeps) (i : ℕ) (node : Replicated) (p : PlaceParts) (content
             (record { outcome_is = ap Ok (e ∙ ap ok_line (v ∙ ap (λ (d : Edit). d.version) same)); world_is = refl }),
       )
 
-  -- a refused edit: the counters are spent, or memory was refused
+  -- a refused edit: the counters are spent, or memory ran out
   pub spent_write : (world : ScriptWorld) → Holds shell world → high_of node.store ≡ 18446744073709551615 → Writes world (Err VersionsSpent) world i p content
   spent_write world h spent = match_true _ _ _ (eq-eqb _ _ (ap high_of (sym (h.stores i node at)) ∙ spent)) (refuses world VersionsSpent)
 
@@ -192,8 +169,8 @@ module _ (shell : Keeps) (i : ℕ) (node : Replicated) (p : PlaceParts) (content
 
 -- ---- removing
 
--- the content that is visible is removed
-removes : (shell after : Keeps) (r : Told) (i : ℕ) (node : Replicated) (p : PlaceParts) → slice_get shell.nodes i ≡ Some node → (visible_at node.store p ≡ None → ⊥)
+-- the visible content is removed
+removes : (shell after : Keeps) (r : Rendered) (i : ℕ) (node : Replicated) (p : PlaceParts) → slice_get shell.nodes i ≡ Some node → (visible_at node.store p ≡ None → ⊥)
     → Goes shell after (λ old outcome new. Writes old outcome new i p Gone) r
     → Goes shell after (λ old outcome new. MatchOption (visible_at (held old i) p) (Refuses old Nothing outcome new) (λ shown. Writes old outcome new i p Gone)) r
 removes shell after r i node p at visible = weaker shell after r _ _ (λ old h outcome new w. by old outcome new w (visible_at (held old i) p) (ap (λ (s : EntryMap). visible_at s p) (h.stores i node at)))
@@ -218,7 +195,7 @@ module _ (shell : Keeps) (i : ℕ) (node : Replicated) (p : PlaceParts) (at : sl
       some_of None n = absurd (n refl)
       some_of (Some c) n = refl
 
-  -- a refused removal: nothing is visible, the counters are spent, or memory was refused
+  -- a refused removal: nothing is visible, the counters are spent, or memory ran out
   pub remove_refused : (f : EditFault) (fault : Fault) → (IsErrOf {T = Version} (Err f) edit.Nothing → visible_at node.store p ≡ None)
       → (IsErrOf {T = Version} (Err f) edit.VersionsSpent → IsSome (visible_at node.store p) × (high_of node.store ≡ 18446744073709551615)) → fault ≡ fault_of_edit f
       → Goes shell shell (λ old outcome new. MatchOption (visible_at (held old i) p) (Refuses old Nothing outcome new) (λ shown. Writes old outcome new i p Gone)) (Err fault)
@@ -240,7 +217,7 @@ module _ (shell : Keeps) (i : ℕ) (node : Replicated) (p : PlaceParts) (at : sl
 
 -- ---- making a node
 
--- what a map that is changed at one key has, by the bytes of the key
+-- the entries of a map after a change at one key, by the bytes of the key
 pub key_updated : {V : Type 0} (name key other : List ℕ) (v w : V) (o now : Option V) → key ≡ name → v ≡ w → now ≡ cond (is_eq (slice_cmp nat_cmp key other)) (Some v) o → now ≡ cond (bytes_eq name other) (Some w) o
 key_updated name key other v w o now same is e = e ∙ ap (λ b. cond b (Some v) o) (is_eq-slice_cmp key other ∙ ap (λ n. bytes_eq n other) same) ∙ ap (λ x. cond (bytes_eq name other) (Some x) o) is
 

@@ -1,3 +1,4 @@
+pub mod Prelude
 pub mod Between
 pub mod Goes
 pub mod Lines

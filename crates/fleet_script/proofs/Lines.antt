@@ -1,24 +1,14 @@
 -- One line at a time: from the outcome of its command to its answer.
-use Rattle.std.proofs.Common.{◌≡◌, ℕ, ◌≤◌, false, nat_lt, List, length, Result, Ok, subst, arith}
-use Rattle.std.specs.Prelude.{MatchResult}
+use Rattle.std.proofs.Common.{◌≡◌, ◌≤◌, arith, false, length, List, MatchResult, nat_lt, Ok, Result, subst, ℕ}
 use Rattle.std.proofs.lemmas.Bool.Decides.{nat_tests}
-use Rattle.script_words.specs.Lines.{is_passed_over}
-use Rattle.script_commands.specs.declared.commands.Command.{Command}
-use Rattle.script_commands.specs.declared.commands.LineRefusal.{LineRefusal}
-use Rattle.script_commands.specs.Commands.{command_of}
-use Rattle.script_commands.specs.Outcomes.{Outcome}
-use Rattle.script_answers.specs.Texts.{outcome_text}
-use Rattle.script_worlds.specs.Worlds.{ScriptWorld}
-use Rattle.fleet_script.specs.Does.{Does, Refuses}
-use Rattle.fleet_script.specs.Holds.{Continues, Goes, Keeps}
-use Rattle.fleet_script.specs.Scripts.{AnswersLine}
-use Rattle.fleet_script.proofs.Goes.{Told, match_false, weaker}
+use Rattle.fleet_script.proofs.Prelude.{AnswersLine, Command, command_of, Continues, Does, Goes, is_passed_over, Keeps, LineRefusal, Outcome, outcome_text, Refuses, ScriptWorld}
+use Rattle.fleet_script.proofs.Goes.{match_false, Rendered, weaker}
 
--- what is done for the command of a line, whatever it is
+-- the outcome of a line's command, whatever the command is
 abbrev pub IsDone : List ℕ → ScriptWorld → Outcome → ScriptWorld → Type 0
 IsDone line old outcome new = MatchResult (command_of line) (λ command. Does old command outcome new) (λ refusal. Refuses old refusal outcome new)
 
-pub executed : (shell now : Keeps) (line : List ℕ) (command : Command) (r : Told) → Ok command ≡ command_of line
+pub executed : (shell now : Keeps) (line : List ℕ) (command : Command) (r : Rendered) → Ok command ≡ command_of line
     → Goes shell now (λ old outcome new. Does old command outcome new) r → Goes shell now (λ old outcome new. IsDone line old outcome new) r
 executed shell now line command r is = weaker shell now r _ _ (λ old h outcome new d. subst (λ (m : Result Command LineRefusal). MatchResult m (λ command. Does old command outcome new) (λ refusal. Refuses old refusal outcome new)) is d)
 

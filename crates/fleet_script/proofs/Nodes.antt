@@ -1,22 +1,11 @@
--- What the shell keeps against the world, after each thing that happens.
-use Rattle.std.proofs.Common.{◌≡◌, ◌≢◌, ℕ, zero, suc, ◌<◌, ◌==◌, Bool, true, false, cond, nat_lt, List, [], ◌∷◌, ◌++◌, length, set, get_or, Option, Some, None, refl, sym, ap, subst, ◌∙◌, arith}
-use Rattle.std.specs.Prelude.{slice_get}
-use Rattle.std.specs.Str.{bytes_eq}
-use Rattle.std.proofs.lemmas.Bool.{true≢false, eqb-true, eq-eqb}
+-- The state of the shell and the world agree after each event.
+use Rattle.std.proofs.Common.{[], ◌++◌, ◌<◌, ◌==◌, ◌∙◌, ◌∷◌, ◌≡◌, ◌≢◌, ap, arith, Bool, cond, false, get_or, length, List, nat_lt, None, Option, refl, set, slice_get, Some, subst, suc, sym, true, zero, ℕ}
+use Rattle.std.proofs.lemmas.Bool.{eq-eqb, eqb-true, true≢false}
 use Rattle.std.proofs.lemmas.Bool.Decides.{nat_tests}
-use Rattle.load_places.specs.Places.{PlaceParts}
-use Rattle.edit_sums.specs.declared.contents.Content.{Content}
-use Rattle.edit_sums.specs.Sums.{EntryMap, sum_of, with_edit, join}
-use Rattle.replica_store.specs.Replicas.{Replicated}
-use Rattle.world_law.specs.declared.events.Event.TheVariants.{Put, Ask, Cut, Give}
+use Rattle.std.specs.Str.{bytes_eq}
+use Rattle.fleet_script.proofs.Prelude.{answer_is, answered, Ask, Content, Cut, cut, digest_of, EntryMap, Give, happened, has_writer, has_writer-push, held, held_answered, held_given, held_given_elsewhere, held_merged, held_merged_elsewhere, held_past, held_put, held_put_elsewhere, held_with_node, Holds, IsNamed, IsPiece, IsValid, join, Keeps, Member, merged, next_ask, next_edit, next_piece, node_named, node_named-push, parted, piece_named, piece_stays, PlaceParts, Replicated, ScriptWorld, state, state_with_node, sum_of, valid_answered, valid_given, valid_merged, valid_put, valid_with_node, with_edit, with_node, writer_at}
+use Rattle.world_law.specs.declared.events.Event.TheVariants.{Put}
 use Rattle.world_law.specs.Worlds as worlds
-use Rattle.world_law.specs.Cuts.{cut, digest_of}
-use Rattle.world_law.specs.WorldLaws.{piece_stays, answer_is}
-use Rattle.script_worlds.specs.Worlds.{ScriptWorld, Member, state, held, happened, answered, parted, merged, with_node, node_named, has_writer, writer_at, next_edit, next_ask, next_piece, piece_named}
-use Rattle.script_worlds.specs.Lawful.{IsLawful}
-use Rattle.script_worlds.specs.LawfulLaws.{held_put, held_put_elsewhere, held_answered, held_given, held_given_elsewhere, held_merged, held_merged_elsewhere, held_with_node, held_past, lawful_put, lawful_answered, lawful_given, lawful_merged, lawful_with_node, state_with_node}
-use Rattle.script_worlds.specs.NodeLaws.{has_writer-push, node_named-push}
-use Rattle.fleet_script.specs.Holds.{Holds, Keeps, IsNamed, IsPiece}
 
 -- ---- places
 
@@ -94,7 +83,7 @@ module _ {X : Type 0} where
   length_push [] x = refl
   length_push (y ∷ ys) x = ap suc (length_push ys x)
 
-  -- what stands at a place of a list with one element changed
+  -- what is at a place of a list with one element changed
   slice_get-set : (xs : List X) (i k : ℕ) (x y : X) → i < length xs → slice_get (set xs i x) k ≡ Some y → (P : ℕ → X → Type 0) → P i x → (k ≢ i → slice_get xs k ≡ Some y → P k y) → P k y
   slice_get-set xs i k x y lt is P here there = by (k == i) refl
     where
@@ -110,7 +99,7 @@ module _ {X : Type 0} where
           let apart : k ≢ i = λ at. true≢false (sym (eq-eqb k i at) ∙ e) in
           there apart (sym (slice_get-set_other xs i k x apart) ∙ is)
 
-  -- and of one with an element more
+  -- and of one with one more element
   slice_get-push : (xs : List X) (x y : X) (k : ℕ) → slice_get (xs ++ x ∷ []) k ≡ Some y → (P : ℕ → X → Type 0) → (k < length xs → slice_get xs k ≡ Some y → P k y) → P (length xs) x → P k y
   slice_get-push xs x y k is P before last = by (nat_lt k (length xs)) refl (k == length xs) refl
     where
@@ -128,9 +117,9 @@ module _ {X : Type 0} where
           subst (λ (j : ℕ). P j y) (sym at) (subst (λ (z : X). P (length xs) z) same last)
       by false lt false q = let past : length xs < k = grind (arith, nat_tests) in absurd (not_some (sym (slice_get-push_past xs x k past) ∙ is))
 
--- ---- what happens
+-- ---- events
 
--- what is kept under each name stays, if the world's pieces stay
+-- what the shell has under each name stays, if the world's pieces stay
 named_stays : (world next : ScriptWorld) → ((p : ℕ) (piece : worlds.Piece) → slice_get (state world).pieces p ≡ Some piece → slice_get (state next).pieces p ≡ Some piece)
     → (kept : Option EntryMap) (number : Option ℕ) → IsNamed world kept number → IsNamed next kept number
 named_stays world next stays None None h = tt
@@ -142,17 +131,17 @@ module _ (shell : Keeps) (world : ScriptWorld) (h : Holds shell world) where
   pub below_count : (i : ℕ) → i < length shell.nodes → i < length world.nodes
   below_count i lt = omega (arith, h.count)
 
-  -- what a node that is kept holds
+  -- what a node of the shell holds
   pub at_place : (i : ℕ) (d : Replicated) → i < length shell.nodes → (get_or shell.nodes i d).store ≡ held world i
   at_place i d lt = h.stores i (get_or shell.nodes i d) (slice_get_at shell.nodes i (get_or shell.nodes i d) lt (get_or_twice shell.nodes i d))
 
-  -- at one node something happens, and at no other
+  -- something happens at one node, and nothing at the others
   holds_at : (next : ScriptWorld) (i : ℕ) (node new : Replicated) → i < length shell.nodes → slice_get shell.nodes i ≡ Some node → new.writer ≡ node.writer
-      → next.nodes ≡ world.nodes → next.pieces ≡ world.pieces → IsLawful next
+      → next.nodes ≡ world.nodes → next.pieces ≡ world.pieces → IsValid next
       → ((p : ℕ) (piece : worlds.Piece) → slice_get (state world).pieces p ≡ Some piece → slice_get (state next).pieces p ≡ Some piece)
       → new.store ≡ held next i → ((k : ℕ) → k ≢ i → held next k ≡ held world k)
       → Holds (record shell { nodes = set shell.nodes i new }) next
-  holds_at next i node new lt at writer same_nodes same_pieces lawful stays store others = record {
+  holds_at next i node new lt at writer same_nodes same_pieces valid stays store others = record {
     count = length_set shell.nodes i new ∙ h.count ∙ sym (ap (λ (ms : List Member). length ms) same_nodes);
     writers = λ k other is. slice_get-set shell.nodes i k new other lt is (λ j r. writer_at next.nodes j ≡ r.writer)
         (ap (λ (ms : List Member). writer_at ms i) same_nodes ∙ h.writers i node at ∙ sym writer)
@@ -161,7 +150,7 @@ module _ (shell : Keeps) (world : ScriptWorld) (h : Holds shell world) where
     numbers = λ name. h.numbers name ∙ ap (λ (ms : List Member). node_named ms name) (sym same_nodes);
     taken = λ writer. h.taken writer ∙ ap (λ (ms : List Member). has_writer ms writer) (sym same_nodes);
     pieces = λ name. subst (λ (ps : List (List ℕ × ℕ)). IsNamed next (shell.piece_of name) (piece_named ps name)) (sym same_pieces) (named_stays world next stays (shell.piece_of name) (piece_named world.pieces name) (h.pieces name));
-    lawful = lawful;
+    valid = valid;
   }
 
   -- a node puts its next edit
@@ -170,7 +159,7 @@ module _ (shell : Keeps) (world : ScriptWorld) (h : Holds shell world) where
       → Holds (record shell { nodes = set shell.nodes i new }) (happened world (Put i (next_edit world i place content)))
   holds_put i place content node new lt at writer store =
       let edit = next_edit world i place content in
-      holds_at (happened world (Put i edit)) i node new lt at writer refl refl (lawful_put world i place content h.lawful (below_count i lt))
+      holds_at (happened world (Put i edit)) i node new lt at writer refl refl (valid_put world i place content h.valid (below_count i lt))
       (λ p piece there. piece_stays (state world) (Put i edit) p piece there)
       (store ∙ ap (λ (s : EntryMap). with_edit s edit) (h.stores i node at) ∙ sym (held_put world i edit (below_count i lt)))
       (held_put_elsewhere world i edit)
@@ -179,9 +168,9 @@ module _ (shell : Keeps) (world : ScriptWorld) (h : Holds shell world) where
   pub holds_merge : (j i : ℕ) (node other new : Replicated) → j < length shell.nodes → i < length shell.nodes → slice_get shell.nodes i ≡ Some node → slice_get shell.nodes j ≡ Some other
       → new.writer ≡ node.writer → new.store ≡ join node.store other.store → Holds (record shell { nodes = set shell.nodes i new }) (merged world j i)
   holds_merge j i node other new lt_from lt_to at from writer store =
-      holds_at (merged world j i) i node new lt_to at writer refl refl (lawful_merged world j i h.lawful (below_count j lt_from) (below_count i lt_to))
+      holds_at (merged world j i) i node new lt_to at writer refl refl (valid_merged world j i h.valid (below_count j lt_from) (below_count i lt_to))
       (λ p piece there. piece_stays (state (answered world j i None)) (Give (next_piece world) i) p piece (answered_stays j i None p piece there))
-      (store ∙ (λ n. join (h.stores i node at n) (h.stores j other from n)) ∙ sym (held_merged world h.lawful j i (below_count j lt_from) (below_count i lt_to)))
+      (store ∙ (λ n. join (h.stores i node at n) (h.stores j other from n)) ∙ sym (held_merged world h.valid j i (below_count j lt_from) (below_count i lt_to)))
       (λ k ne. held_merged_elsewhere world j i k ne)
     where
       answered_stays : (from to : ℕ) (places : Option (List PlaceParts)) (p : ℕ) (piece : worlds.Piece) → slice_get (state world).pieces p ≡ Some piece → slice_get (state (answered world from to places)).pieces p ≡ Some piece
@@ -191,12 +180,12 @@ module _ (shell : Keeps) (world : ScriptWorld) (h : Holds shell world) where
   pub holds_send : (p i : ℕ) (node new : Replicated) (piece : worlds.Piece) → i < length shell.nodes → slice_get shell.nodes i ≡ Some node → slice_get (state world).pieces p ≡ Some piece
       → new.writer ≡ node.writer → new.store ≡ join node.store piece.entries → Holds (record shell { nodes = set shell.nodes i new }) (happened world (Give p i))
   holds_send p i node new piece lt at is writer store =
-      holds_at (happened world (Give p i)) i node new lt at writer refl refl (lawful_given world p i h.lawful (below_count i lt))
+      holds_at (happened world (Give p i)) i node new lt at writer refl refl (valid_given world p i h.valid (below_count i lt))
       (λ q other there. piece_stays (state world) (Give p i) q other there)
-      (store ∙ ap (λ (s : EntryMap). join s piece.entries) (h.stores i node at) ∙ sym (held_given world h.lawful p i piece is (below_count i lt)))
+      (store ∙ ap (λ (s : EntryMap). join s piece.entries) (h.stores i node at) ∙ sym (held_given world h.valid p i piece is (below_count i lt)))
       (λ k ne. held_given_elsewhere world p i k ne)
 
-  -- what a node cuts for another is kept under a name
+  -- what a node cuts for another is stored under a name
   pub holds_part : (name : List ℕ) (j i : ℕ) (places : Option (List PlaceParts)) (now : Keeps) (piece : EntryMap) → j < length shell.nodes → i < length shell.nodes
       → piece ≡ cut (held world j) (digest_of (held world i)) places
       → now.nodes ≡ shell.nodes → now.number_of ≡ shell.number_of → now.is_taken ≡ shell.is_taken
@@ -209,20 +198,20 @@ module _ (shell : Keeps) (world : ScriptWorld) (h : Holds shell world) where
     numbers = λ other. ap (λ (f : List ℕ → Option ℕ). f other) same_numbers ∙ h.numbers other;
     taken = λ writer. ap (λ (f : ℕ → Bool). f writer) same_writers ∙ h.taken writer;
     pieces = λ other. subst (λ (o : Option EntryMap). IsNamed next o (piece_named next.pieces other)) (sym (kept other)) (by other (bytes_eq name other));
-    lawful = lawful_parted;
+    valid = valid_parted;
   }
     where
       next : ScriptWorld
       next = parted world name j i places
 
-      lawful_parted : IsLawful next
-      lawful_parted =
-          let lawful = lawful_answered world j i places h.lawful (below_count j lt_from) (below_count i lt_to) in
+      valid_parted : IsValid next
+      valid_parted =
+          let valid = valid_answered world j i places h.valid (below_count j lt_from) (below_count i lt_to) in
           record {
-            within = lawful.within;
-            apart = lawful.apart;
-            own = λ e a. let own = lawful.own e a in record { node = own.node; within = own.within; writer = own.writer; counter = own.counter };
-            honest = lawful.honest;
+            within = valid.within;
+            apart = valid.apart;
+            own = λ e a. let own = valid.own e a in record { node = own.node; within = own.within; writer = own.writer; counter = own.counter };
+            honest = valid.honest;
           }
 
       stays : (p : ℕ) (other : worlds.Piece) → slice_get (state world).pieces p ≡ Some other → slice_get (state next).pieces p ≡ Some other
@@ -230,7 +219,7 @@ module _ (shell : Keeps) (world : ScriptWorld) (h : Holds shell world) where
 
       made : IsPiece next (next_piece world) piece
       made =
-          let answer = answer_is (length world.nodes) world.events h.lawful.honest j i (below_count j lt_from) (below_count i lt_to) places in
+          let answer = answer_is (length world.nodes) world.events h.valid.honest j i (below_count j lt_from) (below_count i lt_to) places in
           record { piece = answer.0; there = answer.1; entries_are = answer.2 ∙ sym is }
 
       by : (other : List ℕ) (b : Bool) → IsNamed next (cond b (Some piece) (shell.piece_of other)) (cond b (Some (next_piece world)) (piece_named world.pieces other))
@@ -248,12 +237,12 @@ module _ (shell : Keeps) (world : ScriptWorld) (h : Holds shell world) where
         (λ lt there. writer_before world.nodes k (below_count k lt) ∙ h.writers k other there)
         (ap (writer_at (world.nodes ++ m ∷ [])) h.count ∙ writer_last world.nodes ∙ sym numbered);
     stores = λ k other is. slice_get-push shell.nodes node other k (subst (λ (ns : List Replicated). slice_get ns k ≡ Some other) nodes is) (λ j r. r.store ≡ held next j)
-        (λ lt there. h.stores k other there ∙ sym (held_with_node world name writer h.lawful.within k))
-        (empty ∙ sym holds_nothing ∙ sym (held_with_node world name writer h.lawful.within (length shell.nodes)));
+        (λ lt there. h.stores k other there ∙ sym (held_with_node world name writer h.valid.within k))
+        (empty ∙ sym holds_nothing ∙ sym (held_with_node world name writer h.valid.within (length shell.nodes)));
     numbers = λ other. numbers other ∙ (λ i. cond (bytes_eq name other) (Some (h.count i)) (h.numbers other i)) ∙ sym (node_named-push world.nodes m other (sym (h.numbers name) ∙ fresh));
     taken = λ other. writers other ∙ ap (λ b. cond (writer == other) true b) (h.taken other) ∙ sym (has_writer-push world.nodes m other);
     pieces = λ other. subst (λ (f : List ℕ → Option EntryMap). IsNamed next (f other) (piece_named world.pieces other)) (sym same_pieces) (named_stays world next stays (shell.piece_of other) (piece_named world.pieces other) (h.pieces other));
-    lawful = lawful_with_node world name writer h.lawful (sym (h.taken writer) ∙ free);
+    valid = valid_with_node world name writer h.valid (sym (h.taken writer) ∙ free);
   }
     where
       m : Member
@@ -263,7 +252,7 @@ module _ (shell : Keeps) (world : ScriptWorld) (h : Holds shell world) where
       next = with_node world name writer
 
       stays : (p : ℕ) (piece : worlds.Piece) → slice_get (state world).pieces p ≡ Some piece → slice_get (state next).pieces p ≡ Some piece
-      stays p piece there = ap (λ (w : worlds.EventWorld). slice_get w.pieces p) (state_with_node world name writer h.lawful.within) ∙ there
+      stays p piece there = ap (λ (w : worlds.EventWorld). slice_get w.pieces p) (state_with_node world name writer h.valid.within) ∙ there
 
       holds_nothing : held world (length shell.nodes) ≡ sum_of []
       holds_nothing = ap (held world) h.count ∙ held_past world

@@ -1,21 +1,12 @@
--- How a run goes on from line to line, and how its answers reach the writer.
-use Rattle.std.proofs.Common.{◌≡◌, ℕ, ◌+◌, List, [], ◌∷◌, ◌++◌, length, take, Option, Some, None, Result, Ok, Err, OnErr, true, false, refl, sym, ap, subst, ◌∙◌, append_assoc, arith}
-use Rattle.std.specs.Prelude.{is_ok, is_err, if◌then◌else◌, slice_get}
-use Rattle.std.specs.Io.KnownBytes.{Appends}
-use Rattle.std.proofs.lemmas.Bool.{true≢false}
+-- How a run goes from line to line, and how its answers reach the writer.
+use Rattle.std.proofs.Common.{[], ◌++◌, ◌+◌, ◌∙◌, ◌∷◌, ◌≡◌, ap, append-nil, append_assoc, arith, Err, false, if◌then◌else◌, is_err, is_ok, length, List, None, Ok, OnErr, Option, refl, Result, slice_get, Some, subst, sym, take, true, ℕ}
 use Rattle.std.proofs.Math.Seq.{take-append-add}
-use Rattle.std.proofs.lemmas.List.{append-nil, take_at, take_all}
-use Rattle.script_words.specs.Lines.{lines_of}
-use Rattle.script_pipes.specs.KnownBytes.{AppendsFront}
-use Rattle.script_pipes.specs.KnownBytesLaws.{Appends-append, Appends-nothing}
-use Rattle.script_worlds.specs.Worlds.{ScriptWorld, blank}
-use Rattle.fleet_script.specs.Scripts.{Run, AnswersLine, Answers, AnswersFront}
-use Rattle.edit_sums.specs.Sums.{EntryMap}
-use Rattle.replica_store.specs.Replicas.{Replicated}
-use Rattle.fleet_script.specs.Holds.{Continues, Holds, IsBlank, IsNamed, Keeps}
-use Rattle.script_worlds.specs.LawfulLaws.{lawful_blank}
+use Rattle.std.proofs.lemmas.Bool.{true≢false}
+use Rattle.std.proofs.lemmas.List.{take_all, take_at}
+use Rattle.std.specs.Io.KnownBytes.{Appends}
+use Rattle.fleet_script.proofs.Prelude.{Answers, AnswersLine, AnswersPrefix, Appends-append, Appends-nothing, AppendsPrefix, blank, Continues, EntryMap, Holds, IsBlank, IsNamed, Keeps, lines_of, Replicated, Run, ScriptWorld, valid_blank}
 
--- one line more
+-- one more line
 run_more : (old : ScriptWorld) (lines : List (List ℕ)) (written : List ℕ) (mid : ScriptWorld) (line answer : List ℕ) (new : ScriptWorld)
     → Run old lines written mid → AnswersLine mid line answer new → Run old (lines ++ line ∷ []) (written ++ answer) new
 run_more old [] written mid line answer new r s =
@@ -30,7 +21,7 @@ run_more old (first ∷ lines) written mid line answer new r s = (
   run_more r.2 lines r.1 mid line answer new r.5 s,
 )
 
--- what is true between two lines: some answers were written, and others wait
+-- what is true between two lines: some answers are written, and others are pending
 pub record Progress (script rest : List ℕ) (keeps : Keeps) (old now : Option (List ℕ)) (pending : List ℕ) : Type 0 where
   pub before : List (List ℕ)
   pub world : ScriptWorld
@@ -53,7 +44,7 @@ begins script pending keeps a none nothing = subst (λ v. Progress script script
     numbers = none.numbers;
     taken = none.writers;
     pieces = λ name. subst (λ (o : Option EntryMap). IsNamed blank o None) (sym (none.pieces name)) tt;
-    lawful = lawful_blank;
+    valid = valid_blank;
   };
   run = (refl, refl);
   appended = Appends-nothing a;
@@ -83,7 +74,7 @@ line_answered script rest line later answer pending more keeps now_keeps old now
       appended = p.appended;
     }
 
--- all that waits is written
+-- all pending answers are written
 pub flushed : (script rest pending : List ℕ) (keeps : Keeps) (old now after : Option (List ℕ)) → Appends now after pending
     → Progress script rest keeps old now pending → Progress script rest keeps old after []
 flushed script rest pending keeps old now after more p = record {
@@ -96,15 +87,15 @@ flushed script rest pending keeps old now after more p = record {
   appended = Appends-append old now after p.written pending p.appended more;
 }
 
--- a front of what waits is written
-pub front_written : (script rest pending : List ℕ) (keeps : Keeps) (old now after : Option (List ℕ)) → AppendsFront now after pending
-    → Progress script rest keeps old now pending → (written : List ℕ) × AnswersFront script written × Appends old after written
-front_written script rest pending keeps old now after front p =
+-- a prefix of the pending answers is written
+pub prefix_written : (script rest pending : List ℕ) (keeps : Keeps) (old now after : Option (List ℕ)) → AppendsPrefix now after pending
+    → Progress script rest keeps old now pending → (written : List ℕ) × AnswersPrefix script written × Appends old after written
+prefix_written script rest pending keeps old now after prefix p =
     let lines : p.before ≡ take (length p.before) (lines_of script) = sym (ap (take (length p.before)) p.lines ∙ take_at p.before (lines_of rest) (length p.before) refl) in
     let run : Run blank (take (length p.before) (lines_of script)) (p.written ++ pending) p.world = subst (λ v. Run blank v (p.written ++ pending) p.world) lines p.run in (
-      p.written ++ take front.0 pending,
-      (length p.before, length p.written + front.0, p.written ++ pending, p.world, run, sym (take-append-add p.written pending front.0)),
-      Appends-append old now after p.written (take front.0 pending) p.appended front.1,
+      p.written ++ take prefix.0 pending,
+      (length p.before, length p.written + prefix.0, p.written ++ pending, p.world, run, sym (take-append-add p.written pending prefix.0)),
+      Appends-append old now after p.written (take prefix.0 pending) p.appended prefix.1,
     )
 
 -- all lines are answered, and all answers are written
@@ -116,14 +107,14 @@ answered script rest keeps old now end p =
     (p.written, (p.world, run), p.appended)
 
 -- before the first line nothing is written
-pub nothing_written : (script : List ℕ) (a : Option (List ℕ)) → (written : List ℕ) × AnswersFront script written × Appends a a written
+pub nothing_written : (script : List ℕ) (a : Option (List ℕ)) → (written : List ℕ) × AnswersPrefix script written × Appends a a written
 nothing_written script a = ([], (0, 0, [], blank, (refl, refl), refl), Appends-nothing a)
 
--- all of it is a front
-pub all_is_front : (old new : Option (List ℕ)) (bytes : List ℕ) → Appends old new bytes → AppendsFront old new bytes
-all_is_front old new bytes all = (length bytes, subst (λ v. Appends old new v) (sym (take_all (length bytes) bytes (omega arith))) all)
+-- the whole is a prefix of itself
+pub all_is_prefix : (old new : Option (List ℕ)) (bytes : List ℕ) → Appends old new bytes → AppendsPrefix old new bytes
+all_is_prefix old new bytes all = (length bytes, subst (λ v. Appends old new v) (sym (take_all (length bytes) bytes (omega arith))) all)
 
--- what is true whatever the fault is
+-- what is true of every fault
 pub whatever : {T E : Type 0} (P : Type 0) (r : Result T E) → P → OnErr r P
 whatever P (Ok x) p = tt
 whatever P (Err e) p = p

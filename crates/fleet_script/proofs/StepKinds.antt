@@ -1,54 +1,26 @@
--- Kinds of steps: each has one outcome, leaves one world, keeps the world lawful, puts counters up by one at most, and doesn't find them spent
--- where they aren't. One lemma for each word of the meaning.
-use Rattle.std.proofs.Common.{◌≡◌, ◌⊎◌, inl, inr, ℕ, zero, suc, ◌+◌, ◌-◌, ◌<◌, ◌≤◌, ◌==◌, Bool, true, false, List, ◌++◌, map, length, Option, Some, None, Result, Ok, Err, codes, refl, sym, ap, subst, ◌∙◌, arith}
-use Rattle.std.specs.Prelude.{MatchOption, MatchResult}
-use Rattle.std.specs.Bool.{MatchBool}
-use Rattle.std.specs.FinMap as finmap
+-- Properties of steps: each has one outcome, leaves one world, keeps the world valid, raises counters by at most one,
+-- and finds them spent only if they are. One lemma for each word of the meaning.
+use Rattle.std.proofs.Common.{◌++◌, ◌+◌, ◌-◌, ◌<◌, ◌==◌, ◌∙◌, ◌≡◌, ◌≤◌, ◌⊎◌, ap, arith, Bool, codes, Err, false, inl, inr, length, List, map, MatchOption, MatchResult, None, Ok, Option, refl, Result, Some, subst, suc, sym, true, zero, ℕ}
 use Rattle.std.proofs.lemmas.Bool.{true≢false}
-use Rattle.load_places.specs.Texts.{place_of}
-use Rattle.load_places.specs.Places.{PlaceParts}
-use Rattle.load_places.specs.declared.texts.PlaceFault.{PlaceFault}
-use Rattle.load_places.specs.declared.texts.PlaceFault.TheVariants as place
-use Rattle.edit_sums.specs.declared.contents.Content.{Content}
-use Rattle.edit_sums.specs.declared.contents.Content.TheVariants as content
-use Rattle.edit_sums.specs.Limits.{is_file, is_target}
-use Rattle.edit_sums.specs.Sums.{EntryMap, changed_places, high_of, visible_at}
-use Rattle.world_law.specs.declared.events.Event.TheVariants as event
-use Rattle.world_law.specs.Cuts.{cut, digest_of}
-use Rattle.script_words.specs.TextLaws.{spells_one}
-use Rattle.script_commands.specs.declared.commands.Command.{Command}
-use Rattle.script_commands.specs.declared.commands.Command.TheVariants.{Node, Put, Link, Remove, Merge, Part, Send, Sweep, Files, Cat, Show, List as ListUnits, Plan, Workers, Same, Crowd}
-use Rattle.script_commands.specs.declared.commands.LineRefusal.{LineRefusal}
-use Rattle.script_commands.specs.declared.commands.LineRefusal.TheVariants.{BadLink, BadText, Component, Depth, Directory, FileTooLarge, HostName, NodeTaken, Nothing, UnknownNode, UnknownPiece, VersionsSpent, Workers as NoCrew, WriterTaken}
-use Rattle.script_commands.specs.Outcomes.{Outcome, is_spent}
-use Rattle.script_commands.specs.Places.{places_of}
-use Rattle.script_answers.specs.Texts.{changed_line, entries_line, ok_line}
-use Rattle.script_worlds.specs.Worlds.{ScriptWorld, Member, happened, has_writer, held, merged, merged_all, next_edit, node_named, numbers_from, parted, piece_named, swept, with_node}
-use Rattle.script_worlds.specs.Counts.{IsPutUpTo}
-use Rattle.script_worlds.specs.CountsLaws.{put_next, put_same, puts_merged_all}
-use Rattle.script_worlds.specs.Lawful.{IsLawful, puts}
-use Rattle.script_worlds.specs.NodeLaws.{named_within}
-use Rattle.script_worlds.specs.LawfulLaws.{lawful_answered, lawful_given, lawful_merged, lawful_put, lawful_with_node, puts_with_node}
-use Rattle.script_answers.specs.CrowdLaws.{crowds_are_told_once, crowds_spend_nothing}
-use Rattle.script_answers.specs.Crowds.{TellsCrowd}
-use Rattle.script_answers.specs.FileLaws.{files_are_told_once, files_spend_nothing}
-use Rattle.script_answers.specs.Files.{TellsFiles}
-use Rattle.script_answers.specs.Tells.{TellsList, TellsPlan, TellsUnit, plan_asked, pulled_asked, unit_asked}
-use Rattle.script_answers.specs.TellsLaws.{questions_are_told_once, questions_spend_nothing}
-use Rattle.worker_rounds.specs.Crews.{IsCrew}
-use Rattle.fleet_script.specs.Does.{AtNode, AtPlace, AtPlaces, AtPiece, Does, Gives, IsRead, Reads, Refuses, RefusesPlace, TellsPlaces, WithFile, WithTarget, WithText, Writes, if_any}
+use Rattle.std.specs.Prelude.{MatchBool}
+use Rattle.fleet_script.proofs.Prelude.{AtNode, AtPiece, AtPlace, AtPlaces, BadLink, BadText, Cat, changed_line, changed_places, Command, Component, Content, Crowd, crowds_are_rendered_once, crowds_spend_nothing, cut, Depth, digest_of, Directory, Does, entries_line, EntryMap, Files, files_are_rendered_once, files_spend_nothing, FileTooLarge, Gives, happened, has_writer, held, high_of, HostName, if_any, is_file, is_spent, is_target, IsPutUpTo, IsRead, IsValid, IsWorkerCount, LineRefusal, Link, ListUnits, Member, Merge, merged, merged_all, named_within, next_edit, Node, node_named, NodeTaken, Nothing, NoWorkerCount, numbers_from, ok_line, Outcome, Part, parted, piece_named, place_of, PlaceFault, PlaceParts, places_of, Plan, plan_asked, pulled_asked, Put, put_next, put_same, puts, puts_merged_all, puts_with_node, questions_are_rendered_once, questions_spend_nothing, Reads, Refuses, RefusesPlace, Remove, RendersCrowd, RendersFiles, RendersList, RendersPlaces, RendersPlan, RendersUnit, Same, ScriptWorld, Send, Show, spells_one, Sweep, swept, unit_asked, UnknownNode, UnknownPiece, valid_answered, valid_given, valid_merged, valid_put, valid_with_node, VersionsSpent, visible_at, with_node, WithFile, WithTarget, WithText, Workers, WriterTaken, Writes}
 use Rattle.fleet_script.proofs.Between.{merged_all-append, merged_nodes}
+use Rattle.std.specs.FinMap as finmap
+use Rattle.load_places.specs.declared.texts.PlaceFault.TheVariants as place
+use Rattle.edit_sums.specs.declared.contents.Content.TheVariants as content
+use Rattle.world_law.specs.declared.events.Event.TheVariants as event
 
--- a lawful world is followed by a lawful one, and the greatest counter that was put grows by one at most
+-- a valid world is followed by a valid one, and the greatest counter that was put grows by at most one
 pub record Follows (old new : ScriptWorld) : Type 0 where
-  pub lawful : IsLawful old → IsLawful new
-  pub counted : (n : ℕ) → IsLawful old → IsPutUpTo n old → IsPutUpTo (suc n) new
+  pub valid : IsValid old → IsValid new
+  pub counted : (n : ℕ) → IsValid old → IsPutUpTo n old → IsPutUpTo (suc n) new
 
 -- no node holds the greatest counter
 abbrev pub HasCounters : ScriptWorld → Type 0
 HasCounters world = (k : ℕ) → (high_of (held world k) == 18446744073709551615) ≡ false
 
--- a step from a world has one outcome and leaves one world, which follows, and counters are spent only where the greatest is held
+-- a step from a world has one outcome and leaves one world, which follows, and counters are spent only if the greatest
+-- is held
 pub record IsStep (old : ScriptWorld) (S : Outcome → ScriptWorld → Type 0) : Type 0 where
   pub one : (a b : Outcome) (x y : ScriptWorld) → S a x → S b y → (a ≡ b) × (x ≡ y)
   pub follows : (outcome : Outcome) (new : ScriptWorld) → S outcome new → Follows old new
@@ -56,33 +28,33 @@ pub record IsStep (old : ScriptWorld) (S : Outcome → ScriptWorld → Type 0) :
 
 -- ---- what the world's own words need
 
--- merges between nodes that are there
-lawful_merges : (f : ℕ → ℕ × ℕ) (n first count : ℕ) (world : ScriptWorld) → length world.nodes ≡ n → ((k : ℕ) → 0 < k → k < n → ((f k).0 < n) × ((f k).1 < n)) → 0 < first → ((k : ℕ) → first ≤ k → k < first + count → k < n)
-    → IsLawful world → IsLawful (merged_all world (map f (numbers_from first count)))
-lawful_merges f n first zero world same there least within lawful = lawful
-lawful_merges f n first (suc count) world same there least within lawful =
+-- merges between nodes that exist
+valid_merges : (f : ℕ → ℕ × ℕ) (n first count : ℕ) (world : ScriptWorld) → length world.nodes ≡ n → ((k : ℕ) → 0 < k → k < n → ((f k).0 < n) × ((f k).1 < n)) → 0 < first → ((k : ℕ) → first ≤ k → k < first + count → k < n)
+    → IsValid world → IsValid (merged_all world (map f (numbers_from first count)))
+valid_merges f n first zero world same there least within valid = valid
+valid_merges f n first (suc count) world same there least within valid =
     let here = within first (omega arith) (omega arith) in
     let pair = there first least here in
     let from = pair.0 in
     let to = pair.1 in
-    lawful_merges f n (suc first) count (merged world (f first).0 (f first).1) same there (omega arith) (λ k low high. within k (omega arith) (omega arith))
-    (lawful_merged world (f first).0 (f first).1 lawful (omega arith) (omega arith))
+    valid_merges f n (suc first) count (merged world (f first).0 (f first).1) same there (omega arith) (λ k low high. within k (omega arith) (omega arith))
+    (valid_merged world (f first).0 (f first).1 valid (omega arith) (omega arith))
 
-pub lawful_swept : (world : ScriptWorld) → IsLawful world → IsLawful (swept world)
-lawful_swept world lawful =
+pub valid_swept : (world : ScriptWorld) → IsValid world → IsValid (swept world)
+valid_swept world valid =
     let n = length world.nodes in
     let into : List (ℕ × ℕ) = map (λ k. (k, 0)) (numbers_from 1 (n - 1)) in
     let out_of : List (ℕ × ℕ) = map (λ k. (0, k)) (numbers_from 1 (n - 1)) in
-    subst (λ (w : ScriptWorld). IsLawful w) (sym (merged_all-append world into out_of))
-    (lawful_merges (λ k. (0, k)) n 1 (n - 1) (merged_all world into) (ap (λ (ms : List Member). length ms) (merged_nodes world into)) (λ k low high. (omega arith, high)) (omega arith) (λ k low high. omega arith)
-    (lawful_merges (λ k. (k, 0)) n 1 (n - 1) world refl (λ k low high. (high, omega arith)) (omega arith) (λ k low high. omega arith) lawful))
+    subst (λ (w : ScriptWorld). IsValid w) (sym (merged_all-append world into out_of))
+    (valid_merges (λ k. (0, k)) n 1 (n - 1) (merged_all world into) (ap (λ (ms : List Member). length ms) (merged_nodes world into)) (λ k low high. (omega arith, high)) (omega arith) (λ k low high. omega arith)
+    (valid_merges (λ k. (k, 0)) n 1 (n - 1) world refl (λ k low high. (high, omega arith)) (omega arith) (λ k low high. omega arith) valid))
 
 -- ---- one lemma for each word
 
 module _ (old : ScriptWorld) where
-  -- nothing more is put
-  puts_nothing : (new : ScriptWorld) → (IsLawful old → IsLawful new) → puts new ≡ puts old → Follows old new
-  puts_nothing new lawful same = record { lawful = lawful; counted = λ n l up. put_same n old new same up }
+  -- no more edits are put
+  puts_nothing : (new : ScriptWorld) → (IsValid old → IsValid new) → puts new ≡ puts old → Follows old new
+  puts_nothing new valid same = record { valid = valid; counted = λ n l up. put_same n old new same up }
 
   pub stays : (new : ScriptWorld) → new ≡ old → Follows old new
   stays new same = subst (λ (w : ScriptWorld). Follows old w) (sym same) (puts_nothing old (λ l. l) refl)
@@ -104,7 +76,7 @@ module _ (old : ScriptWorld) where
     unspent = λ free outcome new r. ap is_spent r.outcome_is ∙ other;
   }
 
-  -- the one refusal for want of counters
+  -- the one refusal because counters are spent
   spends : (k : ℕ) → (high_of (held old k) == 18446744073709551615) ≡ true → IsStep old (λ outcome new. Refuses old VersionsSpent outcome new)
   spends k spent = record {
     one = refused_once VersionsSpent;
@@ -173,7 +145,7 @@ module _ (old : ScriptWorld) where
       let edit = next_edit old k at c in
       with_bool (high_of (held old k) == 18446744073709551615) (λ outcome new. Refuses old VersionsSpent outcome new) (λ outcome new. Gives (ok_line edit.version) (happened old (event.Put k edit)) outcome new)
       (λ spent. spends k spent)
-      (λ free. gives (ok_line edit.version) (happened old (event.Put k edit)) (record { lawful = λ l. lawful_put old k at c l lt; counted = λ n l up. put_next n old k at c l lt up }))
+      (λ free. gives (ok_line edit.version) (happened old (event.Put k edit)) (record { valid = λ l. valid_put old k at c l lt; counted = λ n l up. put_next n old k at c l lt up }))
 
   with_file : (bytes : List ℕ) (P : Content → Outcome → ScriptWorld → Type 0) → IsStep old (P (content.File bytes)) → IsStep old (λ outcome new. WithFile old outcome new bytes (λ c. P c outcome new))
   with_file bytes P f = with_bool (is_file bytes) (P (content.File bytes)) (λ outcome new. Refuses old FileTooLarge outcome new) (λ is. f) (λ no. refuses FileTooLarge refl)
@@ -181,16 +153,16 @@ module _ (old : ScriptWorld) where
   with_target : (target : List ℕ) (P : Content → Outcome → ScriptWorld → Type 0) → IsStep old (P (content.Link target)) → IsStep old (λ outcome new. WithTarget old outcome new target (λ c. P c outcome new))
   with_target target P f = with_bool (is_target target) (P (content.Link target)) (λ outcome new. Refuses old BadLink outcome new) (λ is. f) (λ no. refuses BadLink refl)
 
-  -- a command that only reads has one outcome if what it tells of a store is one thing
-  reads : (node : List ℕ) (Tells : EntryMap → Outcome → Type 0) → ((s : EntryMap) (a b : Outcome) → Tells s a → Tells s b → a ≡ b) → ((s : EntryMap) (outcome : Outcome) → Tells s outcome → is_spent outcome ≡ false)
-      → IsStep old (λ outcome new. Reads old outcome new node Tells)
-  reads node Tells once unspent = at_node node (λ k outcome new. IsRead (Tells (held old k)) old outcome new) (λ k lt. record {
-    one = λ a b x y p q. (once (held old k) a b p.told q.told, p.world_is ∙ sym q.world_is);
+  -- a command that only reads has one outcome, if its answer is determined by the store
+  reads : (node : List ℕ) (Renders : EntryMap → Outcome → Type 0) → ((s : EntryMap) (a b : Outcome) → Renders s a → Renders s b → a ≡ b) → ((s : EntryMap) (outcome : Outcome) → Renders s outcome → is_spent outcome ≡ false)
+      → IsStep old (λ outcome new. Reads old outcome new node Renders)
+  reads node Renders once unspent = at_node node (λ k outcome new. IsRead (Renders (held old k)) old outcome new) (λ k lt. record {
+    one = λ a b x y p q. (once (held old k) a b p.rendered q.rendered, p.world_is ∙ sym q.world_is);
     follows = λ outcome new r. stays new r.world_is;
-    unspent = λ free outcome new r. unspent (held old k) outcome r.told;
+    unspent = λ free outcome new r. unspent (held old k) outcome r.rendered;
   })
 
-  -- one step where a fact holds, and another where it doesn't
+  -- one step if a fact holds, and another if it doesn't
   where_holds : (P : Type 0) (S T : Outcome → ScriptWorld → Type 0) → IsStep old S → IsStep old T
       → IsStep old (λ outcome new. (P × S outcome new) ⊎ ((P → ⊥) × T outcome new))
   where_holds P S T here apart = record { one = one; follows = follows; unspent = unspent }
@@ -217,7 +189,7 @@ module _ (old : ScriptWorld) where
       where_holds P (λ outcome new. Gives alike old outcome new) (λ outcome new. Gives apart old outcome new)
       (gives alike old (stays old refl)) (gives apart old (stays old refl))
 
-  -- a word is given where a fact holds, and a refusal where it doesn't
+  -- an answer if a fact holds, and a refusal if it doesn't
   gives_or_refuses : (P : Type 0) (words : List ℕ) (refusal : LineRefusal) → is_spent (Err refusal) ≡ false → IsStep old (λ outcome new. (P × Gives words old outcome new) ⊎ ((P → ⊥) × Refuses old refusal outcome new))
   gives_or_refuses P words refusal other =
       where_holds P (λ outcome new. Gives words old outcome new) (λ outcome new. Refuses old refusal outcome new)
@@ -232,7 +204,7 @@ module _ (old : ScriptWorld) where
       (λ k outcome new. Refuses old NodeTaken outcome new)
       (λ none. with_bool (has_writer old.nodes writer) (λ outcome new. Refuses old WriterTaken outcome new) (λ outcome new. Gives (codes "ok\n") (with_node old name writer) outcome new)
       (λ taken. refuses WriterTaken refl) (λ free. gives (codes "ok\n") (with_node old name writer) (record {
-        lawful = λ l. lawful_with_node old name writer l free;
+        valid = λ l. valid_with_node old name writer l free;
         counted = λ n l up. put_same n old (with_node old name writer) (puts_with_node old name writer l.within) up;
       })))
       (λ k is. refuses NodeTaken refl)
@@ -253,33 +225,33 @@ module _ (old : ScriptWorld) where
   does (Merge from to) =
       let G : ℕ → ℕ → Outcome → ScriptWorld → Type 0 = λ j k outcome new. Gives (changed_line (changed_places (held old k) (held (merged old j k) k))) (merged old j k) outcome new in
       at_node from (λ j outcome new. AtNode old outcome new to (λ k. G j k outcome new))
-      (λ j lt_from. at_node to (G j) (λ k lt_to. gives (changed_line (changed_places (held old k) (held (merged old j k) k))) (merged old j k) (puts_nothing (merged old j k) (λ l. lawful_merged old j k l lt_from lt_to) refl)))
+      (λ j lt_from. at_node to (G j) (λ k lt_to. gives (changed_line (changed_places (held old k) (held (merged old j k) k))) (merged old j k) (puts_nothing (merged old j k) (λ l. valid_merged old j k l lt_from lt_to) refl)))
   does (Part piece from to texts) =
       let words : ℕ → ℕ → List PlaceParts → List ℕ = λ j k places. entries_line (length (finmap.entries (cut (held old j) (digest_of (held old k)) (if_any places)))) in
       let G : ℕ → ℕ → List PlaceParts → Outcome → ScriptWorld → Type 0 = λ j k places outcome new. Gives (words j k places) (parted old piece j k (if_any places)) outcome new in
       at_node from (λ j outcome new. AtNode old outcome new to (λ k. AtPlaces old outcome new texts (λ places. G j k places outcome new)))
       (λ j lt_from. at_node to (λ k outcome new. AtPlaces old outcome new texts (λ places. G j k places outcome new))
-      (λ k lt_to. at_all_written texts (G j k) (λ places. gives (words j k places) (parted old piece j k (if_any places)) (puts_nothing (parted old piece j k (if_any places)) (λ l. lawful_parted piece j k places l lt_from lt_to) refl))))
+      (λ k lt_to. at_all_written texts (G j k) (λ places. gives (words j k places) (parted old piece j k (if_any places)) (puts_nothing (parted old piece j k (if_any places)) (λ l. valid_parted piece j k places l lt_from lt_to) refl))))
     where
-      lawful_parted : (name : List ℕ) (j k : ℕ) (places : List PlaceParts) → IsLawful old → j < length old.nodes → k < length old.nodes → IsLawful (parted old name j k (if_any places))
-      lawful_parted name j k places lawful lt_from lt_to =
-          let l = lawful_answered old j k (if_any places) lawful lt_from lt_to in
+      valid_parted : (name : List ℕ) (j k : ℕ) (places : List PlaceParts) → IsValid old → j < length old.nodes → k < length old.nodes → IsValid (parted old name j k (if_any places))
+      valid_parted name j k places valid lt_from lt_to =
+          let l = valid_answered old j k (if_any places) valid lt_from lt_to in
           record { within = l.within; apart = l.apart; own = λ e a. (let own = l.own e a in record { node = own.node; within = own.within; writer = own.writer; counter = own.counter }); honest = l.honest }
   does (Send piece node) =
       let G : ℕ → ℕ → Outcome → ScriptWorld → Type 0 = λ p k outcome new. Gives (changed_line (changed_places (held old k) (held (happened old (event.Give p k)) k))) (happened old (event.Give p k)) outcome new in
       at_piece piece (λ p outcome new. AtNode old outcome new node (λ k. G p k outcome new))
-      (λ p. at_node node (G p) (λ k lt. gives (changed_line (changed_places (held old k) (held (happened old (event.Give p k)) k))) (happened old (event.Give p k)) (puts_nothing (happened old (event.Give p k)) (λ l. lawful_given old p k l lt) refl)))
+      (λ p. at_node node (G p) (λ k lt. gives (changed_line (changed_places (held old k) (held (happened old (event.Give p k)) k))) (happened old (event.Give p k)) (puts_nothing (happened old (event.Give p k)) (λ l. valid_given old p k l lt) refl)))
   does Sweep =
       let others = numbers_from 1 (length old.nodes - 1) in
-      gives (codes "ok\n") (swept old) (puts_nothing (swept old) (lawful_swept old) (puts_merged_all old (map (λ k. (k, 0)) others ++ map (λ k. (0, k)) others)))
-  does (Files node) = reads node TellsPlaces (λ s a b p q. p ∙ sym q) (λ s outcome p. ap is_spent p)
-  does (Cat node host unit) = reads node (TellsFiles host unit) (files_are_told_once host unit) (files_spend_nothing host unit)
-  does (Show node host unit) = reads node (TellsUnit host unit) (questions_are_told_once (unit_asked unit) host) (questions_spend_nothing (unit_asked unit) host)
-  does (ListUnits node host unit) = reads node (TellsList host unit) (questions_are_told_once (pulled_asked unit) host) (questions_spend_nothing (pulled_asked unit) host)
-  does (Plan node host unit running) = reads node (TellsPlan host unit running) (questions_are_told_once (plan_asked unit running) host) (questions_spend_nothing (plan_asked unit running) host)
-  does (Workers count) = gives_or_refuses (IsCrew count) (codes "ok\n") NoCrew refl
+      gives (codes "ok\n") (swept old) (puts_nothing (swept old) (valid_swept old) (puts_merged_all old (map (λ k. (k, 0)) others ++ map (λ k. (0, k)) others)))
+  does (Files node) = reads node RendersPlaces (λ s a b p q. p ∙ sym q) (λ s outcome p. ap is_spent p)
+  does (Cat node host unit) = reads node (RendersFiles host unit) (files_are_rendered_once host unit) (files_spend_nothing host unit)
+  does (Show node host unit) = reads node (RendersUnit host unit) (questions_are_rendered_once (unit_asked unit) host) (questions_spend_nothing (unit_asked unit) host)
+  does (ListUnits node host unit) = reads node (RendersList host unit) (questions_are_rendered_once (pulled_asked unit) host) (questions_spend_nothing (pulled_asked unit) host)
+  does (Plan node host unit running) = reads node (RendersPlan host unit running) (questions_are_rendered_once (plan_asked unit running) host) (questions_spend_nothing (plan_asked unit running) host)
+  does (Workers count) = gives_or_refuses (IsWorkerCount count) (codes "ok\n") NoWorkerCount refl
   does (Same left right) =
       let C : ℕ → ℕ → Outcome → ScriptWorld → Type 0 = λ j k outcome new. ((held old j ≡ held old k) × Gives (codes "same\n") old outcome new) ⊎ ((held old j ≡ held old k → ⊥) × Gives (codes "differ\n") old outcome new) in
       at_node left (λ j outcome new. AtNode old outcome new right (λ k. C j k outcome new))
       (λ j lt_left. at_node right (C j) (λ k lt_right. compares (held old j ≡ held old k) (codes "same\n") (codes "differ\n")))
-  does (Crowd node seats edits) = reads node (TellsCrowd seats edits) (crowds_are_told_once seats edits) (crowds_spend_nothing seats edits)
+  does (Crowd node seats edits) = reads node (RendersCrowd seats edits) (crowds_are_rendered_once seats edits) (crowds_spend_nothing seats edits)

@@ -1,14 +1,7 @@
--- A sweep of replicas comes to what the merges of the world come to, one after another.
-use Rattle.std.proofs.Common.{◌≡◌, ℕ, zero, suc, ◌+◌, ◌-◌, ◌<◌, ◌≤◌, List, [], ◌∷◌, ◌++◌, map, length, set, get_or, Vec, Global, Ok, codes, refl, sym, ap, subst, ◌∙◌, append_assoc, arith}
-use Rattle.edit_sums.specs.Sums.{EntryMap, IsStoreBelow, join}
-use Rattle.edit_sums.specs.SumLaws.{join-least, join-left, join-nothing, join-right, join_assoc, store_below_antisym, store_below_refl, store_below_trans}
-use Rattle.replica_store.specs.Replicas.{Replicated}
-use Rattle.delta_gossip.specs.Sweeps.{join_all, with_store}
-use Rattle.script_worlds.specs.Worlds.{ScriptWorld, merged, merged_all, numbers_from}
-use Rattle.fleet_script.specs.Does.{Sweeps}
-use Rattle.fleet_script.specs.Holds.{Goes, Holds, Keeps, joined_with}
-use Rattle.fleet_script.proofs.Between.{any_node}
-use Rattle.fleet_script.proofs.Nodes.{get_or_twice, holds_merge, length_push, length_set, slice_get_at}
+-- A sweep of replicas leaves what the merges of the world leave, one after another.
+use Rattle.std.proofs.Common.{[], ◌++◌, ◌+◌, ◌-◌, ◌<◌, ◌∙◌, ◌∷◌, ◌≡◌, ◌≤◌, ap, append_assoc, arith, codes, get_or, Global, length, List, map, Ok, refl, set, subst, suc, sym, Vec, zero, ℕ}
+use Rattle.fleet_script.proofs.Prelude.{EntryMap, Goes, Holds, IsStoreBelow, join, join-least, join-left, join-nothing, join-right, join_all, join_assoc, joined_with, Keeps, merged, merged_all, numbers_from, Replicated, ScriptWorld, store_below_antisym, store_below_refl, store_below_trans, Sweeps, with_store}
+use Rattle.fleet_script.proofs.{Between.any_node, Nodes.get_or_twice, Nodes.holds_merge, Nodes.length_push, Nodes.length_set, Nodes.slice_get_at}
 
 -- ---- merges of replicas
 
@@ -21,7 +14,7 @@ merged_in-append : (nodes : List Replicated) (xs ys : List (ℕ × ℕ)) → mer
 merged_in-append nodes [] ys = refl
 merged_in-append nodes (x ∷ xs) ys = merged_in-append (set nodes x.1 (joined_with (get_or nodes x.1 any_node) (get_or nodes x.0 any_node))) xs ys
 
--- all are places among so many
+-- all are below this number
 abbrev pub AreWithin : ℕ → List (ℕ × ℕ) → Type 0
 AreWithin n [] = Unit {0}
 AreWithin n (pair ∷ pairs) = (pair.0 < n) × (pair.1 < n) × AreWithin n pairs
@@ -36,7 +29,7 @@ within-map f n first (suc count) each =
     let here = each first (omega arith) (omega arith) in
     (here.0, here.1, within-map f n (suc first) count (λ k low high. each k (omega arith) (omega arith)))
 
--- the world goes along with them
+-- the world follows them
 holds_merges : (shell : Keeps) (world : ScriptWorld) → Holds shell world → (pairs : List (ℕ × ℕ)) → AreWithin (length shell.nodes) pairs
     → Holds (record shell { nodes = merged_in shell.nodes pairs }) (merged_all world pairs)
 holds_merges shell world h [] within = h
@@ -64,7 +57,7 @@ out_of k = (0, k)
 abbrev pub sweep_pairs : ℕ → List (ℕ × ℕ)
 sweep_pairs n = map into (numbers_from 1 (n - 1)) ++ map out_of (numbers_from 1 (n - 1))
 
--- a store, and the stores of some replicas joined into it
+-- a store, into which the stores of some replicas are joined
 abbrev pub gathered : EntryMap → List Replicated → EntryMap
 gathered s [] = s
 gathered s (r ∷ rs) = gathered (join s r.store) rs
@@ -83,7 +76,7 @@ one_done : {A : Type 0} (F : List Replicated → ℕ → A) (done todo : List Re
     → F (done ++ next ∷ todo) (suc (length done)) ≡ F ((done ++ next ∷ []) ++ todo) (length (done ++ next ∷ []))
 one_done F done todo next = λ i. F (sym (append_assoc done (next ∷ []) todo) i) (sym (length_push done next) i)
 
--- the others, from those behind some on, are merged into the first
+-- the others, from those after some on, are merged into the first
 into_first : (first : Replicated) (done todo : List Replicated)
     → merged_in (first ∷ (done ++ todo)) (map into (numbers_from (suc (length done)) (length todo))) ≡ with_store (gathered first.store todo) first ∷ (done ++ todo)
 into_first first done [] = refl
@@ -106,13 +99,13 @@ out_of_first first done (r ∷ todo) =
     ∙ out_of_first first (done ++ next ∷ []) todo
     ∙ ap (λ (rs : List Replicated). first ∷ rs) (append_assoc done (next ∷ []) (map (λ (r : Replicated). joined_with r first) todo))
 
--- ---- what they come to
+-- ---- what they leave
 
 gathered_all : (s : EntryMap) (rs : List Replicated) → gathered s rs ≡ join s (join_all (map (λ (r : Replicated). r.store) rs))
 gathered_all s [] = sym (join-nothing s)
 gathered_all s (r ∷ rs) = gathered_all (join s r.store) rs ∙ join_assoc s r.store (join_all (map (λ (r : Replicated). r.store) rs))
 
--- the join with one above is that one
+-- the join with a store above is that store
 join_below : (s t : EntryMap) → IsStoreBelow s t → join s t ≡ t
 join_below s t below = store_below_antisym (join s t) t (join-least s t t below (store_below_refl t)) (join-right s t)
 

@@ -1,33 +1,16 @@
--- Laws of whole scripts: one list of answers, of which a fault leaves a front, lawful worlds, and counters that are never spent.
-use Rattle.std.proofs.Common.{◌≡◌, ◌⊎◌, inl, inr, ℕ, zero, suc, ◌+◌, ◌≤◌, ◌==◌, Bool, true, false, Result, Ok, Err, List, [], ◌∷◌, ◌++◌, length, take, nat_lt, refl, sym, ap, subst, ◌∙◌, append_assoc, cond, arith}
-use Rattle.std.specs.Prelude.{MatchResult}
-use Rattle.std.specs.Bool.{MatchBool}
-use Rattle.std.specs.List.{slice_split}
-use Rattle.std.specs.Str.Lines.{lines_of_parts}
+-- Laws of whole scripts: one list of answers, of which a fault leaves a prefix; valid worlds; and counters that are
+-- never spent.
+use Rattle.std.proofs.Common.{[], ◌++◌, ◌+◌, ◌==◌, ◌∙◌, ◌∷◌, ◌≡◌, ◌≤◌, ◌⊎◌, ap, append_assoc, arith, Bool, cond, Err, false, inl, inr, length, List, MatchResult, nat_lt, Ok, refl, Result, subst, suc, sym, take, true, zero, ℕ}
 use Rattle.std.proofs.lemmas.Bool.{ne_eqb, true≢false}
 use Rattle.std.proofs.lemmas.List.{length-take}
 use Rattle.std.proofs.lemmas.List.Splits.{length-slice_split}
 use Rattle.std.proofs.lemmas.List.Sums.{count_by-le-length}
-use Rattle.edit_sums.specs.Sums.{high_of}
-use Rattle.script_words.specs.Lines.{lines_of, is_passed_over}
-use Rattle.script_words.specs.Words.{words_of}
-use Rattle.script_commands.specs.declared.commands.Command.{Command}
-use Rattle.script_commands.specs.declared.commands.LineRefusal.{LineRefusal}
-use Rattle.script_commands.specs.declared.commands.LineRefusal.TheVariants.{Arguments, LineTooLong, UnknownCommand, VersionsSpent}
-use Rattle.script_commands.specs.Commands.{command_of}
-use Rattle.script_commands.specs.WrittenLaws.{BeginsWithVerb}
-use Rattle.script_commands.specs.ReadLaws.{others_are_refused}
-use Rattle.script_commands.specs.Outcomes.{Outcome, is_spent}
-use Rattle.script_answers.specs.Texts.{error_line, outcome_text}
-use Rattle.script_worlds.specs.Counts.{IsPutUpTo}
-use Rattle.script_worlds.specs.CountsLaws.{counted, put_blank}
-use Rattle.script_worlds.specs.Worlds.{ScriptWorld, blank, held}
-use Rattle.script_worlds.specs.Lawful.{IsLawful}
-use Rattle.script_worlds.specs.LawfulLaws.{lawful_blank}
-use Rattle.fleet_script.specs.Does.{Does, Refuses}
-use Rattle.fleet_script.specs.ScriptLaws.{CountersAreLines, FrontsAreOfTheWhole, NoLineIsRefusedForVersions, VersionsAreNeverSpent}
-use Rattle.fleet_script.specs.Scripts.{Answers, AnswersCommand, AnswersLine, Run, Says}
-use Rattle.fleet_script.proofs.StepKinds.{Follows, HasCounters, does, refused_once, stays}
+use Rattle.std.specs.List.{slice_split}
+use Rattle.std.specs.Prelude.{MatchBool}
+use Rattle.std.specs.Str.Lines.{lines_of_parts}
+use Rattle.fleet_script.proofs.Prelude.{Answers, AnswersCommand, AnswersLine, Arguments, BeginsWithVerb, blank, Command, command_of, counted, CountersAreLines, Does, error_line, held, high_of, is_passed_over, is_spent, IsPutUpTo, IsValid, LineRefusal, LineTooLong, NoLineIsRefusedForVersions, others_are_refused, Outcome, outcome_text, PrefixesAreOfTheWhole, put_blank, Refuses, Run, Says, ScriptWorld, UnknownCommand, valid_blank, VersionsAreNeverSpent, VersionsSpent, words_of}
+use Rattle.fleet_script.proofs.StepKinds.{does, Follows, HasCounters, refused_once, stays}
+use Rattle.script_words.specs.Lines.{lines_of}
 
 -- a line has one answer and leaves one world, which follows
 record IsLine {X : Type 0} (old : ScriptWorld) (A : X → ScriptWorld → Type 0) : Type 0 where
@@ -75,43 +58,43 @@ pub one : (script first second : List ℕ) → Answers script first → Answers 
 one script first second p q = (run_same blank (lines_of script) first second p.0 q.0 p.1 q.1).0
 
 -- a run of all lines begins with the run of the first of them
-front_of_run : (k : ℕ) (lines : List (List ℕ)) (old : ScriptWorld) (a b : List ℕ) (x y : ScriptWorld) → Run old (take k lines) a x → Run old lines b y → (rest : List ℕ) × (b ≡ a ++ rest)
-front_of_run zero [] old a b x y p q = (b, ap (λ v. v ++ b) (sym p.0))
-front_of_run zero (line ∷ lines) old a b x y p q = (b, ap (λ v. v ++ b) (sym p.0))
-front_of_run (suc k) [] old a b x y p q = (b, ap (λ v. v ++ b) (sym p.0))
-front_of_run (suc k) (line ∷ lines) old a b x y p q =
+prefix_of_run : (k : ℕ) (lines : List (List ℕ)) (old : ScriptWorld) (a b : List ℕ) (x y : ScriptWorld) → Run old (take k lines) a x → Run old lines b y → (rest : List ℕ) × (b ≡ a ++ rest)
+prefix_of_run zero [] old a b x y p q = (b, ap (λ v. v ++ b) (sym p.0))
+prefix_of_run zero (line ∷ lines) old a b x y p q = (b, ap (λ v. v ++ b) (sym p.0))
+prefix_of_run (suc k) [] old a b x y p q = (b, ap (λ v. v ++ b) (sym p.0))
+prefix_of_run (suc k) (line ∷ lines) old a b x y p q =
     let now = (line_is old line).one p.0 q.0 p.2 q.2 p.4 q.4 in
-    let later = front_of_run k lines p.2 p.1 q.1 x y p.5 (subst (λ w. Run w lines q.1 y) (sym now.1) q.5) in
+    let later = prefix_of_run k lines p.2 p.1 q.1 x y p.5 (subst (λ w. Run w lines q.1 y) (sym now.1) q.5) in
     (later.0, q.3 ∙ ap (λ v. v ++ q.1) (sym now.0) ∙ ap (λ v. p.0 ++ v) later.1 ∙ sym (append_assoc p.0 p.1 later.0) ∙ ap (λ v. v ++ later.0) (sym p.3))
 
--- a front of a front is a front
-front_of_front : (n : ℕ) (a rest : List ℕ) → (m : ℕ) × (take n a ≡ take m (a ++ rest))
-front_of_front zero [] rest = (0, refl)
-front_of_front zero (x ∷ a) rest = (0, refl)
-front_of_front (suc n) [] rest = (0, refl)
-front_of_front (suc n) (x ∷ a) rest = let later = front_of_front n a rest in (suc later.0, ap (λ v. x ∷ v) later.1)
+-- a prefix of a prefix is a prefix
+prefix_of_prefix : (n : ℕ) (a rest : List ℕ) → (m : ℕ) × (take n a ≡ take m (a ++ rest))
+prefix_of_prefix zero [] rest = (0, refl)
+prefix_of_prefix zero (x ∷ a) rest = (0, refl)
+prefix_of_prefix (suc n) [] rest = (0, refl)
+prefix_of_prefix (suc n) (x ∷ a) rest = let later = prefix_of_prefix n a rest in (suc later.0, ap (λ v. x ∷ v) later.1)
 
-pub fronts_are_of_the_whole : FrontsAreOfTheWhole
-fronts_are_of_the_whole script written answers front whole =
-    let goes_on = front_of_run front.0 (lines_of script) blank front.2 answers front.3 whole.0 front.4 whole.1 in
-    let cut = front_of_front front.1 front.2 goes_on.0 in
-    (cut.0, front.5 ∙ cut.1 ∙ ap (take cut.0) (sym goes_on.1))
+pub prefixes_are_of_the_whole : PrefixesAreOfTheWhole
+prefixes_are_of_the_whole script written answers prefix whole =
+    let goes_on = prefix_of_run prefix.0 (lines_of script) blank prefix.2 answers prefix.3 whole.0 prefix.4 whole.1 in
+    let cut = prefix_of_prefix prefix.1 prefix.2 goes_on.0 in
+    (cut.0, prefix.5 ∙ cut.1 ∙ ap (take cut.0) (sym goes_on.1))
 
-pub run_lawful : (lines : List (List ℕ)) (old : ScriptWorld) (written : List ℕ) (new : ScriptWorld) → IsLawful old → Run old lines written new → IsLawful new
-run_lawful [] old written new lawful r = subst (λ (w : ScriptWorld). IsLawful w) (sym r.1) lawful
-run_lawful (line ∷ lines) old written new lawful r = run_lawful lines r.2 r.1 new (((line_is old line).follows r.0 r.2 r.4).lawful lawful) r.5
+pub run_valid : (lines : List (List ℕ)) (old : ScriptWorld) (written : List ℕ) (new : ScriptWorld) → IsValid old → Run old lines written new → IsValid new
+run_valid [] old written new valid r = subst (λ (w : ScriptWorld). IsValid w) (sym r.1) valid
+run_valid (line ∷ lines) old written new valid r = run_valid lines r.2 r.1 new (((line_is old line).follows r.0 r.2 r.4).valid valid) r.5
 
-run_counted : (lines : List (List ℕ)) (old : ScriptWorld) (written : List ℕ) (new : ScriptWorld) (n : ℕ) → IsLawful old → IsPutUpTo n old → Run old lines written new → IsPutUpTo (n + length lines) new
-run_counted [] old written new n lawful up r e a = let most = subst (λ (w : ScriptWorld). IsPutUpTo n w) (sym r.1) up e a in omega arith
-run_counted (line ∷ lines) old written new n lawful up r e a =
+run_counted : (lines : List (List ℕ)) (old : ScriptWorld) (written : List ℕ) (new : ScriptWorld) (n : ℕ) → IsValid old → IsPutUpTo n old → Run old lines written new → IsPutUpTo (n + length lines) new
+run_counted [] old written new n valid up r e a = let most = subst (λ (w : ScriptWorld). IsPutUpTo n w) (sym r.1) up e a in omega arith
+run_counted (line ∷ lines) old written new n valid up r e a =
     let step = (line_is old line).follows r.0 r.2 r.4 in
-    let most = run_counted lines r.2 r.1 new (suc n) (step.lawful lawful) (step.counted n lawful up) r.5 e a in
+    let most = run_counted lines r.2 r.1 new (suc n) (step.valid valid) (step.counted n valid up) r.5 e a in
     omega arith
 
 pub counters_are_lines : CountersAreLines
 counters_are_lines lines written world r =
-    counted (length lines) world (run_lawful lines blank written world lawful_blank r)
-    (λ e a. let most = run_counted lines blank written world 0 lawful_blank put_blank r e a in omega arith)
+    counted (length lines) world (run_valid lines blank written world valid_blank r)
+    (λ e a. let most = run_counted lines blank written world 0 valid_blank put_blank r e a in omega arith)
 
 fewer_lines : (parts : List (List ℕ)) → length (lines_of_parts parts) ≤ length parts
 fewer_lines [] = omega arith
@@ -122,7 +105,7 @@ fewer_lines (part ∷ []) = by (length part == 0)
     by false = omega arith
 fewer_lines (part ∷ next ∷ parts) = let later = fewer_lines (next ∷ parts) in omega arith
 
--- a script has no more lines than bytes, but for one
+-- a script has at most one line more than it has bytes
 pub lines_are_few : (script : List ℕ) → length (lines_of script) ≤ length script + 1
 unfolding lines_of
 lines_are_few script =

@@ -1,61 +1,43 @@
 -- What each command does: which outcome it may have in a world, and which world it leaves.
 -- Source: this project's own.
-use Rattle.std.specs.Prelude.{◌≡◌, ◌≢◌, ◌⊎◌, ℕ, ◌==◌, codes, List, [], ◌∷◌, length, Option, Some, None, Ok, Err, MatchOption, MatchResult, MatchBool}
+use Rattle.std.proofs.Common.{[], ◌==◌, ◌∷◌, ◌≡◌, ◌≢◌, ◌⊎◌, codes, Err, length, List, MatchOption, MatchResult, None, Ok, Option, Some, ℕ}
+use Rattle.std.specs.Prelude.{MatchBool}
+use Rattle.fleet_script.specs.Prelude.{BadLink, BadText, changed_line, changed_places, Command, Component, Content, cut, Depth, digest_of, Directory, entries_line, EntryMap, File, files_text, FileTooLarge, Gone, happened, has_writer, held, high_of, HostName, is_file, is_target, IsBadText, IsWorkerCount, LineRefusal, Link, merged, next_edit, node_named, NodeTaken, Nothing, ok_line, Outcome, parted, piece_named, place_of, PlaceFault, PlaceParts, places_of, RendersCrowd, RendersFiles, RendersList, RendersPlan, RendersUnit, ScriptWorld, Spells, swept, UnknownNode, UnknownPiece, VersionsSpent, visible_at, with_node, Workers, WriterTaken}
 use Rattle.std.specs.FinMap as finmap
-use Rattle.load_places.specs.Texts.{place_of}
-use Rattle.load_places.specs.Places.{PlaceParts}
-use Rattle.load_places.specs.declared.texts.PlaceFault.{PlaceFault}
 use Rattle.load_places.specs.declared.texts.PlaceFault.TheVariants as place
-use Rattle.edit_sums.specs.declared.contents.Content.{Content}
-use Rattle.edit_sums.specs.declared.contents.Content.TheVariants.{Gone, Link, File}
-use Rattle.edit_sums.specs.Limits.{is_file, is_target}
-use Rattle.edit_sums.specs.Sums.{EntryMap, high_of, visible_at, changed_places}
 use Rattle.world_law.specs.declared.events.Event.TheVariants as event
-use Rattle.world_law.specs.Cuts.{cut, digest_of}
-use Rattle.script_words.specs.Text.{Spells, IsBadText}
-use Rattle.script_commands.specs.declared.commands.Command.{Command}
 use Rattle.script_commands.specs.declared.commands.Command.TheVariants as command
-use Rattle.script_commands.specs.declared.commands.LineRefusal.{LineRefusal}
-use Rattle.script_commands.specs.Places.{places_of}
-use Rattle.script_commands.specs.declared.commands.LineRefusal.TheVariants.{UnknownNode, BadText, UnknownPiece, NodeTaken, WriterTaken, HostName, Directory, Depth, Component, FileTooLarge, BadLink, VersionsSpent, Nothing, Workers}
-use Rattle.script_commands.specs.Outcomes.{Outcome}
-use Rattle.worker_rounds.specs.Crews.{IsCrew}
-use Rattle.script_answers.specs.Crowds.{TellsCrowd}
-use Rattle.script_answers.specs.Files.{TellsFiles}
-use Rattle.script_answers.specs.Tells.{TellsList, TellsPlan, TellsUnit}
-use Rattle.script_answers.specs.Texts.{ok_line, changed_line, entries_line, files_text}
-use Rattle.script_worlds.specs.Worlds.{ScriptWorld, held, happened, with_node, node_named, has_writer, next_edit, parted, piece_named, merged, swept}
 
--- the answer is these words, and the new world is that one
+-- the answer is these words, and this is the new world
 pub record Gives (words : List ℕ) (world : ScriptWorld) (outcome : Outcome) (new : ScriptWorld) : Type 0 where
   pub outcome_is : outcome ≡ Ok words
   pub world_is : new ≡ world
 
--- it is refused, and the world stays
+-- it is refused, and the world stays as it was
 pub record Refuses (old : ScriptWorld) (refusal : LineRefusal) (outcome : Outcome) (new : ScriptWorld) : Type 0 where
   pub outcome_is : outcome ≡ Err refusal
   pub world_is : new ≡ old
 
--- the outcome is one of these, and the world stays
-pub record IsRead (Tells : Outcome → Type 0) (old : ScriptWorld) (outcome : Outcome) (new : ScriptWorld) : Type 0 where
-  pub told : Tells outcome
+-- the outcome is one of these, and the world stays as it was
+pub record IsRead (Renders : Outcome → Type 0) (old : ScriptWorld) (outcome : Outcome) (new : ScriptWorld) : Type 0 where
+  pub rendered : Renders outcome
   pub world_is : new ≡ old
 
--- all that a store holds is told
-abbrev pub TellsPlaces : EntryMap → Outcome → Type 0
-TellsPlaces s outcome = outcome ≡ Ok (files_text s)
+-- the answer lists all that a store holds
+abbrev pub RendersPlaces : EntryMap → Outcome → Type 0
+RendersPlaces s outcome = outcome ≡ Ok (files_text s)
 
--- these places, or all where none are given
+-- these places, or all if none are given
 abbrev pub if_any : List PlaceParts → Option (List PlaceParts)
 if_any [] = None
 if_any (place ∷ places) = Some (place ∷ places)
 
 module _ (old : ScriptWorld) (outcome : Outcome) (new : ScriptWorld) where
-  -- what holds of the node of a name, if there is one
+  -- what holds of the node with a name, if there is one
   abbrev pub AtNode : List ℕ → (ℕ → Type 0) → Type 0
   AtNode name P = MatchOption (node_named old.nodes name) (Refuses old UnknownNode outcome new) P
 
-  -- a text that is no place is refused for the first thing wrong with it
+  -- a text that writes no place is refused for the first thing wrong with it
   abbrev pub RefusesPlace : PlaceFault → Type 0
   RefusesPlace place.HostName = Refuses old HostName outcome new
   RefusesPlace place.Directory = Refuses old Directory outcome new
@@ -63,7 +45,7 @@ module _ (old : ScriptWorld) (outcome : Outcome) (new : ScriptWorld) where
   RefusesPlace place.Component = Refuses old Component outcome new
   RefusesPlace place.Memory = ⊥
 
-  -- what holds of the number of the piece of a name, if there is one
+  -- what holds of the index of the piece with a name, if there is one
   abbrev pub AtPiece : List ℕ → (ℕ → Type 0) → Type 0
   AtPiece name P = MatchOption (piece_named old.pieces name) (Refuses old UnknownPiece outcome new) P
 
@@ -108,21 +90,22 @@ module _ (old : ScriptWorld) (outcome : Outcome) (new : ScriptWorld) where
   abbrev pub Links : List ℕ → List ℕ → List ℕ → Type 0
   Links node place target = AtNode node (λ k. AtPlace place (λ at. WithTarget target (Writes k at)))
 
-  -- what is visible at a place of the node of a number is removed
+  -- what is visible at a place of the node with an index is removed
   abbrev pub RemovesAt : ℕ → PlaceParts → Type 0
   RemovesAt k at = MatchOption (visible_at (held old k) at) (Refuses old Nothing outcome new) (λ shown. Writes k at Gone)
 
   abbrev pub Removes : List ℕ → List ℕ → Type 0
   Removes node place = AtNode node (λ k. AtPlace place (RemovesAt k))
 
-  -- the node of one number is given all that it lacks of that of another, and the places that this changes are counted
+  -- the first node is given all that it lacks of the second; the places that this changes are counted
   abbrev pub MergesInto : ℕ → ℕ → Type 0
   MergesInto j k = let next = merged old j k in Gives (changed_line (changed_places (held old k) (held next k))) next outcome new
 
   abbrev pub Merges : List ℕ → List ℕ → Type 0
   Merges from to = AtNode from (λ j. AtNode to (λ k. MergesInto j k))
 
-  -- the node of one number cuts for the ask of that of another, at these places or at all; what is cut is kept under a name, and its entries are counted
+  -- the first node cuts for the ask of the second, at these places or at all; the piece is stored under a name, and its
+  -- entries are counted
   abbrev pub PartsAt : List ℕ → ℕ → ℕ → List PlaceParts → Type 0
   PartsAt piece j k places =
       let entries = cut (held old j) (digest_of (held old k)) (if_any places) in
@@ -131,7 +114,7 @@ module _ (old : ScriptWorld) (outcome : Outcome) (new : ScriptWorld) where
   abbrev pub Parts : List ℕ → List ℕ → List ℕ → List (List ℕ) → Type 0
   Parts piece from to texts = AtNode from (λ j. AtNode to (λ k. AtPlaces texts (λ places. PartsAt piece j k places)))
 
-  -- the piece of a number is given to the node of a number, and the places that this changes are counted
+  -- the piece with an index is given to the node with an index; the places that this changes are counted
   abbrev pub SendsTo : ℕ → ℕ → Type 0
   SendsTo p k = let next = happened old (event.Give p k) in Gives (changed_line (changed_places (held old k) (held next k))) next outcome new
 
@@ -142,18 +125,18 @@ module _ (old : ScriptWorld) (outcome : Outcome) (new : ScriptWorld) where
   abbrev pub Sweeps : Type 0
   Sweeps = Gives (codes "ok\n") (swept old) outcome new
 
-  -- what a node holds is read alone: the outcome is one that it may have of the node's store, and the world stays
+  -- a command that only reads a node: its outcome is a possible one for the node's store, and the world stays as it was
   abbrev pub Reads : List ℕ → (EntryMap → Outcome → Type 0) → Type 0
-  Reads node Tells = AtNode node (λ k. IsRead (Tells (held old k)) old outcome new)
+  Reads node Renders = AtNode node (λ k. IsRead (Renders (held old k)) old outcome new)
 
   -- two nodes hold the same, or they differ
   abbrev pub Compares : List ℕ → List ℕ → Type 0
   Compares left right = AtNode left (λ j. AtNode right (λ k.
       ((held old j ≡ held old k) × Gives (codes "same\n") old outcome new) ⊎ ((held old j ≢ held old k) × Gives (codes "differ\n") old outcome new)))
 
-  -- so many workers load from now on; their number changes no answer
-  abbrev pub Crews : ℕ → Type 0
-  Crews count = (IsCrew count × Gives (codes "ok\n") old outcome new) ⊎ (¬ IsCrew count × Refuses old Workers outcome new)
+  -- from now on this many workers load; their number changes no answer
+  abbrev pub WorkerCounts : ℕ → Type 0
+  WorkerCounts count = (IsWorkerCount count × Gives (codes "ok\n") old outcome new) ⊎ (¬ IsWorkerCount count × Refuses old Workers outcome new)
 
 -- From the old world a command may have this outcome, and leave the new world.
 abbrev pub Does : ScriptWorld → Command → Outcome → ScriptWorld → Type 0
@@ -165,11 +148,11 @@ Does old (command.Merge from to) outcome new = Merges old outcome new from to
 Does old (command.Part piece from to places) outcome new = Parts old outcome new piece from to places
 Does old (command.Send piece node) outcome new = Sends old outcome new piece node
 Does old command.Sweep outcome new = Sweeps old outcome new
-Does old (command.Files node) outcome new = Reads old outcome new node TellsPlaces
-Does old (command.Cat node host unit) outcome new = Reads old outcome new node (TellsFiles host unit)
-Does old (command.Show node host unit) outcome new = Reads old outcome new node (TellsUnit host unit)
-Does old (command.List node host unit) outcome new = Reads old outcome new node (TellsList host unit)
-Does old (command.Plan node host unit running) outcome new = Reads old outcome new node (TellsPlan host unit running)
-Does old (command.Workers count) outcome new = Crews old outcome new count
+Does old (command.Files node) outcome new = Reads old outcome new node RendersPlaces
+Does old (command.Cat node host unit) outcome new = Reads old outcome new node (RendersFiles host unit)
+Does old (command.Show node host unit) outcome new = Reads old outcome new node (RendersUnit host unit)
+Does old (command.List node host unit) outcome new = Reads old outcome new node (RendersList host unit)
+Does old (command.Plan node host unit running) outcome new = Reads old outcome new node (RendersPlan host unit running)
+Does old (command.Workers count) outcome new = WorkerCounts old outcome new count
 Does old (command.Same left right) outcome new = Compares old outcome new left right
-Does old (command.Crowd node seats edits) outcome new = Reads old outcome new node (TellsCrowd seats edits)
+Does old (command.Crowd node seats edits) outcome new = Reads old outcome new node (RendersCrowd seats edits)

@@ -1,12 +1,11 @@
--- What stands where a run ends: of a reader that tells what it has left, and a writer that tells what it holds.
+-- What holds when a run ends: of a reader that tells what it has left, and of a writer that tells what it holds.
 -- Source: this project's own.
-use Rattle.std.specs.Prelude.{◌⊎◌, ℕ, List, Option, length, ◌≤◌}
+use Rattle.std.proofs.Common.{◌≤◌, ◌⊎◌, length, List, Option, ℕ}
 use Rattle.std.specs.Io.KnownBytes.{Appends, Keeps}
-use Rattle.script_pipes.specs.Failures.{FailedSince}
-use Rattle.script_pipes.specs.KnownBytes.{AreAll, IsOver}
-use Rattle.fleet_script.specs.Scripts.{Answers, AnswersFront}
+use Rattle.fleet_script.specs.Prelude.{AreAll, FailedSince, IsOver}
+use Rattle.fleet_script.specs.Scripts.{Answers, AnswersPrefix}
 
--- a script of at most so many bytes was left, and the answers to it are written
+-- a script of at most this many bytes was left, and the answers to it are written
 pub record IsAnswered (limit : ℕ) (left held held' : Option (List ℕ)) : Type 0 where
   pub script : List ℕ
   pub answers : List ℕ
@@ -15,20 +14,20 @@ pub record IsAnswered (limit : ℕ) (left held held' : Option (List ℕ)) : Type
   pub are_answers : Answers script answers
   pub written : Appends held held' answers
 
--- a front of the answers to the first lines of what was left is written
-pub record IsFronted (left held held' : Option (List ℕ)) : Type 0 where
+-- a prefix of the answers to the first lines of what was left is written
+pub record IsPrefixWritten (left held held' : Option (List ℕ)) : Type 0 where
   pub script : List ℕ
-  pub front : List ℕ
+  pub prefix : List ℕ
   pub read : AreAll left script
-  pub is_front : AnswersFront script front
-  pub written : Appends held held' front
+  pub is_prefix : AnswersPrefix script prefix
+  pub written : Appends held held' prefix
 
 -- nothing is written, and a read failed or more was left than the limit
 pub record IsUnread (limit : ℕ) (left : Option (List ℕ)) (failures failures' : ℕ) (held held' : Option (List ℕ)) : Type 0 where
   pub kept : Keeps held held'
   pub cause : FailedSince failures failures' ⊎ IsOver limit left
 
--- a front of the answers is written, and a write failed or took nothing
+-- a prefix of the answers is written, and a write failed or took nothing
 pub record IsUnwritten (left : Option (List ℕ)) (refusals refusals' : ℕ) (held held' : Option (List ℕ)) : Type 0 where
-  pub front : IsFronted left held held'
+  pub prefix : IsPrefixWritten left held held'
   pub cause : FailedSince refusals refusals'

@@ -1,17 +1,12 @@
--- Commands that only read one node: where nodes took the same edits, they have one outcome.
+-- Commands that only read one node have one outcome for all nodes that took the same edits.
 -- Source (strong eventual consistency): Shapiro, Preguica, Baquero, Zawirski 2011.
-use Rattle.std.specs.Prelude.{◌≡◌, ◌↔◌, ℕ, List, Some, slice_get}
-use Rattle.edit_sums.specs.Sums.{EntryMap, IsAboveEdits, IsStoreBelow}
+use Rattle.std.proofs.Common.{◌↔◌, ◌≡◌, List, slice_get, Some, ℕ}
+use Rattle.fleet_script.specs.Prelude.{AreSameEdits, blank, Command, EntryMap, IsAboveEdits, IsStoreBelow, node_named, Outcome, ScriptWorld, state, took}
+use Rattle.fleet_script.specs.{Does.Does, Scripts.Run}
 use Rattle.world_law.specs.Worlds as worlds
-use Rattle.world_law.specs.Worlds.{AreSameEdits, took}
-use Rattle.script_commands.specs.declared.commands.Command.{Command}
 use Rattle.script_commands.specs.declared.commands.Command.TheVariants as command
-use Rattle.script_commands.specs.Outcomes.{Outcome}
-use Rattle.script_worlds.specs.Worlds.{ScriptWorld, blank, node_named, state}
-use Rattle.fleet_script.specs.Does.{Does}
-use Rattle.fleet_script.specs.Scripts.{Run}
 
--- the command reads one node, and nothing else happens
+-- the command reads one node and changes nothing
 abbrev pub IsReading : Command → Type 0
 IsReading (command.Files node) = Unit {0}
 IsReading (command.Cat node host unit) = Unit {0}
@@ -21,7 +16,7 @@ IsReading (command.Plan node host unit running) = Unit {0}
 IsReading (command.Crowd node seats edits) = Unit {0}
 IsReading other = ⊥
 
--- the same command, which reads the node of this name
+-- the same command for the node with this name
 abbrev pub of_node : List ℕ → Command → Command
 of_node name (command.Files node) = command.Files name
 of_node name (command.Cat node host unit) = command.Cat name host unit
@@ -31,19 +26,20 @@ of_node name (command.Plan node host unit running) = command.Plan name host unit
 of_node name (command.Crowd node seats edits) = command.Crowd name seats edits
 of_node name other = other
 
--- Where two nodes took the same edits, each at any moment of any script, a command that only reads has one outcome of both.
+-- If two nodes took the same edits, each at any moment of any script, a command that only reads has one outcome for
+-- both.
 abbrev pub SameEditsSameOutcomes : Type 0
 SameEditsSameOutcomes = (world other : ScriptWorld) (left right : List ℕ) (j k : ℕ) → node_named world.nodes left ≡ Some j → node_named other.nodes right ≡ Some k
     → AreSameEdits (took (state world) j) (took (state other) k) → (command : Command) → IsReading command
     → (a b : Outcome) (x y : ScriptWorld) → Does world (of_node left command) a x → Does other (of_node right command) b y → a ≡ b
 
--- And where these moments come after some lines, both hold the same store.
+-- If these moments come after some lines of scripts, both nodes hold the same store.
 abbrev pub SameEditsSameStores : Type 0
-SameEditsSameStores = (lines others : List (List ℕ)) (written told : List ℕ) (world other : ScriptWorld) → Run blank lines written world → Run blank others told other
+SameEditsSameStores = (lines others : List (List ℕ)) (written rendered : List ℕ) (world other : ScriptWorld) → Run blank lines written world → Run blank others rendered other
     → (j k : ℕ) (left right : worlds.Node) → slice_get (state world).nodes j ≡ Some left → slice_get (state other).nodes k ≡ Some right
     → AreSameEdits (took (state world) j) (took (state other) k) → left.store ≡ right.store
 
--- A node's store is the least above the edits that it took.
+-- A node's store is the least store above the edits that it took.
 abbrev pub StoresAreLeast : Type 0
 StoresAreLeast = (lines : List (List ℕ)) (written : List ℕ) (world : ScriptWorld) → Run blank lines written world
     → (k : ℕ) (node : worlds.Node) → slice_get (state world).nodes k ≡ Some node → (s : EntryMap) → IsStoreBelow node.store s ↔ IsAboveEdits (took (state world) k) s

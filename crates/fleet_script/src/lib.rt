@@ -9,5 +9,7 @@ mod laws;
 mod running;
 mod states;
 
-pub use laws::{counters_never_spent, fronts_of_answers, one_answer, scripts_are_honest};
+pub use laws::{
+    counters_never_spent, one_answer, prefixes_of_answers, readings_agree, scripts_are_honest,
+};
 pub use running::{ShellFault, run};

@@ -1,7 +1,7 @@
-//! A script is read, and its answers are written.
+//! Reads a script, and writes its answers.
 ghost use Rattle.std.specs.{Prelude.{◌≡◌, ◌≤◌, ℕ, List, length, Err, OnOk, OnErr, IsErrOf}, Io.KnownBytes.{Appends}};
-ghost use Rattle.script_pipes.specs.{Failures.{FailedSince}, KnownBytes.{AppendsFront}};
-ghost use Rattle.fleet_script.specs.{Ends.{IsAnswered, IsFronted, IsUnread}, Scripts.{Answers, AnswersFront}};
+ghost use Rattle.script_pipes.specs.{Failures.{FailedSince}, KnownBytes.{AppendsPrefix}};
+ghost use Rattle.fleet_script.specs.{Ends.{IsAnswered, IsPrefixWritten, IsUnread}, Scripts.{Answers, AnswersPrefix}};
 ghost use Rattle.fleet_script.specs.declared.running.ShellFault.TheVariants.{Write};
 
 use crate::states::Shell;
@@ -11,19 +11,19 @@ use std::sync::Wait;
 use std::thread::Threads;
 use thiserror::Error;
 
-/// How many bytes of answers are gathered before they are written.
+/// How many bytes of answers are collected before they are written.
 const BATCH: usize = 65_536;
 
 /// Why a script was not answered to its end.
 #[derive(Clone, Copy, Debug, PartialEq, Eq, Error)]
 pub enum ShellFault {
-    /// A read failed, or the script passes a limit. Nothing was written.
+    /// A read failed, or the script is longer than the limit. Nothing was written.
     #[error("read fault")]
     Read,
-    /// A write failed or took no byte. A front of the answers was written.
+    /// A write failed or took no byte. A prefix of the answers was written.
     #[error("write fault")]
     Write,
-    /// Memory was refused. A front of the answers was written.
+    /// Memory ran out. A prefix of the answers was written.
     #[error("out of memory")]
     Memory,
 }
@@ -36,17 +36,17 @@ impl From<WriteFault> for ShellFault {
     }
 }
 
-// Writes the answers so far, where memory for the next one was refused.
+// Writes the answers so far, when memory ran out for the next one.
 fn give_up<K: Sink>(writer: &mut K, pending: &[u8]) -> Result<(), ShellFault>
     ensures memory { result ≡ Err ShellFault.Memory }
-    ensures front { AppendsFront (K.contents writer.old) (K.contents writer.new) pending.now }
+    ensures prefix { AppendsPrefix (K.contents writer.old) (K.contents writer.new) pending.now }
 {
     match write_all(writer, pending) {
         Ok(()) | Err(WriteFault) => Err(ShellFault::Memory),
     }
 }
 
-// Writes the answers to a script, gathered in large pieces.
+// Writes the answers to a script, in large blocks.
 fn answer_all<R: AllocGlobal + Threads + Wait + Sync, K: Sink>(
     rt: &R,
     script: &[u8],
@@ -55,7 +55,7 @@ fn answer_all<R: AllocGlobal + Threads + Wait + Sync, K: Sink>(
     requires short { length script.now ≤ MAX_SCRIPT_BYTES }
     ensures ok { OnOk result ((written : List ℕ) × Answers script.now written
         × Appends (K.contents writer.old) (K.contents writer.new) written) }
-    ensures front { OnErr result ((written : List ℕ) × AnswersFront script.now written
+    ensures prefix { OnErr result ((written : List ℕ) × AnswersPrefix script.now written
         × Appends (K.contents writer.old) (K.contents writer.new) written) }
     ensures write { IsErrOf result ShellFault.Write → FailedSince (K.refusals writer.old)
         (K.refusals writer.new) }
@@ -84,10 +84,10 @@ fn answer_all<R: AllocGlobal + Threads + Wait + Sync, K: Sink>(
 
 /// Reads a whole script, and writes the answers to its commands.
 ///
-/// A script has at most 16,777,216 bytes and takes at most 20,000,000 reads. Any reader or writer
-/// of std is a source or a sink in a `Watched` that was made for this run. A buffer of the
-/// writer's own is flushed by its owner. Linear in the bytes of the script beside its commands.
-/// It may wait for threads, where a command loads by several workers, and as a node does, where a crowd works at one.
+/// A script has at most 16,777,216 bytes and takes at most 20,000,000 reads. Any reader or writer of std is a source or
+/// a sink in a `Watched` that was made for this run. If the writer has a buffer of its own, its owner flushes it.
+/// Linear in the bytes of the script, apart from the cost of its commands. May wait for threads, when a command loads
+/// by several workers; and as a node does, when a crowd works at one.
 pub fn run<R: AllocGlobal + Threads + Wait + Sync, S: Source, K: Sink>(
     rt: &R,
     reader: &mut S,
@@ -97,12 +97,12 @@ pub fn run<R: AllocGlobal + Threads + Wait + Sync, S: Source, K: Sink>(
     ensures ok { OnOk result (IsAnswered MAX_SCRIPT_BYTES (S.remaining reader.old) (K.contents writer.old)
         (K.contents writer.new)) }
 
-    // Nothing is written where the script was not read, and then a read failed or it is too long.
+    // If the script wasn't read, nothing is written, and a read failed or the script is too long.
     ensures read { IsErrOf result ShellFault.Read → IsUnread MAX_SCRIPT_BYTES (S.remaining reader.old)
         (S.failures reader.old) (S.failures reader.new) (K.contents writer.old) (K.contents writer.new) }
 
-    // On every fault a front of the answers is written.
-    ensures front { OnErr result (IsFronted (S.remaining reader.old) (K.contents writer.old)
+    // On every fault a prefix of the answers is written.
+    ensures prefix { OnErr result (IsPrefixWritten (S.remaining reader.old) (K.contents writer.old)
         (K.contents writer.new)) }
     ensures write { IsErrOf result ShellFault.Write → FailedSince (K.refusals writer.old)
         (K.refusals writer.new) }

@@ -1,11 +1,11 @@
-//! What the shell keeps.
+//! The state of the shell.
 ghost use Rattle.std.specs.{Prelude.{◌≡◌, ◌<◌, ℕ, List, Some, length}, BTreeMap.{get}, Cmp.Lexicographic.{slice_cmp}, Ordering.{nat_cmp}};
 
 use delta_pieces::Piece;
 use fleet_answers::Snapshots;
 use plain_values::Bytes;
 use replica_store::Replica;
-use script_answers::Crew;
+use script_answers::WorkerCount;
 use script_commands::{Fault, LineRefusal};
 use std::alloc::Global;
 use std::collections::{BTreeMap, BTreeSet};
@@ -15,22 +15,22 @@ mod exchanges;
 mod execution;
 mod questions;
 
-/// What is told of a command: the text of its answer, or why it was not done.
-type Told = Result<Vec<u8>, Fault>;
+/// The answer to a command: its text, or why the command was not executed.
+type Rendered = Result<Vec<u8>, Fault>;
 
-/// Each node's replica of now, in the order of their making; by name the numbers of the nodes, from 0, and the pieces
-/// of now; the writer numbers that are taken; and how many workers load, and what they loaded last for each node, which
-/// change no answer.
+/// The current replica of each node, in the order in which the nodes were made; by name the indices of the nodes, from
+/// 0, and the current pieces; and the writer numbers in use. Also the worker count and what was last loaded for each
+/// node, neither of which changes any answer.
 #[derive(Drop)]
 pub(crate) struct Shell {
     nodes: Vec<Replica>,
     numbers: BTreeMap<Bytes, usize>,
     writers: BTreeSet<u32>,
     pieces: BTreeMap<Bytes, Piece>,
-    workers: Crew,
+    workers: WorkerCount,
     snapshots: Snapshots,
 
-    // A number is that of a node. Where memory was refused in the midst of making one, a node may stand without a name.
+    // Each index is that of a node. If memory runs out while a node is made, a node may be left without a name.
     ghost within: { (name : List ℕ) (at : ℕ) → get (slice_cmp nat_cmp) numbers name ≡ Some at
         → at < length nodes.items },
 }
@@ -48,12 +48,12 @@ impl Shell {
             numbers: BTreeMap::new(alloc),
             writers: BTreeSet::new(alloc),
             pieces: BTreeMap::new(alloc),
-            workers: Crew::one(),
+            workers: WorkerCount::one(),
             snapshots: Snapshots::new(alloc),
         }
     }
 
-    // The number of the node of a name, or that there is none.
+    // The index of the node with a name, or the refusal that there is none.
     fn node_at(&self, alloc: Global, name: &[u8]) -> Result<usize, Fault>
         ensures within { IfOk result (λ at. at < length self.now.nodes.items) }
         ensures found { MatchResult result (λ at. (kept_in self.now).number_of name.now ≡ Some at)
@@ -66,7 +66,7 @@ impl Shell {
         }
     }
 
-    // The replica of the node of a name, or that there is none.
+    // The replica of the node with a name, or the refusal that there is none.
     fn replica(&self, alloc: Global, name: &[u8]) -> Result<&Replica, Fault>
         ensures found { MatchResult result
             (λ replica. IsNodeNamed (kept_in self.now) name.now replica.now)

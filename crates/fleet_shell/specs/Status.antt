@@ -1,10 +1,9 @@
 -- The exit status of the program.
 -- Source: this project's own.
-use Rattle.std.specs.Prelude.{ℕ, Result, Ok, Err}
-use Rattle.fleet_script.specs.declared.running.ShellFault.{ShellFault}
-use Rattle.fleet_script.specs.declared.running.ShellFault.TheVariants.{Read, Write, Memory}
+use Rattle.std.proofs.Common.{Err, Ok, Result, ℕ}
+use Rattle.fleet_shell.specs.Prelude.{Memory, Read, ShellFault, Write}
 
--- 0 for a script that was answered to its end, 1 where a read or a write failed, 2 where memory was refused
+-- 0 for a script that was answered to its end, 1 if a read or a write failed, 2 if memory ran out
 abbrev pub status_of : Result (Unit {0}) ShellFault → ℕ
 status_of (Ok u) = 0
 status_of (Err Read) = 1

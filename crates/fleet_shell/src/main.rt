@@ -1,13 +1,14 @@
-//! Answers the script on standard input on standard output. The exit status is 0 for a script that was answered to
-//! its end, 1 where a read or a write failed or the script is too long, and 2 where memory was refused.
+//! Reads a script from standard input and writes its answers to standard output. The exit status is 0 if the script was
+//! answered to its end, 1 if a read or a write failed or the script is too long, and 2 if memory ran out.
 //!
 //! Promise: the script's answers.
 //!
-//! A line on standard error says which of these it was.
+//! If the status isn't 0, a line on standard error names the fault. `answer_script` is the whole program but for its
+//! pipes.
 #![tactic(auto)]
 
 ghost use Rattle.std.specs.{Prelude.{◌≡◌, ◌⊎◌, ◌≤◌}, Process.{exit_status}};
-ghost use Rattle.fleet_script.specs.Ends.{IsAnswered, IsFronted, IsUnread, IsUnwritten};
+ghost use Rattle.fleet_script.specs.Ends.{IsAnswered, IsPrefixWritten, IsUnread, IsUnwritten};
 ghost use Rattle.fleet_shell.specs.Status.{status_of};
 
 use fleet_script::ShellFault;
@@ -21,9 +22,9 @@ use std::thread::Threads;
 #[cfg(test)]
 mod tests;
 
-/// Says on standard error what went wrong, if anything did, and gives the exit status.
+/// Writes to standard error what went wrong, if anything did, and returns the exit status.
 ///
-/// A line that standard error refuses is lost: there is nowhere left to say so.
+/// If standard error refuses the line, it is lost: there is nowhere left to report that.
 fn finish(rt: &impl Eprint, outcome: Result<(), ShellFault>) -> u8
     ensures status { result ≡ status_of outcome }
 {
@@ -37,8 +38,8 @@ fn finish(rt: &impl Eprint, outcome: Result<(), ShellFault>) -> u8
     status
 }
 
-/// The whole program: reads a script, writes its answers, says on standard error what went wrong, if anything did,
-/// and gives the exit status.
+/// The whole program: reads a script, writes its answers, writes to standard error what went wrong, if anything did,
+/// and returns the exit status.
 fn answer_script<R: AllocGlobal + Eprint + Threads + Wait + Sync, S: Source, K: Sink>(
     rt: &R,
     source: &mut S,
@@ -50,15 +51,15 @@ fn answer_script<R: AllocGlobal + Eprint + Threads + Wait + Sync, S: Source, K: 
     ensures answered { exit_status result ≡ 0 → IsAnswered MAX_SCRIPT_BYTES (S.remaining source.old)
         (K.contents sink.old) (K.contents sink.new) }
 
-    // A read failed or the script is too long, and nothing is written; or a write failed behind a front of the answers.
+    // A read failed or the script is too long, and nothing is written; or a write failed after a prefix of the answers.
     ensures faulted { exit_status result ≡ 1 →
         IsUnread MAX_SCRIPT_BYTES (S.remaining source.old) (S.failures source.old) (S.failures source.new)
         (K.contents sink.old) (K.contents sink.new)
         ⊎ IsUnwritten (S.remaining source.old) (K.refusals sink.old) (K.refusals sink.new)
         (K.contents sink.old) (K.contents sink.new) }
 
-    // Memory was refused behind a front of the answers.
-    ensures starved { exit_status result ≡ 2 → IsFronted (S.remaining source.old) (K.contents sink.old)
+    // Memory ran out after a prefix of the answers.
+    ensures starved { exit_status result ≡ 2 → IsPrefixWritten (S.remaining source.old) (K.contents sink.old)
         (K.contents sink.new) }
 {
     let outcome = run(rt, source, sink);

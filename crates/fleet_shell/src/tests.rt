@@ -1,5 +1,5 @@
-//! How the program ends: readers and writers that fail or are slow, exit statuses, and words on standard error.
-//! Scripts with their answers are data of `worked_answers`.
+//! How the program ends: readers and writers that fail or are slow, exit statuses, and lines on standard error. Scripts
+//! with their answers are data of `worked_answers`.
 use super::*;
 use std::alloc::Global;
 use std::cell::Cell;
@@ -15,7 +15,7 @@ const SCRIPT: &[u8] = b"node a 1\nfrob\nput a /etc/systemd/system/x A\nfiles a\n
 const ANSWERS: &str =
     "ok\nerror: X1 UnknownCommand\nok 1.1\n/etc/systemd/system/x 1.1 file 1\nend\n";
 
-// The status that a fault has, and the words on standard error, also where nobody hears them.
+// The exit status for a fault and the line on standard error, also where standard error refuses it.
 fn end_of(alloc: Global, outcome: Result<(), ShellFault>, hears: bool) -> Result<String, Fail> {
     let line = Cell::new(None);
     let noted = Noted {
@@ -29,10 +29,11 @@ fn end_of(alloc: Global, outcome: Result<(), ShellFault>, hears: bool) -> Result
     Ok(format!(in alloc; "{status} {words}")?)
 }
 
-// How a run ends, in words: its exit status, what standard error is told, and what was written.
+// How a run ends, as text: its exit status, the line on standard error, and what was written.
 //
-// The runtime that hears standard error in a test starts no threads, so the two halves of the program are called here.
-fn told<R: AllocGlobal + Threads + Wait + Sync, S: Source>(
+// The runtime that captures standard error in a test starts no threads, so the two halves of the program are called
+// here.
+fn rendered<R: AllocGlobal + Threads + Wait + Sync, S: Source>(
     rt: &R,
     source: &mut S,
     mut writer: Watched<Narrow>,
@@ -44,7 +45,7 @@ fn told<R: AllocGlobal + Threads + Wait + Sync, S: Source>(
     Ok(words)
 }
 
-// A writer that takes so many bytes a write, and so many writes.
+// A writer that takes up to `width` bytes per write, for this many writes.
 fn narrow(alloc: Global, width: usize, writes_left: usize, takes_none: bool) -> Watched<Narrow> {
     let held = Vec::new(alloc);
     Watched::new(Narrow {
@@ -55,7 +56,7 @@ fn narrow(alloc: Global, width: usize, writes_left: usize, takes_none: bool) -> 
     })
 }
 
-// How a run ends whose reader gives a byte a read and fails behind so many reads.
+// How a run ends whose reader returns one byte per read and fails after this many reads.
 fn read_end<R: AllocGlobal + Threads + Wait + Sync>(
     rt: &R,
     interrupts: bool,
@@ -67,29 +68,29 @@ fn read_end<R: AllocGlobal + Threads + Wait + Sync>(
         is_interrupted: false,
         reads_left,
     });
-    told(rt, &mut source, narrow(rt.alloc(), 1_000, 1_000, false))
+    rendered(rt, &mut source, narrow(rt.alloc(), 1_000, 1_000, false))
 }
 
-// How a run ends whose writer takes a byte a write and fails, or takes none, behind so many writes.
+// How a run ends whose writer takes one byte per write and fails, or takes none, after this many writes.
 fn write_end<R: AllocGlobal + Threads + Wait + Sync>(
     rt: &R,
     takes_none: bool,
     writes_left: usize,
 ) -> Result<String, Fail> {
     let mut source = Watched::new(SCRIPT);
-    told(
+    rendered(
         rt,
         &mut source,
         narrow(rt.alloc(), 1, writes_left, takes_none),
     )
 }
 
-// How a run of that script ends that goes well.
+// How a successful run of that script ends.
 fn good_end(alloc: Global) -> Result<String, Fail> {
     Ok(format!(in alloc; "0 nothing: {ANSWERS}")?)
 }
 
-// Whether each run ends in a read fault whose reader fails at one of its first reads.
+// Whether every run ends in a read fault whose reader fails at one of its first reads.
 fn each_is_unread<R: AllocGlobal + Threads + Wait + Sync>(
     rt: &R,
     interrupts: bool,
@@ -104,7 +105,7 @@ fn each_is_unread<R: AllocGlobal + Threads + Wait + Sync>(
     Ok(true)
 }
 
-// A script is answered only once it is read to its end, which takes a read more than it has bytes.
+// A script is answered only once it is read to its end, which takes one read more than it has bytes.
 #[test]
 fn each_read_fails_in_turn(rt: HostRuntime) -> Result<(), Fail> {
     let reads = SCRIPT.len() + 1;
@@ -116,14 +117,14 @@ fn each_read_fails_in_turn(rt: HostRuntime) -> Result<(), Fail> {
     Ok(())
 }
 
-// Whether each run ends in a write fault behind the answers so far whose writer fails at one of its first writes.
+// Whether every run whose writer fails at one of its first writes ends in a write fault, after the answers so far.
 fn each_is_unwritten<R: AllocGlobal + Threads + Wait + Sync>(
     rt: &R,
     takes_none: bool,
 ) -> Result<bool, Fail> {
     for writes_left in 0..ANSWERS.len() {
-        let front = ANSWERS.get(..writes_left).unwrap_or(ANSWERS);
-        let bad = format!(in rt.alloc(); "1 fleet: write fault\n: {front}")?;
+        let prefix = ANSWERS.get(..writes_left).unwrap_or(ANSWERS);
+        let bad = format!(in rt.alloc(); "1 fleet: write fault\n: {prefix}")?;
         if write_end(rt, takes_none, writes_left)? != bad {
             return Ok(false);
         }
@@ -141,7 +142,7 @@ fn each_write_fails_in_turn(rt: HostRuntime) -> Result<(), Fail> {
     Ok(())
 }
 
-// How many bytes are written of the answers to 10,000 lines, of 1,000 bytes a write, before a write fails.
+// How many bytes of the answers to 10,000 lines are written, at 1,000 bytes per write, before a write fails.
 fn written_in_pieces<R: AllocGlobal + Threads + Wait + Sync>(
     rt: &R,
     writes_left: usize,
@@ -151,7 +152,7 @@ fn written_in_pieces<R: AllocGlobal + Threads + Wait + Sync>(
         script.extend_from_slice(b"frob\n")?;
     }
     let mut source = Watched::new(script.as_slice());
-    let words = told(
+    let words = rendered(
         rt,
         &mut source,
         narrow(rt.alloc(), 1_000, writes_left, false),

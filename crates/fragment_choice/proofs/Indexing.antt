@@ -1,48 +1,32 @@
 -- How the index of a store is made.
-use Rattle.std.proofs.Common.{◌≡◌, ℕ, suc, ◌<◌, Bool, true, false, cond, ◌==◌, Option, Some, None, List, [], ◌∷◌, ◌++◌, filter, refl, ap, sym, ◌∙◌, subst, arith, ◌⊎◌, inl, inr, eq-eqb, unwrap_or}
-use Rattle.std.specs.Option.{option_and_then}
-use Rattle.std.specs.Ordering.{is_eq}
-use Rattle.std.specs.BTreeMap.{BTreeMap, get, Updates, UpdatesBy, is_at}
+use Rattle.std.proofs.Common.{[], ◌++◌, ◌<◌, ◌==◌, ◌∙◌, ◌∷◌, ◌≡◌, ◌⊎◌, ap, arith, Bool, cond, eq-eqb, false, filter, inl, inr, List, None, Option, refl, Some, subst, suc, sym, true, unwrap_or, ℕ}
+use Rattle.std.proofs.lemmas.Bool.{and_from, eqb-false, eqb-true}
+use Rattle.std.proofs.lemmas.Option.{none-some, same_Some}
+use Rattle.std.specs.BTreeMap.{BTreeMap, get, is_at, Updates, UpdatesBy}
 use Rattle.std.specs.BTreeSet.{insert_key}
-use Rattle.std.specs.FinMap as finmap
-use Rattle.std.specs.Map.{lookup}
-use Rattle.std.proofs.lemmas.Option.{same_Some, none-some}
 use Rattle.std.specs.FinMap.Entries.{find}
 use Rattle.std.specs.Global.{Vec}
+use Rattle.std.specs.Map.{lookup}
+use Rattle.std.specs.Option.{option_and_then}
+use Rattle.std.specs.Ordering.{is_eq}
 use Rattle.std.specs.declared.cmp.Ordering.{Ordering}
-use Rattle.std.specs.declared.cmp.Ordering.TheVariants.{Less, Equal, Greater}
-use Rattle.std.proofs.lemmas.Bool.{and_from, eqb-true, eqb-false}
-use Rattle.load_path.specs.Paths.{PathParts, path_cmp}
-use Rattle.load_path.specs.PathLaws.{path_cmp-IsAntisymmetric}
-use Rattle.list_laws.specs.Insertions.{put_kept, put_there}
-use Rattle.list_laws.specs.Members.{IsAmong, IsAmong-append_cases, IsAmong-append_left, IsAmong-append_right}
-use Rattle.path_maps.specs.Folders.{is_in}
-use Rattle.edit_sums.specs.Entries.{Entry}
-use Rattle.edit_sums.specs.Sums.{shown}
-use Rattle.path_maps.specs.Views.{View, seen}
-use Rattle.unit_name.specs.Names.{Name, name_cmp, IsName}
-use Rattle.unit_name.specs.NameLaws.{name_cmp-IsAntisymmetric, name_eq-Decides}
-use Rattle.fragment_choice.specs.declared.choices.Choice.{Choice}
-use Rattle.fragment_choice.specs.declared.choices.Choice.TheVariants.{Alias}
-use Rattle.fragment_choice.specs.Choices.{own_path, own_choice}
-use Rattle.fragment_choice.specs.LinkedNames.{is_link, unit_of}
-use Rattle.fragment_choice.specs.LinkLaws.{ByLink, alias_same, own_link}
-use Rattle.load_places.specs.Levels.{IsLevel}
-use Rattle.fragment_choice.specs.Indexes.{AreOwnChoices, IsIndexOf, IsAny, IsOwnAt, IsOwnEntry, IsOwnLink, Collects, Puts, PutsSaid, owners_at, names_in}
+use Rattle.std.specs.declared.cmp.Ordering.TheVariants.{Equal, Greater, Less}
+use Rattle.fragment_choice.proofs.Prelude.{Alias, alias_same, AreOwnChoices, ByLink, Choice, Collects, Entry, HostViewMap, is_in, is_link, IsAmong, IsAmong-append_cases, IsAmong-append_left, IsAmong-append_right, IsAny, IsIndexOf, IsLevel, IsName, IsOwnAt, IsOwnEntry, IsOwnLink, Name, name_cmp, name_cmp-IsAntisymmetric, name_eq-Decides, names_in, own_choice, own_link, own_path, owners_at, path_cmp, path_cmp-IsAntisymmetric, PathParts, put_kept, put_there, Puts, PutsSaid, shown, unit_of, view}
 use Rattle.fragment_choice.proofs.Gathering.{read, unread}
+use Rattle.std.specs.FinMap as finmap
 
--- nothing passes
+-- No name passes.
 pub collects_none : (P : Name → Type 0) (old : List Name) → ((n : Name) → P n → ⊥) → Collects P old old
 collects_none P old none = record { kept = λ n h. h; found = λ n p. absurd (none n p) }
 
--- one that passes was put among them
+-- The one name that passes was added.
 pub collects_put : (P : Name → Type 0) (k : Name) (old new : List Name) → ((n : Name) → P n → k ≡ n) → new ≡ insert_key name_cmp old k → Collects P old new
 collects_put P k old new one e = record {
   kept = λ n h. subst (IsAmong n) (sym e) (put_kept name_cmp k old n h);
   found = λ n p. subst (λ x. IsAmong x new) (one n p) (subst (IsAmong k) (sym e) (put_there name_cmp name_cmp-IsAntisymmetric k old));
 }
 
--- one after the other
+-- Two collections, one after the other.
 pub collects_then : (P Q R : Name → Type 0) (old mid new : List Name) → Collects P old mid → Collects Q mid new → ((n : Name) → R n → P n ⊎ Q n) → Collects R old new
 collects_then P Q R old mid new g h split = record { kept = λ n a. h.kept n (g.kept n a); found = λ n r. by n (split n r) }
   where
@@ -50,53 +34,53 @@ collects_then P Q R old mid new g h split = record { kept = λ n a. h.kept n (g.
     by n (inl p) = h.kept n (g.found n p)
     by n (inr q) = h.found n q
 
--- a name that was read
+-- The bytes are a unit name.
 pub collects_name : (p : PathParts × Entry) (b k : Name) (old new : List Name) → b ≡ p.0.name → Some k ≡ unit_of b → new ≡ insert_key name_cmp old k → Collects (IsOwnEntry p) old new
 collects_name p b k old new q e f = collects_put (IsOwnEntry p) k old new (λ n o. (read b k e).1 ∙ q ∙ o.at) f
 
--- a name that is no unit name
+-- The bytes are no unit name.
 pub collects_unread : (p : PathParts × Entry) (b : Name) (old : List Name) → b ≡ p.0.name → None ≡ unit_of b → Collects (IsOwnEntry p) old old
 collects_unread p b old q e = collects_none (IsOwnEntry p) old (λ n o. unread b e (subst IsName (sym (q ∙ o.at)) o.name))
 
--- names were added: those that pass are there, or are among the entries that are left
+-- Names were added: each one that passes is there, or is among the entries that are left.
 pub record Collecting (Passes : Name → Type 0) (es : List (PathParts × Entry)) (old new : List Name) : Type 0 where
   pub kept : (n : Name) → IsAmong n old → IsAmong n new
   pub found : (n : Name) → Passes n → IsAmong n new ⊎ IsAny IsOwnEntry es n
 
--- a link that is found at a path of one component is one of the level's entries
+-- A link that is found at a path of one component is one of the level's entries.
 find_own : (level : ℕ) (q : PathParts) (es : List (PathParts × Entry)) (o : Option Entry) → find path_cmp q es ≡ o → is_link (option_and_then shown o) ≡ true → is_in level [] q ≡ true → IsName q.name → IsAny IsOwnEntry (filter (λ p. is_in level [] p.0) es) q.name
-find_own level q [] o e h i lawful = absurd (nothing o e h)
+find_own level q [] o e h i well_formed = absurd (nothing o e h)
   where
     nothing : (o : Option Entry) → None ≡ o → is_link (option_and_then shown o) ≡ true → ⊥
     nothing None e h = cc (h)
     nothing (Some x) e h = cc (e)
-find_own level q (p ∷ es) o e h i lawful = by (path_cmp q p.0) refl e (λ f. find_own level q es o f h i lawful)
+find_own level q (p ∷ es) o e h i well_formed = by (path_cmp q p.0) refl e (λ f. find_own level q es o f h i well_formed)
   where
     rest : List (PathParts × Entry)
     rest = filter (λ p. is_in level [] p.0) es
 
-    behind : (b : Bool) → IsAny IsOwnEntry rest q.name → IsAny IsOwnEntry (cond b (p ∷ rest) rest) q.name
-    behind true a = inr a
-    behind false a = a
+    after : (b : Bool) → IsAny IsOwnEntry rest q.name → IsAny IsOwnEntry (cond b (p ∷ rest) rest) q.name
+    after true a = inr a
+    after false a = a
 
     first : (b : Bool) → b ≡ true → IsOwnEntry p q.name → IsAny IsOwnEntry (cond b (p ∷ rest) rest) q.name
     first true g a = inl a
     first false g a = cc (g)
 
     by : (r : Ordering) → path_cmp q p.0 ≡ r → cond (is_eq r) (Some p.1) (find path_cmp q es) ≡ o → (find path_cmp q es ≡ o → IsAny IsOwnEntry rest q.name) → IsAny IsOwnEntry (cond (is_in level [] p.0) (p ∷ rest) rest) q.name
-    by Less c f more = behind (is_in level [] p.0) (more f)
+    by Less c f more = after (is_in level [] p.0) (more f)
     by Equal c f more =
         let same = path_cmp-IsAntisymmetric q p.0 c in
-        first (is_in level [] p.0) (sym (ap (is_in level []) same) ∙ i) (record { name = lawful; at = sym (ap (λ x. x.name) same); link = ap (λ x. is_link (option_and_then shown x)) f ∙ h })
-    by Greater c f more = behind (is_in level [] p.0) (more f)
+        first (is_in level [] p.0) (sym (ap (is_in level []) same) ∙ i) (record { name = well_formed; at = sym (ap (λ x. x.name) same); link = ap (λ x. is_link (option_and_then shown x)) f ∙ h })
+    by Greater c f more = after (is_in level [] p.0) (more f)
 
-pub starts_collecting : (s : View) (level : ℕ) (es : List (PathParts × Entry)) (old : List Name) → es ≡ filter (λ p. is_in level [] p.0) (finmap.entries (seen s)) → Collecting (IsOwnAt s level) es old old
+pub starts_collecting : (s : HostViewMap) (level : ℕ) (es : List (PathParts × Entry)) (old : List Name) → es ≡ filter (λ p. is_in level [] p.0) (finmap.entries (view s)) → Collecting (IsOwnAt s level) es old old
 starts_collecting s level es old e = record {
   kept = λ n h. h;
-  found = λ n o. inr (subst (λ x. IsAny IsOwnEntry x n) (sym e) (find_own level (own_path n level) (finmap.entries (seen s)) (finmap.get (seen s) (own_path n level)) (sym (finmap.get-entries (seen s) (own_path n level))) o.link (and_from _ _ (eq-eqb level level refl) refl) o.name));
+  found = λ n o. inr (subst (λ x. IsAny IsOwnEntry x n) (sym e) (find_own level (own_path n level) (finmap.entries (view s)) (finmap.get (view s) (own_path n level)) (sym (finmap.get-entries (view s) (own_path n level))) o.link (and_from _ _ (eq-eqb level level refl) refl) o.name));
 }
 
--- one entry more was passed
+-- One more entry was visited.
 pub collects_next : (P : Name → Type 0) (p : PathParts × Entry) (es rest : List (PathParts × Entry)) (old mid new : List Name) → es ≡ p ∷ rest → Collecting P es old mid → Collects (IsOwnEntry p) mid new → Collecting P rest old new
 collects_next P p es rest old mid new e g h = record {
   kept = λ n a. h.kept n (g.kept n a);
@@ -108,7 +92,7 @@ collects_next P p es rest old mid new e g h = record {
     by n (inr (inl o)) = inl (h.found n o)
     by n (inr (inr a)) = inr a
 
--- all were passed
+-- All entries were visited.
 pub collects_all : (P : Name → Type 0) (es : List (PathParts × Entry)) (old new : List Name) → es ≡ [] → Collecting P es old new → Collects P old new
 collects_all P es old new e g = record { kept = g.kept; found = λ n o. by n (subst (λ x. IsAmong n new ⊎ IsAny IsOwnEntry x n) e (g.found n o)) }
   where
@@ -116,11 +100,11 @@ collects_all P es old new e g = record { kept = g.kept; found = λ n o. by n (su
     by n (inl a) = a
     by n (inr a) = absurd a
 
--- links of the levels below
-abbrev pub IsOwnBelow : View → ℕ → Name → Type 0
+-- Links at the levels below `end`.
+abbrev pub IsOwnBelow : HostViewMap → ℕ → Name → Type 0
 IsOwnBelow s end n = (level : ℕ) × (level < end) × IsOwnAt s level n
 
-pub collects_level : (s : View) (level next : ℕ) (old mid new : List Name) → next ≡ suc level → Collects (IsOwnBelow s level) old mid → Collects (IsOwnAt s level) mid new → Collects (IsOwnBelow s next) old new
+pub collects_level : (s : HostViewMap) (level next : ℕ) (old mid new : List Name) → next ≡ suc level → Collects (IsOwnBelow s level) old mid → Collects (IsOwnAt s level) mid new → Collects (IsOwnBelow s next) old new
 collects_level s level next old mid new q g h = collects_then (IsOwnBelow s level) (IsOwnAt s level) (IsOwnBelow s next) old mid new g h (λ n l. by n l)
   where
     by : (n : Name) → IsOwnBelow s next n → IsOwnBelow s level n ⊎ IsOwnAt s level n
@@ -130,13 +114,13 @@ collects_level s level next old mid new q g h = collects_then (IsOwnBelow s leve
         less_or true e = inr (subst (λ x. IsOwnAt s x n) (eqb-true r level e) l)
         less_or false e = inl (r, (let differs = eqb-false r level e in omega arith), l)
 
-pub collects_levels : (s : View) (end : ℕ) (old new : List Name) → ((level : ℕ) → IsLevel level → level < end) → Collects (IsOwnBelow s end) old new → Collects (IsOwnLink s) old new
+pub collects_levels : (s : HostViewMap) (end : ℕ) (old new : List Name) → ((level : ℕ) → IsLevel level → level < end) → Collects (IsOwnBelow s end) old new → Collects (IsOwnLink s) old new
 collects_levels s end old new all g = record { kept = g.kept; found = λ n o. by n o }
   where
     by : (n : Name) → IsOwnLink s n → IsAmong n new
     by n (r, lt, o) = g.found n (r, all r lt, o)
 
--- a list taken out of a map, and put back with one name more
+-- A list is taken out of a map, and put back with one more name.
 pub puts : (o t : Name) (old mid new : BTreeMap Name (Vec Name)) (taken : Option (Vec Name)) (names : Vec Name)
     → taken ≡ get name_cmp old t → UpdatesBy name_cmp (name_cmp t) old mid None → names.items ≡ names_in taken ++ o ∷ [] → UpdatesBy name_cmp (name_cmp t) mid new (Some names) → Puts o t old new
 puts o t old mid new taken names e m f u = record {
@@ -154,8 +138,8 @@ puts o t old mid new taken names e m f u = record {
     by : (n k : Name) (b : Bool) → is_at (name_cmp t) k ≡ b → IsAmong n (owners_at old k) → IsAmong n (owners_at new k)
     by n k true q h =
         let same : t ≡ k = (name_eq-Decides t k).0 q in
-        let front : IsAmong n (names_in taken ++ o ∷ []) = IsAmong-append_left n (names_in taken) (o ∷ []) (subst (IsAmong n) (ap (owners_at old) (sym same) ∙ sym (ap names_in e)) h) in
-        subst (IsAmong n) (sym put ∙ ap (owners_at new) same) front
+        let prefix : IsAmong n (names_in taken ++ o ∷ []) = IsAmong-append_left n (names_in taken) (o ∷ []) (subst (IsAmong n) (ap (owners_at old) (sym same) ∙ sym (ap names_in e)) h) in
+        subst (IsAmong n) (sym put ∙ ap (owners_at new) same) prefix
     by n k false q h =
         subst (IsAmong n) (sym (ap names_in (past k q))) h
 
@@ -171,12 +155,12 @@ puts o t old mid new taken names e m f u = record {
         split (inr (inr a)) = absurd a
     back n k false q h = inl (subst (IsAmong n) (ap names_in (past k q)) h)
 
--- the names in a list, or none
+-- The names of an optional list; none if it is absent.
 pub names_or : (taken : Option (Vec Name)) (none : Vec Name) → none.items ≡ [] → (unwrap_or taken none).items ≡ names_in taken
 names_or None none e = e
 names_or (Some names) none e = refl
 
--- a name put under what was said
+-- A name is put under what its choice makes it an alias of.
 pub puts_said : (said : Option Choice) (o t : Name) (old new : BTreeMap Name (Vec Name)) → said ≡ Some (Alias t) → Puts o t old new → PutsSaid said o old new
 puts_said said o t old new e p = record {
   kept = p.kept;
@@ -188,26 +172,26 @@ puts_said said o t old new e p = record {
     by n k (inl a) = inl a
     by n k (inr (a, q)) = inr (a, e ∙ ap (λ x. Some (Alias x)) q)
 
--- the maps have what the own links of these names make them aliases of, and nothing else
-pub record AreIndexed (s : View) (names : List Name) (choices : BTreeMap Name (Option Choice)) (owners : BTreeMap Name (Vec Name)) : Type 0 where
+-- The maps have exactly what the own links of these names make them aliases of.
+pub record AreIndexed (s : HostViewMap) (names : List Name) (choices : BTreeMap Name (Option Choice)) (owners : BTreeMap Name (Vec Name)) : Type 0 where
   pub known : AreOwnChoices s choices
   pub there : (o t : Name) → IsAmong o names → own_choice s o o ≡ Some (Alias t) → IsAmong o (owners_at owners t)
   pub sound : (o t : Name) → IsAmong o (owners_at owners t) → own_choice s o o ≡ Some (Alias t)
-  pub lawful : (o t : Name) → IsAmong o (owners_at owners t) → IsName o
+  pub well_formed : (o t : Name) → IsAmong o (owners_at owners t) → IsName o
 
-pub none_indexed : (s : View) (choices : BTreeMap Name (Option Choice)) (owners : BTreeMap Name (Vec Name)) → choices.entries ≡ [] → owners.entries ≡ [] → AreIndexed s [] choices owners
+pub none_indexed : (s : HostViewMap) (choices : BTreeMap Name (Option Choice)) (owners : BTreeMap Name (Vec Name)) → choices.entries ≡ [] → owners.entries ≡ [] → AreIndexed s [] choices owners
 none_indexed s choices owners f e = record {
   known = record { each = λ o said h. absurd (none-some _ (sym (ap (λ es. lookup (is_at (name_cmp o)) es) f) ∙ h)) };
   there = λ o t h q. absurd h;
   sound = λ o t h. absurd (nothing o t h);
-  lawful = λ o t h. absurd (nothing o t h);
+  well_formed = λ o t h. absurd (nothing o t h);
 }
   where
     nothing : (o t : Name) → IsAmong o (owners_at owners t) → ⊥
     nothing o t h = subst (IsAmong o) (ap (λ es. names_in (lookup (is_at (name_cmp t)) es)) e) h
 
--- one choice more is known
-more_known : (s : View) (k : Name) (said : Option Choice) (old new : BTreeMap Name (Option Choice)) → said ≡ own_choice s k k → AreOwnChoices s old → Updates name_cmp old new k (Some said) → AreOwnChoices s new
+-- One more choice is known.
+more_known : (s : HostViewMap) (k : Name) (said : Option Choice) (old new : BTreeMap Name (Option Choice)) → said ≡ own_choice s k k → AreOwnChoices s old → Updates name_cmp old new k (Some said) → AreOwnChoices s new
 more_known s k said old new e g u = record { each = λ o x h. by o x (is_at (name_cmp k) o) refl (sym (u.0 o) ∙ h) }
   where
     by : (o : Name) (x : Option Choice) (b : Bool) → is_at (name_cmp k) o ≡ b → cond (is_at (name_cmp k) o) (Some said) (get name_cmp old o) ≡ Some x → x ≡ own_choice s o o
@@ -215,13 +199,13 @@ more_known s k said old new e g u = record { each = λ o x h. by o x (is_at (nam
         sym (same_Some _ _ (sym (ap (λ b. cond b (Some said) (get name_cmp old o)) q) ∙ h)) ∙ e ∙ ap (λ y. own_choice s y y) ((name_eq-Decides k o).0 q)
     by o x false q h = g.each o x (sym (ap (λ b. cond b (Some said) (get name_cmp old o)) q) ∙ h)
 
-pub more_indexed : (s : View) (names : List Name) (k : Name) (said : Option Choice) (choices kept : BTreeMap Name (Option Choice)) (old new : BTreeMap Name (Vec Name))
+pub more_indexed : (s : HostViewMap) (names : List Name) (k : Name) (said : Option Choice) (choices kept : BTreeMap Name (Option Choice)) (old new : BTreeMap Name (Vec Name))
     → said ≡ own_choice s k k → IsName k → AreIndexed s names choices old → PutsSaid said k old new → Updates name_cmp choices kept k (Some said) → AreIndexed s (names ++ k ∷ []) kept new
-more_indexed s names k said choices kept old new e lawful g p u = record {
+more_indexed s names k said choices kept old new e well_formed g p u = record {
   known = more_known s k said choices kept e g.known u;
   there = λ o t h q. by o t q (IsAmong-append_cases o names (k ∷ []) h);
   sound = λ o t h. back o t (p.sound o t h);
-  lawful = λ o t h. named o t (p.sound o t h);
+  well_formed = λ o t h. named o t (p.sound o t h);
 }
   where
     by : (o t : Name) → own_choice s o o ≡ Some (Alias t) → IsAmong o names ⊎ IsAmong o (k ∷ []) → IsAmong o (owners_at new t)
@@ -234,15 +218,15 @@ more_indexed s names k said choices kept old new e lawful g p u = record {
     back o t (inr (a, q)) = sym (ap (λ x. own_choice s x x) a) ∙ sym e ∙ q
 
     named : (o t : Name) → IsAmong o (owners_at old t) ⊎ ((k ≡ o) × (said ≡ Some (Alias t))) → IsName o
-    named o t (inl a) = g.lawful o t a
-    named o t (inr (a, q)) = subst IsName a lawful
+    named o t (inl a) = g.well_formed o t a
+    named o t (inr (a, q)) = subst IsName a well_formed
 
--- a name that its own links make an alias has a visible link
-pub all_indexed : (s : View) (names : List Name) (choices : BTreeMap Name (Option Choice)) (owners : BTreeMap Name (Vec Name)) → Collects (IsOwnLink s) [] names → AreIndexed s names choices owners → IsIndexOf s choices owners
+-- A name that its own links make an alias has a visible link.
+pub all_indexed : (s : HostViewMap) (names : List Name) (choices : BTreeMap Name (Option Choice)) (owners : BTreeMap Name (Vec Name)) → Collects (IsOwnLink s) [] names → AreIndexed s names choices owners → IsIndexOf s choices owners
 all_indexed s names choices owners g f = record {
   known = f.known;
-  each = λ t. record { there = λ o lawful e. by o t lawful e (own_link s o o t e); sound = λ o h. f.sound o t h; lawful = λ o h. f.lawful o t h };
+  each = λ t. record { there = λ o well_formed e. by o t well_formed e (own_link s o o t e); sound = λ o h. f.sound o t h; well_formed = λ o h. f.well_formed o t h };
 }
   where
     by : (o t : Name) → IsName o → own_choice s o o ≡ Some (Alias t) → ByLink s o o t → IsAmong o (owners_at owners t)
-    by o t lawful e l = f.there o t (g.found o (l.level, l.within, record { name = lawful; link = ap is_link l.there })) e
+    by o t well_formed e l = f.there o t (g.found o (l.level, l.within, record { name = well_formed; link = ap is_link l.there })) e

@@ -1,37 +1,22 @@
--- What leads a name to another: what its own links say, or what those of its template say of that.
-use Rattle.std.proofs.Common.{◌≡◌, ℕ, Bool, true, false, cond, Option, Some, None, List, [], ◌∷◌, refl, ap, sym, ◌∙◌, unwrap_or, ◌⊎◌, inl, inr}
+-- What makes a name an alias of another: its own links, or the links of its template.
+use Rattle.std.proofs.Common.{[], ◌∙◌, ◌∷◌, ◌≡◌, ◌⊎◌, ap, Bool, cond, false, inl, inr, List, None, Option, refl, Some, sym, true, unwrap_or, ℕ}
 use Rattle.std.specs.Option.{option_and_then, option_or}
-use Rattle.edit_sums.specs.declared.contents.Content.{Content}
-use Rattle.edit_sums.specs.declared.contents.Content.TheVariants.{Gone, Link, File}
-use Rattle.path_maps.specs.Views.{View, seen_at}
-use Rattle.unit_name.specs.declared.names.Shape.{Shape as UnitShape}
-use Rattle.unit_name.specs.declared.names.Shape.TheVariants.{Plain, Template, Instance}
-use Rattle.unit_name.specs.Names.{Name, IsName, is_name, kind, shape, instance}
-use Rattle.unit_name.specs.Forms.{template_of, with_instance}
-use Rattle.unit_name.specs.NameLaws.{instances_have_the_template, templates_keep_parts}
-use Rattle.list_laws.specs.FirstSaid.{first_said}
-use Rattle.load_places.specs.Levels.{levels}
-use Rattle.load_places.specs.Places.{PlaceParts}
-use Rattle.fragment_choice.specs.declared.choices.Choice.{Choice}
-use Rattle.fragment_choice.specs.declared.choices.Choice.TheVariants.{NotFound, Masked, Alias, Bad}
-use Rattle.fragment_choice.specs.declared.choices.Cause.TheVariants.{Kind, Shape, Target}
-use Rattle.fragment_choice.specs.Choices.{alias_of, content_says, is_bad_kind, is_null, is_self, last_component, link_says, own_choice, own_path, own_place, says, shapes_agree, target_says}
-use Rattle.fragment_choice.specs.Resolutions.{Leads}
-use Rattle.fragment_choice.specs.LinkLaws.{IsPassed, alias_said, has_template, passed, template_alias}
+use Rattle.fragment_choice.proofs.Prelude.{Alias, alias_of, alias_said, Bad, Choice, Content, content_says, File, first_said, Gone, has_template, HostViewMap, Instance, instance, instances_have_the_template, is_bad_kind, is_name, is_null, is_self, IsName, IsPassed, Kind, kind, last_component, Leads, levels, Link, link_says, Masked, Name, NotFound, own_choice, own_path, own_place, passed, PlaceParts, Plain, says, Shape, shape, shapes_agree, Target, target_says, Template, template_alias, template_of, templates_keep_parts, UnitShape, viewed_at, with_instance}
 
--- a template's links lead it to a template of m
-pub record LeadsTemplate (s : View) (o m : Name) : Type 0 where
+-- The links of a template make it an alias of a template of `m`.
+pub record LeadsTemplate (s : HostViewMap) (o m : Name) : Type 0 where
   pub target : Name
   pub own : own_choice s o o ≡ Some (Alias target)
   pub template : template_of m ≡ Some target
 
--- the same of one answer in place of the own choice
+-- The same for a given answer in place of the template's own choice.
 record SaysTemplate (c : Option Choice) (m : Name) : Type 0 where
   target : Name
   said : c ≡ Some (Alias target)
   template : template_of m ≡ Some target
 
--- what is passed over for one name is so for another, and what makes an alias of one makes one of the other
+-- A link that is ignored for one name is ignored for the other, and a link that makes one an alias makes the other an
+-- alias.
 both_pass : (a b c : Bool) (x y : Choice) → cond a None (cond b (Some (Bad Kind)) (cond c (Some x) (Some (Bad Shape)))) ≡ None → cond a None (cond b (Some (Bad Kind)) (cond c (Some y) (Some (Bad Shape)))) ≡ None
 both_pass true b c x y h = refl
 both_pass false true c x y h = cc (h)
@@ -44,14 +29,15 @@ both_alias false true c x y m h = cc (h)
 both_alias false false true x y m h = refl
 both_alias false false false x y m h = cc (h)
 
-module _ (n o : Name) (lawful : IsName n) (of : template_of n ≡ Some o) where
+module _ (n o : Name) (well_formed : IsName n) (of : template_of n ≡ Some o) where
   is_instance : shape n ≡ Instance
   is_instance = has_template (shape n) n o of
 
   is_template : shape o ≡ Template
-  is_template = (templates_keep_parts n o lawful of).2.shape_is
+  is_template = (templates_keep_parts n o well_formed of).2.shape_is
 
-  -- a link of the template that makes an alias of the instance leads to a template, and makes that an alias of the template
+  -- A link of the template that makes the instance an alias points to a template, and makes the instance's template an
+  -- alias of it.
   target_leads : (t m : Name) → IsName t → target_says n o t ≡ Some (Alias m) → SaysTemplate (target_says o o t) m
   target_leads t m good h = by (shape t) refl agree alias
     where
@@ -116,34 +102,34 @@ module _ (n o : Name) (lawful : IsName n) (of : template_of n ≡ Some o) where
   visible_leads p None m h = cc (h)
   visible_leads p (Some c) m h = content_leads p c m h
 
-  along : (s : View) (m : Name) (rs : List ℕ) → first_said (says s n o) rs ≡ Some (Alias m) → SaysTemplate (first_said (says s o o) rs) m
+  along : (s : HostViewMap) (m : Name) (rs : List ℕ) → first_said (says s n o) rs ≡ Some (Alias m) → SaysTemplate (first_said (says s o o) rs) m
   along s m [] h = cc (h)
   along s m (r ∷ rs) h = by (says s n o r) refl (along s m rs) h
     where
       by : (x : Option Choice) → says s n o r ≡ x → (first_said (says s n o) rs ≡ Some (Alias m) → SaysTemplate (first_said (says s o o) rs) m) → option_or x (first_said (says s n o) rs) ≡ Some (Alias m) → SaysTemplate (first_said (says s o o) (r ∷ rs)) m
       by None e more k =
-          let behind = more k in
-          record { target = behind.target; said = ap (λ x. option_or x (first_said (says s o o) rs)) (visible_passes (own_place s o r) (seen_at s (own_path o r)) e) ∙ behind.said; template = behind.template }
+          let after = more k in
+          record { target = after.target; said = ap (λ x. option_or x (first_said (says s o o) rs)) (visible_passes (own_place s o r) (viewed_at s (own_path o r)) e) ∙ after.said; template = after.template }
       by (Some c) e more k =
-          let at = visible_leads (own_place s o r) (seen_at s (own_path o r)) m (e ∙ k) in
+          let at = visible_leads (own_place s o r) (viewed_at s (own_path o r)) m (e ∙ k) in
           record { target = at.target; said = ap (λ x. option_or x (first_said (says s o o) rs)) at.said; template = at.template }
 
-  pub template_leads : (s : View) (m : Name) → own_choice s n o ≡ Some (Alias m) → LeadsTemplate s o m
+  pub template_leads : (s : HostViewMap) (m : Name) → own_choice s n o ≡ Some (Alias m) → LeadsTemplate s o m
   template_leads s m h =
       let w = along s m levels h in
       record { target = w.target; own = w.said; template = w.template }
 
--- a name's own links lead it
-pub own_leads : (s : View) (n m : Name) → own_choice s n n ≡ Some (Alias m) → Leads s n m
+-- A name's own links make it an alias.
+pub own_leads : (s : HostViewMap) (n m : Name) → own_choice s n n ≡ Some (Alias m) → Leads s n m
 own_leads s n m h = ap (λ c. unwrap_or (option_or c (option_and_then (own_choice s n) (template_of n))) NotFound) h
 
--- what leads n to m
-pub leads_by : (s : View) (n m : Name) → IsName n → Leads s n m → (own_choice s n n ≡ Some (Alias m)) ⊎ ((o : Name) × (template_of n ≡ Some o) × LeadsTemplate s o m)
-leads_by s n m lawful h = by_own (own_choice s n n) refl h
+-- What makes `n` an alias of `m`.
+pub leads_by : (s : HostViewMap) (n m : Name) → IsName n → Leads s n m → (own_choice s n n ≡ Some (Alias m)) ⊎ ((o : Name) × (template_of n ≡ Some o) × LeadsTemplate s o m)
+leads_by s n m well_formed h = by_own (own_choice s n n) refl h
   where
     by_template : (t : Option Name) → template_of n ≡ t → unwrap_or (option_and_then (own_choice s n) t) NotFound ≡ Alias m → (own_choice s n n ≡ Some (Alias m)) ⊎ ((o : Name) × (template_of n ≡ Some o) × LeadsTemplate s o m)
     by_template None e k = cc (k)
-    by_template (Some o) e k = inr (o, e, template_leads n o lawful e s m (alias_said (own_choice s n o) m k))
+    by_template (Some o) e k = inr (o, e, template_leads n o well_formed e s m (alias_said (own_choice s n o) m k))
 
     by_own : (c : Option Choice) → own_choice s n n ≡ c → unwrap_or (option_or c (option_and_then (own_choice s n) (template_of n))) NotFound ≡ Alias m → (own_choice s n n ≡ Some (Alias m)) ⊎ ((o : Name) × (template_of n ≡ Some o) × LeadsTemplate s o m)
     by_own None e k = by_template (template_of n) refl k

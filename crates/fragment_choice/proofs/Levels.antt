@@ -1,32 +1,13 @@
--- The names of a unit, level by level: those that so many aliases lead to it.
-use Rattle.std.proofs.Common.{◌≡◌, ◌≢◌, ℕ, zero, suc, ◌<◌, ◌≤◌, Bool, true, false, Some, None, List, [], ◌∷◌, ◌++◌, take, get_or, length, refl, ap, sym, ◌∙◌, subst, arith, ◌⊎◌, inl, inr}
-use Rattle.std.specs.Prelude.{◌↔◌, IsTrue}
-use Rattle.std.specs.BTreeSet.{insert_key}
-use Rattle.std.specs.List.Sorted.{IsStrictlySortedBy}
+-- The names of a unit, level by level: level `d` has the names from which `d` aliases lead to the unit.
+use Rattle.std.proofs.Common.{[], ◌++◌, ◌<◌, ◌↔◌, ◌∙◌, ◌∷◌, ◌≡◌, ◌≢◌, ◌≤◌, ◌⊎◌, ap, arith, Bool, false, get_or, inl, inr, IsTrue, length, List, None, refl, Some, subst, suc, sym, take, true, zero, ℕ}
 use Rattle.std.proofs.lemmas.List.{take_all}
-use Rattle.std.proofs.lemmas.Option.{same_Some, none-some}
-use Rattle.list_laws.specs.Insertions.{put_kept, put_sound, put_there}
-use Rattle.list_laws.specs.Members.{IsAmong, IsAmong-append_cases, IsAmong-append_left, IsAmong-append_right}
-use Rattle.path_maps.specs.Views.{View}
-use Rattle.unit_name.specs.Names.{Name, name_cmp, IsName, instance}
-use Rattle.unit_name.specs.Forms.{template_of, with_instance}
-use Rattle.unit_name.specs.NameLaws.{instances_have_the_template, name_cmp-IsAntisymmetric, name_eq-Decides, templates_keep_parts}
-use Rattle.fragment_choice.specs.declared.choices.Choice.{Choice}
-use Rattle.fragment_choice.specs.declared.choices.Choice.TheVariants.{NotFound, Masked, Fragment, Alias, Bad}
-use Rattle.fragment_choice.specs.declared.resolutions.Resolution.{Resolution}
-use Rattle.fragment_choice.specs.Choices.{choice, is_same, own_choice}
-use Rattle.fragment_choice.specs.Resolutions.{Chain, IsEnd, Leads, Resolves, resolution}
-use Rattle.fragment_choice.specs.Resolutions.Chain.{here, step}
-use Rattle.fragment_choice.specs.Resolutions.Resolves.{ends_at, goes_on}
-use Rattle.fragment_choice.specs.ResolutionLaws.{following_finds_the_end, resolution_resolves}
-use Rattle.fragment_choice.specs.LikenessLaws.{aliases_are_alike}
-use Rattle.fragment_choice.specs.LinkLaws.{alias_same}
-use Rattle.fragment_choice.specs.UnitNames.{IsOtherName, AreNames}
-use Rattle.fragment_choice.specs.Indexes.{Adds, AreBehind, AreOwners, Gathers, IsAny, IsLeadingInstance, IsLeadingInstanceOfAny, LeadsToAny, is_alias}
-use Rattle.fragment_choice.proofs.Gathering.{gathers_all, gathers_none, gathers_of, gathers_put, gathers_then, linked_instance}
-use Rattle.fragment_choice.proofs.Leads.{LeadsTemplate, leads_by, own_leads}
+use Rattle.std.proofs.lemmas.Option.{none-some, same_Some}
+use Rattle.std.specs.BTreeSet.{insert_key}
+use Rattle.fragment_choice.proofs.Prelude.{Adds, Alias, alias_same, aliases_are_alike, AreAliasesWithin, AreNames, AreOwners, Bad, Chain, Choice, choice, ends_at, following_finds_the_end, Fragment, Gathers, goes_on, here, HostViewMap, instance, instances_have_the_template, is_alias, is_same, IsAmong, IsAmong-append_cases, IsAmong-append_left, IsAmong-append_right, IsAny, IsEnd, IsLeadingInstance, IsLeadingInstanceOfAny, IsName, IsOtherName, Leads, LeadsToAny, Masked, Name, name_cmp, name_cmp-IsAntisymmetric, name_eq-Decides, NotFound, own_choice, put_kept, put_sound, put_there, Resolution, resolution, resolution_resolves, Resolves, step, template_of, templates_keep_parts, with_instance}
+use Rattle.fragment_choice.proofs.{Gathering.gathers_all, Gathering.gathers_none, Gathering.gathers_of, Gathering.gathers_put, Gathering.gathers_then, Gathering.linked_instance, Leads.leads_by, Leads.LeadsTemplate, Leads.own_leads}
+use Rattle.std.specs.List.Sorted.{IsStrictlySortedBy}
 
--- one more of a list
+-- One more item of a list.
 pub any_next : {A : Type 0} (R : A → Name → Type 0) (xs : List A) (i : ℕ) (d : A) (n : Name) → i < length xs → IsAny R (take (suc i) xs) n → IsAny R (take i xs) n ⊎ R (get_or xs i d) n
 any_next R [] i d n lt h = absurd (omega arith)
 any_next R (x ∷ xs) zero d n lt (inl a) = inr a
@@ -38,19 +19,19 @@ any_next {A = A} R (x ∷ xs) (suc i) d n lt (inr a) = by (any_next R xs i d n (
     by (inl b) = inl (inr b)
     by (inr b) = inr b
 
--- one that is among them
+-- An item that is among them.
 pub any_there : (R : Name → Name → Type 0) (ms : List Name) (m n : Name) → IsAmong m ms → R m n → IsAny R ms n
 any_there R [] m n h r = absurd h
 any_there R (x ∷ ms) m n (inl e) r = inl (subst (λ y. R y n) (sym e) r)
 any_there R (x ∷ ms) m n (inr h) r = inr (any_there R ms m n h r)
 
--- one that has the name
+-- An item that relates to the name.
 pub any_from : (R : Name → Name → Type 0) (ms : List Name) (n : Name) → IsAny R ms n → (m : Name) × IsAmong m ms × R m n
 any_from R [] n h = absurd h
 any_from R (x ∷ ms) n (inl r) = (x, inl refl, r)
 any_from R (x ∷ ms) n (inr h) = let w = any_from R ms n h in (w.0, inr w.1, w.2)
 
--- the first of them, and one more, are the first of one more
+-- The first `i` items and the next one are the first `i + 1` items.
 next_any : {A : Type 0} (R : A → Name → Type 0) (xs : List A) (i : ℕ) (d : A) (n : Name) → i < length xs → IsAny R (take i xs) n ⊎ R (get_or xs i d) n → IsAny R (take (suc i) xs) n
 next_any R [] i d n lt h = absurd (omega arith)
 next_any R (x ∷ xs) zero d n lt (inl a) = absurd a
@@ -59,7 +40,7 @@ next_any {A = A} R (x ∷ xs) (suc i) d n lt (inl (inl a)) = inl a
 next_any {A = A} R (x ∷ xs) (suc i) d n lt (inl (inr a)) = inr (next_any R xs i d n (omega arith) (inl a))
 next_any {A = A} R (x ∷ xs) (suc i) d n lt (inr a) = inr (next_any R xs i d n (omega arith) (inr a))
 
--- a loop over names: one more was passed, and all were
+-- A loop over names: one more was visited, and all were visited.
 pub gathers_more : (R : Name → Name → Type 0) (ms : List Name) (i next : ℕ) (d x : Name) (old mid new : List Name) → i < length ms → next ≡ suc i → x ≡ get_or ms i d
     → Gathers (IsAny R (take i ms)) old mid → Gathers (R x) mid new → Gathers (IsAny R (take next ms)) old new
 gathers_more R ms i next d x old mid new lt e f g h =
@@ -77,51 +58,52 @@ gathers_more R ms i next d x old mid new lt e f g h =
 pub gathers_each : (R : Name → Name → Type 0) (ms : List Name) (i : ℕ) (old new : List Name) → length ms ≤ i → Gathers (IsAny R (take i ms)) old new → Gathers (IsAny R ms) old new
 gathers_each R ms i old new le g = subst (λ (xs : List Name). Gathers (IsAny R xs) old new) (take_all i ms le) g
 
-module _ (s : View) (m : Name) where
-  -- what leads to a name without a template is among those whose own links do
-  pub behind_name : (owners old new : List Name) → AreOwners s m owners → template_of m ≡ None → Adds owners old new → Gathers (λ n. Leads s n m) old new
-  behind_name owners old new own e g =
-      gathers_of (λ n. IsAmong n owners) (λ n. Leads s n m) old new (gathers_all owners old new own.lawful g) (λ n lawful l. by n lawful (leads_by s n m lawful l)) (λ n _ a. own_leads s n m (own.sound n a))
+module _ (s : HostViewMap) (m : Name) where
+  -- The aliases of a name without a template are the names whose own links point to it.
+  pub after_name : (owners old new : List Name) → AreOwners s m owners → template_of m ≡ None → Adds owners old new → Gathers (λ n. Leads s n m) old new
+  after_name owners old new own e g =
+      gathers_of (λ n. IsAmong n owners) (λ n. Leads s n m) old new (gathers_all owners old new own.well_formed g) (λ n well_formed l. by n well_formed (leads_by s n m well_formed l)) (λ n _ a. own_leads s n m (own.sound n a))
     where
       by : (n : Name) → IsName n → (own_choice s n n ≡ Some (Alias m)) ⊎ ((o : Name) × (template_of n ≡ Some o) × LeadsTemplate s o m) → IsAmong n owners
-      by n lawful (inl said) = own.there n lawful said
-      by n lawful (inr (o, of, l)) = absurd (none-some _ (sym e ∙ l.template))
+      by n well_formed (inl said) = own.there n well_formed said
+      by n well_formed (inr (o, of, l)) = absurd (none-some _ (sym e ∙ l.template))
 
-  -- what leads to an instance is among these, or an instance of a template whose own links lead to its template
-  pub behind_instance : (o : Name) (owners templates old mid new : List Name) → AreOwners s m owners → AreOwners s o templates → template_of m ≡ Some o
+  -- An alias of an instance is one of these names, or an instance of a template whose own links point to the instance's
+  -- template.
+  pub after_instance : (o : Name) (owners templates old mid new : List Name) → AreOwners s m owners → AreOwners s o templates → template_of m ≡ Some o
       → Adds owners old mid → Gathers (IsLeadingInstanceOfAny s m templates) mid new → Gathers (λ n. Leads s n m) old new
-  behind_instance o owners templates old mid new own of_template e g h =
-      gathers_then (λ n. IsAmong n owners) (IsLeadingInstanceOfAny s m templates) (λ n. Leads s n m) old mid new (gathers_all owners old mid own.lawful g) h
-      (λ n lawful l. there n lawful l (leads_by s n m lawful l)) (λ n _ l. back n l)
+  after_instance o owners templates old mid new own of_template e g h =
+      gathers_then (λ n. IsAmong n owners) (IsLeadingInstanceOfAny s m templates) (λ n. Leads s n m) old mid new (gathers_all owners old mid own.well_formed g) h
+      (λ n well_formed l. there n well_formed l (leads_by s n m well_formed l)) (λ n _ l. back n l)
     where
       there : (n : Name) → IsName n → Leads s n m → (own_choice s n n ≡ Some (Alias m)) ⊎ ((p : Name) × (template_of n ≡ Some p) × LeadsTemplate s p m) → IsAmong n owners ⊎ IsLeadingInstanceOfAny s m templates n
       there n good leads (inl said) = inl (own.there n good said)
       there n good leads (inr (p, of, l)) =
-          let lawful : IsName p = (templates_keep_parts n p good of).2.name in
+          let well_formed : IsName p = (templates_keep_parts n p good of).2.name in
           let same : l.target ≡ o = same_Some _ _ (sym l.template ∙ e) in
-          let among : IsAmong p templates = of_template.there p lawful (l.own ∙ ap (λ x. Some (Alias x)) same) in
-          inr (any_there (IsLeadingInstance s m) templates p n among (record { made = linked_instance s p n m lawful good of leads; leads = leads }))
+          let among : IsAmong p templates = of_template.there p well_formed (l.own ∙ ap (λ x. Some (Alias x)) same) in
+          inr (any_there (IsLeadingInstance s m) templates p n among (record { made = linked_instance s p n m well_formed good of leads; leads = leads }))
 
       back : (n : Name) → IsAmong n owners ⊎ IsLeadingInstanceOfAny s m templates n → Leads s n m
       back n (inl a) = own_leads s n m (own.sound n a)
       back n (inr a) = let w = any_from (IsLeadingInstance s m) templates n a in w.2.leads
 
-  -- a template's name with the instance of m, where it is an alias of m
+  -- A template with the instance of `m`, if it is an alias of `m`.
   pub gathers_instance : (t k : Name) (old new : List Name) → IsName t → Some k ≡ with_instance t (instance m) → Leads s k m → new ≡ insert_key name_cmp old k → Gathers (IsLeadingInstance s m t) old new
-  gathers_instance t k old new lawful e l put =
-      gathers_put (IsLeadingInstance s m t) k old new ((instances_have_the_template t (instance m) k lawful).0 (sym e)).0 (record { made = sym e; leads = l }) (λ n p. same_Some _ _ (e ∙ p.made)) put
+  gathers_instance t k old new well_formed e l put =
+      gathers_put (IsLeadingInstance s m t) k old new ((instances_have_the_template t (instance m) k well_formed).0 (sym e)).0 (record { made = sym e; leads = l }) (λ n p. same_Some _ _ (e ∙ p.made)) put
 
   pub leads_elsewhere : (t k : Name) (old : List Name) → Some k ≡ with_instance t (instance m) → (Leads s k m → ⊥) → Gathers (IsLeadingInstance s m t) old old
   leads_elsewhere t k old e other = gathers_none (IsLeadingInstance s m t) old (λ n p. other (subst (λ x. Leads s x m) (sym (same_Some _ _ (e ∙ p.made))) p.leads))
 
-  -- an alias of a is one of m just where these are the same
+  -- An alias of `a` is an alias of `m` exactly if `a` and `m` are the same.
   pub leads_if : (n a : Name) (b : Bool) → b ≡ is_same a m → Alias a ≡ choice s n → IsTrue b ↔ Leads s n m
   leads_if n a b e is = (λ h. sym is ∙ ap (λ x. Alias x) ((name_eq-Decides a m).0 (sym e ∙ h)), λ l. e ∙ (name_eq-Decides a m).1 (alias_same a m (is ∙ l)))
 
-no_step : (s : View) (n u : Name) → Chain s 0 n u → n ≡ u
+no_step : (s : HostViewMap) (n u : Name) → Chain s 0 n u → n ≡ u
 no_step s n u (here _) = refl
 
--- where no alias stands, there is none
+-- A choice that is no alias is an end.
 pub no_alias_ends : (c : Choice) → is_alias c ≡ false → IsEnd c
 no_alias_ends NotFound h = tt
 no_alias_ends Masked h = tt
@@ -136,8 +118,8 @@ alias_ends_not (Fragment p) h e = cc (h)
 alias_ends_not (Alias m) h e = absurd e
 alias_ends_not (Bad x) h e = cc (h)
 
-module _ (s : View) (u : Name) where
-  -- the unit, where no alias stands, is the end of the chains of its other names
+module _ (s : HostViewMap) (u : Name) where
+  -- A unit that is no alias is the end of the chains of its other names.
   record EndsHere (n : Name) : Type 0 where
     long : ℕ
     some : 0 < long
@@ -156,7 +138,7 @@ module _ (s : View) (u : Name) where
       by r (ends_at d v le c e) q = first d le (subst (Chain s d n) q c) (subst (λ x. IsEnd (choice s x)) q e)
       by r (goes_on v c) q = absurd (k.other q)
 
-  -- an alias is no end
+  -- An alias is no end.
   leads_no_end : (n m v : Name) → Leads s n m → n ≡ v → IsEnd (choice s v) → ⊥
   leads_no_end n m v l q e = subst IsEnd (sym (ap (choice s) q) ∙ l) e
 
@@ -164,40 +146,40 @@ module _ (s : View) (u : Name) where
   first_leads n d some (here _) e q = absurd (omega arith)
   first_leads n d some (step _ m _ k l rest) e q = leads_no_end n m u l q e
 
-  -- a name with a chain to the unit, where no alias stands, is another of its names
+  -- A name with a chain to a unit that is no alias is another of the unit's names.
   other_by : (n : Name) (d : ℕ) → 0 < d → d ≤ 8 → IsName n → Chain s d n u → IsEnd (choice s u) → IsOtherName s u n
-  other_by n d some le lawful c e = record {
+  other_by n d some le well_formed c e = record {
     other = first_leads n d some c e;
-    name = lawful;
+    name = well_formed;
     main_is = ap (λ r. r.main) ((following_finds_the_end s n (record { main = u; choice = choice s u })).0 (ends_at d u le c e));
   }
 
-  -- just the unit names, and maybe the unit, that so many aliases lead to the unit
+  -- Exactly the names, perhaps the unit itself too, from which `d` aliases lead to the unit.
   pub record IsLevel (d : ℕ) (level : List Name) : Type 0 where
     pub sound : (n : Name) → IsAmong n level → Chain s d n u
     pub there : (n : Name) → IsName n → Chain s d n u → IsAmong n level
 
-  -- at first the unit alone, and no others
+  -- Level 0 has only the unit.
   pub first_level : (level : List Name) → level ≡ u ∷ [] → IsLevel 0 level
-  first_level level e = record { sound = λ n h. by n (subst (IsAmong n) e h); there = λ n lawful c. subst (IsAmong n) (sym e) (inl (sym (no_step s n u c))) }
+  first_level level e = record { sound = λ n h. by n (subst (IsAmong n) e h); there = λ n well_formed c. subst (IsAmong n) (sym e) (inl (sym (no_step s n u c))) }
     where
       by : (n : Name) → IsAmong n (u ∷ []) → Chain s 0 n u
       by n (inl q) = subst (λ x. Chain s 0 x u) q (here u)
       by n (inr a) = absurd a
 
-  pub none_behind : (others : List Name) → others ≡ [] → AreBehind s u 0 others
-  none_behind others e = record {
-    lawful = λ n h. absurd (subst (IsAmong n) e h);
+  pub none_after : (others : List Name) → others ≡ [] → AreAliasesWithin s u 0 others
+  none_after others e = record {
+    well_formed = λ n h. absurd (subst (IsAmong n) e h);
     sound = λ n h. absurd (subst (IsAmong n) e h);
-    found = λ n k some le lawful c. absurd (omega arith);
+    found = λ n k some le well_formed c. absurd (omega arith);
   }
 
-  -- one level more
+  -- The next level.
   pub next_level : (d e : ℕ) (level next : List Name) → e ≡ suc d → IsLevel d level → Gathers (LeadsToAny s level) [] next → IsLevel e next
-  next_level d e level next q h g = record { sound = λ n a. back n (g.sound n a); there = λ n lawful c. by n lawful (subst (λ x. Chain s x n u) q c) }
+  next_level d e level next q h g = record { sound = λ n a. back n (g.sound n a); there = λ n well_formed c. by n well_formed (subst (λ x. Chain s x n u) q c) }
     where
       by : (n : Name) → IsName n → Chain s (suc d) n u → IsAmong n next
-      by n lawful (step _ m _ _ l rest) = g.found n lawful (any_there (λ x k. Leads s k x) level m n (h.there m (aliases_are_alike s n m lawful l).name rest) l)
+      by n well_formed (step _ m _ _ l rest) = g.found n well_formed (any_there (λ x k. Leads s k x) level m n (h.there m (aliases_are_alike s n m well_formed l).name rest) l)
 
       back : (n : Name) → IsAmong n [] ⊎ (IsName n × LeadsToAny s level n) → Chain s e n u
       back n (inl a) = absurd a
@@ -205,45 +187,45 @@ module _ (s : View) (u : Name) where
           let w = any_from (λ x k. Leads s k x) level n a.1 in
           subst (λ x. Chain s x n u) (sym q) (step n w.0 u d w.2 (h.sound w.0 w.1))
 
-  pub more_behind : (d e : ℕ) (level next old new : List Name) → e ≡ suc d → Gathers (LeadsToAny s level) [] next → IsLevel e next → Adds next old new → AreBehind s u d old → AreBehind s u e new
-  more_behind d e level next old new q g h add f = record {
-    lawful = λ n a. lawful_by n (add.sound n a);
+  pub more_after : (d e : ℕ) (level next old new : List Name) → e ≡ suc d → Gathers (LeadsToAny s level) [] next → IsLevel e next → Adds next old new → AreAliasesWithin s u d old → AreAliasesWithin s u e new
+  more_after d e level next old new q g h add f = record {
+    well_formed = λ n a. valid_by n (add.sound n a);
     sound = λ n a. sound_by n (add.sound n a);
-    found = λ n k some le lawful c. found_by n k some le lawful c;
+    found = λ n k some le well_formed c. found_by n k some le well_formed c;
   }
     where
       gathered : (n : Name) → IsAmong n [] ⊎ (IsName n × LeadsToAny s level n) → IsName n
       gathered n (inl a) = absurd a
       gathered n (inr a) = a.0
 
-      lawful_by : (n : Name) → IsAmong n old ⊎ IsAmong n next → IsName n
-      lawful_by n (inl a) = f.lawful n a
-      lawful_by n (inr a) = gathered n (g.sound n a)
+      valid_by : (n : Name) → IsAmong n old ⊎ IsAmong n next → IsName n
+      valid_by n (inl a) = f.well_formed n a
+      valid_by n (inr a) = gathered n (g.sound n a)
 
       sound_by : (n : Name) → IsAmong n old ⊎ IsAmong n next → (k : ℕ) × (0 < k) × (k ≤ e) × Chain s k n u
       sound_by n (inl a) = let w = f.sound n a in (w.0, w.1, (let le = w.2 in omega arith), w.3)
       sound_by n (inr a) = (e, omega arith, omega arith, h.sound n a)
 
       found_by : (n : Name) (k : ℕ) → 0 < k → k ≤ e → IsName n → Chain s k n u → IsAmong n new
-      found_by n k some le lawful c = first_of_two (at_most k d e le q)
+      found_by n k some le well_formed c = first_of_two (at_most k d e le q)
         where
           at_most : (k d e : ℕ) → k ≤ e → e ≡ suc d → (k ≤ d) ⊎ (k ≡ e)
           at_most k d e le q = grind arith
 
           first_of_two : (k ≤ d) ⊎ (k ≡ e) → IsAmong n new
-          first_of_two (inl below) = add.kept n (f.found n k some below lawful c)
-          first_of_two (inr same) = add.there n (h.there n lawful (subst (λ x. Chain s x n u) same c))
+          first_of_two (inl below) = add.kept n (f.found n k some below well_formed c)
+          first_of_two (inr same) = add.there n (h.there n well_formed (subst (λ x. Chain s x n u) same c))
 
-  pub all_behind : (d : ℕ) (others : List Name) → 8 ≤ d → d ≤ 8 → AreBehind s u d others → AreBehind s u 8 others
-  all_behind d others le ge f = subst (λ (x : ℕ). AreBehind s u x others) (omega arith) f
+  pub all_after : (d : ℕ) (others : List Name) → 8 ≤ d → d ≤ 8 → AreAliasesWithin s u d others → AreAliasesWithin s u 8 others
+  all_after d others le ge f = subst (λ (x : ℕ). AreAliasesWithin s u x others) (omega arith) f
 
-  -- where no alias stands at the unit, all that eight aliases at most lead to it are its other names
-  pub all_names : (names others : List Name) → AreBehind s u 8 others → is_alias (choice s u) ≡ false → names ≡ u ∷ others → IsStrictlySortedBy name_cmp others → AreNames s u names
-  all_names names others f none e rising = record {
+  -- If the unit is no alias, all names from which at most eight aliases lead to it are its other names.
+  pub all_names : (names others : List Name) → AreAliasesWithin s u 8 others → is_alias (choice s u) ≡ false → names ≡ u ∷ others → IsStrictlySortedBy name_cmp others → AreNames s u names
+  all_names names others f none e ascending = record {
     others = others;
     first = e;
-    rising = rising;
-    exact = λ n. (λ a. let w = f.sound n a in other_by n w.0 w.1 w.2 (f.lawful n a) w.3 (no_alias_ends (choice s u) none), λ k. by n k (ends_here n k));
+    ascending = ascending;
+    exact = λ n. (λ a. let w = f.sound n a in other_by n w.0 w.1 w.2 (f.well_formed n a) w.3 (no_alias_ends (choice s u) none), λ k. by n k (ends_here n k));
   }
     where
       by : (n : Name) → IsOtherName s u n → EndsHere n → IsAmong n others
@@ -251,10 +233,10 @@ module _ (s : View) (u : Name) where
 
   lone : (names : List Name) → ((n : Name) → IsOtherName s u n → ⊥) → names ≡ u ∷ [] → AreNames s u names
   unfolding IsStrictlySortedBy
-  lone names none e = record { others = []; first = e; rising = tt; exact = λ n. (λ a. absurd a, λ k. none n k) }
+  lone names none e = record { others = []; first = e; ascending = tt; exact = λ n. (λ a. absurd a, λ k. none n k) }
 
-  -- where nothing leads to the unit it has no other name
-  pub unled : (names others : List Name) → AreBehind s u 8 others → length others ≡ 0 → names ≡ u ∷ [] → AreNames s u names
+  -- A unit without aliases has no other name.
+  pub unled : (names others : List Name) → AreAliasesWithin s u 8 others → length others ≡ 0 → names ≡ u ∷ [] → AreNames s u names
   unled names others f none e = lone names (λ n k. by n k (ends_here n k)) e
     where
       nothing : (xs : List Name) (n : Name) → length xs ≡ 0 → IsAmong n xs → ⊥
@@ -264,11 +246,11 @@ module _ (s : View) (u : Name) where
       by : (n : Name) → IsOtherName s u n → EndsHere n → ⊥
       by n k w = nothing others n none (f.found n w.long w.some w.short k.name w.chain)
 
-  -- nor where an alias stands at it
+  -- A unit that is itself an alias has no other name either.
   pub endless : (names : List Name) → is_alias (choice s u) ≡ true → names ≡ u ∷ [] → AreNames s u names
   endless names is e = lone names (λ n k. let w = ends_here n k in alias_ends_not (choice s u) is w.ends) e
 
--- a loop over names that adds each
+-- A loop that adds each name.
 pub adds_none : (added old : List Name) → added ≡ [] → Adds added old old
 adds_none added old e = record { kept = λ n h. h; there = λ n h. absurd (subst (IsAmong n) e h); sound = λ n h. inl h }
 

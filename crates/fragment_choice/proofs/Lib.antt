@@ -1,3 +1,4 @@
+pub mod Prelude
 pub mod EntrySays
 pub mod Steps
 pub mod Gathering

@@ -1,72 +1,57 @@
--- Laws of choices: lesser levels come first, and only what is visible counts.
-use Rattle.std.proofs.Common.{◌≡◌, ◌≢◌, ℕ, ◌<◌, ◌≤◌, Option, Some, None, [], ◌∷◌, refl, ap, sym, ◌∙◌, cond, IsTrue, unwrap_or, inl, inr}
-use Rattle.std.specs.Prelude.{◌⊎◌}
+-- Laws of choices: smaller levels come first, and only what is visible counts.
+use Rattle.std.proofs.Common.{[], ◌<◌, ◌∙◌, ◌∷◌, ◌≡◌, ◌≢◌, ◌≤◌, ◌⊎◌, ap, cond, inl, inr, IsTrue, None, Option, refl, Some, sym, unwrap_or, ℕ}
 use Rattle.std.specs.Option.{option_and_then, option_or}
-use Rattle.load_path.specs.Paths.{PathParts, path_cmp}
-use Rattle.load_path.specs.PathLaws.{path_cmp_total, path_cmp-IsAntisymmetric}
-use Rattle.edit_sums.specs.declared.contents.Content.{Content}
-use Rattle.edit_sums.specs.declared.contents.Content.TheVariants.{Gone, Link, File}
-use Rattle.path_maps.specs.SeenLaws.{same_place}
-use Rattle.path_maps.specs.Views.{AreForOne, View, seen_at}
-use Rattle.unit_name.specs.Names.{Name}
-use Rattle.unit_name.specs.Forms.{template_of}
-use Rattle.list_laws.specs.Agreements.{agree_everywhere}
-use Rattle.list_laws.specs.FirstSaid.{first_same}
-use Rattle.load_places.specs.Levels.{IsLevel, levels}
-use Rattle.load_places.specs.LevelLaws.{first_at, both_say}
-use Rattle.load_places.specs.Places.{PlaceParts}
-use Rattle.fragment_choice.specs.declared.choices.Choice.{Choice}
-use Rattle.fragment_choice.specs.declared.choices.Choice.TheVariants.{NotFound, Masked}
-use Rattle.fragment_choice.specs.Choices.{choice, content_says, is_null, link_says, last_component, own_choice, own_path, own_place, says}
+use Rattle.fragment_choice.specs.Prelude.{agree_everywhere, AreForOne, both_say, Content, File, first_at, first_same, Gone, HostViewMap, IsLevel, levels, Link, Name, path_cmp, path_cmp-IsAntisymmetric, path_cmp_total, PathParts, PlaceParts, same_place, template_of, viewed_at}
+use Rattle.fragment_choice.specs.{Choices.choice, Choices.content_says, Choices.is_null, Choices.last_component, Choices.link_says, Choices.own_choice, Choices.own_path, Choices.own_place, Choices.says, declared.choices.Choice.Choice, declared.choices.Choice.TheVariants.Masked, declared.choices.Choice.TheVariants.NotFound}
 
--- the least level that says anything of n under its own name makes the choice
+-- The least level that says anything of `n` under its own name makes the choice.
 abbrev pub LeastLevelChooses : Type 0
-LeastLevelChooses = (s : View) (n : Name) (r : ℕ) (c : Choice) → IsLevel r → says s n n r ≡ Some c → ((k : ℕ) → k < r → says s n n k ≡ None) → choice s n ≡ c
+LeastLevelChooses = (s : HostViewMap) (n : Name) (r : ℕ) (c : Choice) → IsLevel r → says s n n r ≡ Some c → ((k : ℕ) → k < r → says s n n k ≡ None) → choice s n ≡ c
 
--- where the own name says nothing, the least level does that says anything of n under its template's
+-- If the own name says nothing, the least level that says anything of `n` under its template makes the choice.
 abbrev pub TemplatesComeLast : Type 0
-TemplatesComeLast = (s : View) (n o : Name) (r : ℕ) (c : Choice) → own_choice s n n ≡ None → template_of n ≡ Some o → IsLevel r → says s n o r ≡ Some c → ((k : ℕ) → k < r → says s n o k ≡ None) → choice s n ≡ c
+TemplatesComeLast = (s : HostViewMap) (n o : Name) (r : ℕ) (c : Choice) → own_choice s n n ≡ None → template_of n ≡ Some o → IsLevel r → says s n o r ≡ Some c → ((k : ℕ) → k < r → says s n o k ≡ None) → choice s n ≡ c
 
--- a choice that is made up to a level is the same in each view that shows the same up to there
+-- A choice that is made at a level is the same in each view that shows the same up to this level.
 abbrev pub GreaterLevelsDontCount : Type 0
-GreaterLevelsDontCount = (s t : View) → AreForOne s t → (n : Name) (r : ℕ) (c : Choice) → IsLevel r → says s n n r ≡ Some c → ((k : ℕ) → k ≤ r → seen_at t (own_path n k) ≡ seen_at s (own_path n k)) → choice t n ≡ choice s n
+GreaterLevelsDontCount = (s t : HostViewMap) → AreForOne s t → (n : Name) (r : ℕ) (c : Choice) → IsLevel r → says s n n r ≡ Some c → ((k : ℕ) → k ≤ r → viewed_at t (own_path n k) ≡ viewed_at s (own_path n k)) → choice t n ≡ choice s n
 
--- an empty file, or a link to /dev/null
+-- An empty file, or a link to `/dev/null`.
 abbrev pub IsMask : Content → Type 0
 IsMask Gone = ⊥
 IsMask (Link target) = IsTrue (is_null target)
 IsMask (File []) = Unit {0}
 IsMask (File (b ∷ bs)) = ⊥
 
--- a mask hides whatever stands in greater levels and for the template
+-- A mask hides whatever is at greater levels and at the template's paths.
 abbrev pub MasksHide : Type 0
-MasksHide = (s : View) (n : Name) (r : ℕ) (x : Content) → IsLevel r → seen_at s (own_path n r) ≡ Some x → IsMask x → ((k : ℕ) → k < r → says s n n k ≡ None) → choice s n ≡ Masked
+MasksHide = (s : HostViewMap) (n : Name) (r : ℕ) (x : Content) → IsLevel r → viewed_at s (own_path n r) ≡ Some x → IsMask x → ((k : ℕ) → k < r → says s n n k ≡ None) → choice s n ≡ Masked
 
--- views for one host that show the same choose the same
+-- Views for one host that show the same choose the same.
 abbrev pub OnlyVisibleCounts : Type 0
-OnlyVisibleCounts = (s t : View) → AreForOne s t → ((p : PathParts) → seen_at s p ≡ seen_at t p) → (n : Name) → choice s n ≡ choice t n
+OnlyVisibleCounts = (s t : HostViewMap) → AreForOne s t → ((p : PathParts) → viewed_at s p ≡ viewed_at t p) → (n : Name) → choice s n ≡ choice t n
 
--- the path has one component, which is the name or its template
+-- The path has one component, which is the name or its template.
 pub record IsOwnPath (n : Name) (p : PathParts) : Type 0 where
   pub owner : Name
   pub owns : (owner ≡ n) ⊎ (template_of n ≡ Some owner)
   pub no_folder : p.folder ≡ []
   pub name_is : p.name ≡ owner
 
--- views for one host that show the same at the paths of a name and of its template choose the same for it
+-- Views for one host that show the same at the paths of a name and of its template choose the same for the name.
 abbrev pub OwnPathsDecide : Type 0
-OwnPathsDecide = (s t : View) → AreForOne s t → (n : Name) → ((p : PathParts) → IsOwnPath n p → seen_at s p ≡ seen_at t p)
+OwnPathsDecide = (s t : HostViewMap) → AreForOne s t → (n : Name) → ((p : PathParts) → IsOwnPath n p → viewed_at s p ≡ viewed_at t p)
     → choice s n ≡ choice t n
 
--- views for one host that show the same at paths of one component choose the same, whatever their folders show
+-- Views for one host that show the same at paths of one component choose the same, whatever their folders show.
 abbrev pub OwnPathsCount : Type 0
-OwnPathsCount = (s t : View) → AreForOne s t → ((p : PathParts) → p.folder ≡ [] → seen_at s p ≡ seen_at t p) → (n : Name) → choice s n ≡ choice t n
+OwnPathsCount = (s t : HostViewMap) → AreForOne s t → ((p : PathParts) → p.folder ≡ [] → viewed_at s p ≡ viewed_at t p) → (n : Name) → choice s n ≡ choice t n
 
--- a removal gives back what was there: the choice is that of a view that never had anything at the path
+-- After a removal the choice is that of a view that never had anything at the path.
 abbrev pub RemovalsGiveBack : Type 0
-RemovalsGiveBack = (s t : View) → AreForOne s t → (p : PathParts) → seen_at s p ≡ None → seen_at t p ≡ None → ((q : PathParts) → q ≢ p → seen_at s q ≡ seen_at t q) → (n : Name) → choice s n ≡ choice t n
+RemovalsGiveBack = (s t : HostViewMap) → AreForOne s t → (p : PathParts) → viewed_at s p ≡ None → viewed_at t p ≡ None → ((q : PathParts) → q ≢ p → viewed_at s q ≡ viewed_at t q) → (n : Name) → choice s n ≡ choice t n
 
-own_chooses : (s : View) (n : Name) (c : Choice) → own_choice s n n ≡ Some c → choice s n ≡ c
+own_chooses : (s : HostViewMap) (n : Name) (c : Choice) → own_choice s n n ≡ Some c → choice s n ≡ c
 own_chooses s n c own = ap (λ o. unwrap_or (option_or o (option_and_then (own_choice s n) (template_of n))) NotFound) own
 
 pub least_level_chooses : LeastLevelChooses
@@ -78,8 +63,8 @@ templates_come_last s n o r c nothing t h e none =
     ∙ ap (λ x. unwrap_or (option_and_then (own_choice s n) x) NotFound) t
     ∙ ap (λ x. unwrap_or x NotFound) (first_at (says s n o) r c h e none)
 
--- the same visible content says the same
-says_same : (s t : View) → AreForOne s t → (n o : Name) (k : ℕ) → seen_at s (own_path o k) ≡ seen_at t (own_path o k) → says s n o k ≡ says t n o k
+-- The same visible content says the same.
+says_same : (s t : HostViewMap) → AreForOne s t → (n o : Name) (k : ℕ) → viewed_at s (own_path o k) ≡ viewed_at t (own_path o k) → says s n o k ≡ says t n o k
 says_same s t one n o k same = (λ i. option_and_then (content_says n o (same_place s t one (own_path o k) i)) (same i))
 
 pub greater_levels_dont_count : GreaterLevelsDontCount
@@ -97,7 +82,7 @@ pub masks_hide : MasksHide
 masks_hide s n r x h e m none =
     least_level_chooses s n r Masked h (ap (option_and_then (content_says n n (own_place s n r))) e ∙ mask_says n n (own_place s n r) x m) none
 
-own_same : (s t : View) → AreForOne s t → (n o : Name) → ((k : ℕ) → seen_at s (own_path o k) ≡ seen_at t (own_path o k))
+own_same : (s t : HostViewMap) → AreForOne s t → (n o : Name) → ((k : ℕ) → viewed_at s (own_path o k) ≡ viewed_at t (own_path o k))
     → own_choice s n o ≡ own_choice t n o
 own_same s t one n o same = first_same (says s n o) (says t n o) (λ k. says_same s t one n o k (same k)) levels
 
@@ -121,4 +106,4 @@ pub only_visible_counts : OnlyVisibleCounts
 only_visible_counts s t one same n = own_paths_count s t one (λ p _. same p) n
 
 pub removals_give_back : RemovalsGiveBack
-removals_give_back s t one p removed absent same = only_visible_counts s t one (agree_everywhere path_cmp path_cmp_total path_cmp-IsAntisymmetric (seen_at s) (seen_at t) p (removed ∙ sym absent) same)
+removals_give_back s t one p removed absent same = only_visible_counts s t one (agree_everywhere path_cmp path_cmp_total path_cmp-IsAntisymmetric (viewed_at s) (viewed_at t) p (removed ∙ sym absent) same)

@@ -1,69 +1,51 @@
--- Laws of fragments: each is a file that is visible and isn't empty, at a place whose path has one component.
-use Rattle.std.proofs.Common.{◌≡◌, ℕ, Bool, true, false, cond, Option, Some, None, List, [], ◌∷◌, refl, sym, ap, ◌∙◌, inl, inr}
-use Rattle.std.specs.Prelude.{◌⊎◌, unwrap_or}
+-- Laws of fragments: each is a visible file that isn't empty, at a place whose path has one component.
+use Rattle.std.proofs.Common.{[], ◌∙◌, ◌∷◌, ◌≡◌, ◌⊎◌, ap, Bool, cond, false, inl, inr, List, None, Option, refl, Some, sym, true, unwrap_or, ℕ}
 use Rattle.std.specs.Option.{option_and_then, option_or}
-use Rattle.edit_sums.specs.declared.contents.Content.{Content}
+use Rattle.fragment_choice.specs.Prelude.{Content, content_at, content_viewed, first_said, HostViewMap, Instance, instance, is_name, kind, levels, Name, PathParts, PlaceParts, Plain, Shape, shape, Template, template_of, viewed_at, viewed_place, with_instance}
+use Rattle.fragment_choice.specs.{ChoiceLaws.IsOwnPath, Choices.alias_of, Choices.alias_to, Choices.choice, Choices.content_says, Choices.is_bad_kind, Choices.is_null, Choices.is_self, Choices.last_component, Choices.link_says, Choices.own_choice, Choices.own_path, Choices.own_place, Choices.says, Choices.shapes_agree, declared.choices.Choice.Choice, declared.choices.Choice.TheVariants.Bad, declared.choices.Choice.TheVariants.Fragment, declared.choices.Choice.TheVariants.Masked, declared.choices.Choice.TheVariants.NotFound, declared.resolutions.Resolution.Resolution, ResolutionLaws.resolution_resolves, Resolutions.main, Resolutions.resolution, Resolutions.Resolves, Resolutions.Resolves.ends_at, Resolutions.Resolves.goes_on}
 use Rattle.edit_sums.specs.declared.contents.Content.TheVariants as content
-use Rattle.path_maps.specs.SeenLaws.{content_seen}
-use Rattle.path_maps.specs.Views.{View, content_at, seen_at, seen_place}
-use Rattle.unit_name.specs.declared.names.Shape.{Shape}
-use Rattle.unit_name.specs.declared.names.Shape.TheVariants.{Plain, Template, Instance}
-use Rattle.unit_name.specs.Names.{Name, shape, instance, kind, is_name}
-use Rattle.unit_name.specs.Forms.{template_of, with_instance}
-use Rattle.list_laws.specs.FirstSaid.{first_said}
-use Rattle.load_path.specs.Paths.{PathParts}
-use Rattle.load_places.specs.Levels.{levels}
-use Rattle.load_places.specs.Places.{PlaceParts}
-use Rattle.fragment_choice.specs.declared.choices.Choice.{Choice}
-use Rattle.fragment_choice.specs.declared.choices.Choice.TheVariants.{NotFound, Masked, Fragment, Bad}
-use Rattle.fragment_choice.specs.declared.resolutions.Resolution.{Resolution}
-use Rattle.fragment_choice.specs.ChoiceLaws.{IsOwnPath}
-use Rattle.fragment_choice.specs.Choices.{choice, own_choice, says, content_says, link_says, alias_of, alias_to, own_path, own_place, is_null, is_self, is_bad_kind, shapes_agree, last_component}
 use Rattle.fragment_choice.specs.declared.choices.Cause.TheVariants as cause
-use Rattle.fragment_choice.specs.Resolutions.{Resolves, main, resolution}
-use Rattle.fragment_choice.specs.Resolutions.Resolves.{ends_at, goes_on}
-use Rattle.fragment_choice.specs.ResolutionLaws.{resolution_resolves}
 
--- a file that isn't empty is visible at the place
-abbrev pub IsFileAt : View → PlaceParts → Type 0
+-- A file that isn't empty is visible at the place.
+abbrev pub IsFileAt : HostViewMap → PlaceParts → Type 0
 IsFileAt s p = (b : ℕ) × (bs : List ℕ) × (content_at s p ≡ Some (content.File (b ∷ bs)))
 
--- the fragment that stands for a name is such a file
+-- The fragment that a name resolves to is such a file.
 abbrev pub FragmentsAreFiles : Type 0
-FragmentsAreFiles = (s : View) (n : Name) (p : PlaceParts) → (resolution s n).choice ≡ Fragment p → IsFileAt s p
+FragmentsAreFiles = (s : HostViewMap) (n : Name) (p : PlaceParts) → (resolution s n).choice ≡ Fragment p → IsFileAt s p
 
--- and its path has one component
+-- The path of that fragment has one component.
 abbrev pub FragmentsHaveNoFolder : Type 0
-FragmentsHaveNoFolder = (s : View) (n : Name) (p : PlaceParts) → (resolution s n).choice ≡ Fragment p → p.path.folder ≡ []
+FragmentsHaveNoFolder = (s : HostViewMap) (n : Name) (p : PlaceParts) → (resolution s n).choice ≡ Fragment p → p.path.folder ≡ []
 
--- a file that isn't empty is seen at a path of one component, which has this place
-abbrev pub IsOwnFile : View → PlaceParts → Type 0
-IsOwnFile s p = (q : PathParts) × (seen_place s q ≡ p) × (q.folder ≡ []) × (b : ℕ) × (bs : List ℕ) × (seen_at s q ≡ Some (content.File (b ∷ bs)))
+-- A file that isn't empty is seen at a path of one component, which has this place.
+abbrev pub IsOwnFile : HostViewMap → PlaceParts → Type 0
+IsOwnFile s p = (q : PathParts) × (viewed_place s q ≡ p) × (q.folder ≡ []) × (b : ℕ) × (bs : List ℕ) × (viewed_at s q ≡ Some (content.File (b ∷ bs)))
 
--- the same at a path of the name's own or of its template
-pub record IsOwnFileOf (s : View) (n : Name) (p : PlaceParts) : Type 0 where
+-- The same at an own path of the name or of its template.
+pub record IsOwnFileOf (s : HostViewMap) (n : Name) (p : PlaceParts) : Type 0 where
   pub path : PathParts
-  pub place_is : seen_place s path ≡ p
+  pub place_is : viewed_place s path ≡ p
   pub own : IsOwnPath n path
   pub first : ℕ
   pub rest : List ℕ
-  pub shows : seen_at s path ≡ Some (content.File (first ∷ rest))
+  pub shows : viewed_at s path ≡ Some (content.File (first ∷ rest))
 
--- the fragment of a main name stands at the name's own path or at its template's
+-- The fragment of a main name is at an own path of the name or of its template.
 abbrev pub FragmentsAreOwn : Type 0
-FragmentsAreOwn = (s : View) (n : Name) (p : PlaceParts) → main s n ≡ n → (resolution s n).choice ≡ Fragment p → IsOwnFileOf s n p
+FragmentsAreOwn = (s : HostViewMap) (n : Name) (p : PlaceParts) → main s n ≡ n → (resolution s n).choice ≡ Fragment p → IsOwnFileOf s n p
 
--- such a file at a path of this name
-record IsFileOf (s : View) (o : Name) (p : PlaceParts) : Type 0 where
+-- Such a file at a path of this name.
+record IsFileOf (s : HostViewMap) (o : Name) (p : PlaceParts) : Type 0 where
   path : PathParts
-  place_is : seen_place s path ≡ p
+  place_is : viewed_place s path ≡ p
   no_folder : path.folder ≡ []
   name_is : path.name ≡ o
   first : ℕ
   rest : List ℕ
-  shows : seen_at s path ≡ Some (content.File (first ∷ rest))
+  shows : viewed_at s path ≡ Some (content.File (first ∷ rest))
 
--- an answer that is no fragment
+-- An answer that is no fragment.
 abbrev IsOther : Option Choice → PlaceParts → Type 0
 IsOther o p = o ≡ Some (Fragment p) → ⊥
 
@@ -78,7 +60,7 @@ made_other Instance n Plain t p e = cc (e)
 made_other Instance n Template t p e = alias_other (with_instance t (instance n)) p e
 made_other Instance n Instance t p e = cc (e)
 
--- no link gives a fragment
+-- No link gives a fragment.
 link_other : (n o : Name) (t : List ℕ) (p : PlaceParts) → IsOther (link_says n o t) p
 link_other n o t p e = by (is_name t) (is_self o t) (is_bad_kind (kind o) (kind t)) (shapes_agree (shape o) (instance o) (shape t) (instance t)) e
   where
@@ -99,10 +81,10 @@ content_file n o q p (content.Link target) e = absurd (by (is_null target) e)
     by true e = cc (e)
     by false e = link_other n o (last_component target) p e
 
-said_file : (s : View) (n o : Name) (level : ℕ) (p : PlaceParts) → says s n o level ≡ Some (Fragment p) → IsFileOf s o p
-said_file s n o level p e = by (seen_at s (own_path o level)) refl e
+said_file : (s : HostViewMap) (n o : Name) (level : ℕ) (p : PlaceParts) → says s n o level ≡ Some (Fragment p) → IsFileOf s o p
+said_file s n o level p e = by (viewed_at s (own_path o level)) refl e
   where
-    by : (y : Option Content) → seen_at s (own_path o level) ≡ y
+    by : (y : Option Content) → viewed_at s (own_path o level) ≡ y
         → option_and_then (content_says n o (own_place s o level)) y ≡ Some (Fragment p) → IsFileOf s o p
     by None at e = cc (e)
     by (Some c) at e =
@@ -117,7 +99,7 @@ said_file s n o level p e = by (seen_at s (own_path o level)) refl e
           shows = at ∙ ap Some file.2;
         }
 
-first_file : (s : View) (n o : Name) (rs : List ℕ) (p : PlaceParts) → first_said (says s n o) rs ≡ Some (Fragment p) → IsFileOf s o p
+first_file : (s : HostViewMap) (n o : Name) (rs : List ℕ) (p : PlaceParts) → first_said (says s n o) rs ≡ Some (Fragment p) → IsFileOf s o p
 first_file s n o [] p e = cc (e)
 first_file s n o (r ∷ rs) p e = by (says s n o r) refl (first_file s n o rs p) e
   where
@@ -126,7 +108,7 @@ first_file s n o (r ∷ rs) p e = by (says s n o r) refl (first_file s n o rs p)
     by None at later e = later e
     by (Some c) at later e = said_file s n o r p (at ∙ e)
 
-chosen_file : (s : View) (n : Name) (p : PlaceParts) → choice s n ≡ Fragment p → IsOwnFileOf s n p
+chosen_file : (s : HostViewMap) (n : Name) (p : PlaceParts) → choice s n ≡ Fragment p → IsOwnFileOf s n p
 chosen_file s n p e = by (own_choice s n n) refl (template_of n) refl e
   where
     owned : (o : Name) → (o ≡ n) ⊎ (template_of n ≡ Some o) → IsFileOf s o p → IsOwnFileOf s n p
@@ -149,14 +131,14 @@ chosen_file s n p e = by (own_choice s n n) refl (template_of n) refl e
         of_template None there e = cc (e)
         of_template (Some c) there e = owned o (inr f) (first_file s n o levels p (there ∙ ap Some e))
 
-seen_file : (s : View) (n : Name) (p : PlaceParts) → IsOwnFileOf s n p → IsOwnFile s p
-seen_file s n p at = (at.path, at.place_is, at.own.no_folder, at.first, at.rest, at.shows)
+viewed_file : (s : HostViewMap) (n : Name) (p : PlaceParts) → IsOwnFileOf s n p → IsOwnFile s p
+viewed_file s n p at = (at.path, at.place_is, at.own.no_folder, at.first, at.rest, at.shows)
 
-resolved_file : (s : View) (n : Name) (r : Resolution) (p : PlaceParts) → Resolves s n r → r.choice ≡ Fragment p → IsOwnFile s p
-resolved_file s n r p (ends_at k u short chain ends) e = seen_file s u p (chosen_file s u p e)
+resolved_file : (s : HostViewMap) (n : Name) (r : Resolution) (p : PlaceParts) → Resolves s n r → r.choice ≡ Fragment p → IsOwnFile s p
+resolved_file s n r p (ends_at k u short chain ends) e = viewed_file s u p (chosen_file s u p e)
 resolved_file s n r p (goes_on u chain) e = cc (e)
 
-resolved_own : (s : View) (n : Name) (r : Resolution) (p : PlaceParts) → r.main ≡ n → Resolves s n r → r.choice ≡ Fragment p
+resolved_own : (s : HostViewMap) (n : Name) (r : Resolution) (p : PlaceParts) → r.main ≡ n → Resolves s n r → r.choice ≡ Fragment p
     → IsOwnFileOf s n p
 resolved_own s n r p own (ends_at k u short chain ends) e = chosen_file s n p (ap (choice s) (sym own) ∙ e)
 resolved_own s n r p own (goes_on u chain) e = cc (e)
@@ -164,14 +146,14 @@ resolved_own s n r p own (goes_on u chain) e = cc (e)
 pub fragments_are_own : FragmentsAreOwn
 fragments_are_own s n p own e = resolved_own s n (resolution s n) p own (resolution_resolves s n) e
 
--- what stands for a name is seen at a path
-pub fragments_are_seen : (s : View) (n : Name) (p : PlaceParts) → (resolution s n).choice ≡ Fragment p → IsOwnFile s p
-fragments_are_seen s n p e = resolved_file s n (resolution s n) p (resolution_resolves s n) e
+-- The fragment that a name resolves to is seen at a path.
+pub fragments_are_in_view : (s : HostViewMap) (n : Name) (p : PlaceParts) → (resolution s n).choice ≡ Fragment p → IsOwnFile s p
+fragments_are_in_view s n p e = resolved_file s n (resolution s n) p (resolution_resolves s n) e
 
 pub fragments_are_files : FragmentsAreFiles
 fragments_are_files s n p e =
-    let at = fragments_are_seen s n p e in
-    (at.3, at.4, ap (content_at s) (sym at.1) ∙ content_seen s at.0 (content.File (at.3 ∷ at.4)) at.5)
+    let at = fragments_are_in_view s n p e in
+    (at.3, at.4, ap (content_at s) (sym at.1) ∙ content_viewed s at.0 (content.File (at.3 ∷ at.4)) at.5)
 
 pub fragments_have_no_folder : FragmentsHaveNoFolder
-fragments_have_no_folder s n p e = let at = fragments_are_seen s n p e in ap (λ (q : PlaceParts). q.path.folder) (sym at.1) ∙ at.2
+fragments_have_no_folder s n p e = let at = fragments_are_in_view s n p e in ap (λ (q : PlaceParts). q.path.folder) (sym at.1) ∙ at.2

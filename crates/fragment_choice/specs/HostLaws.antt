@@ -1,43 +1,29 @@
--- Laws of hosts: one at whose places nothing is visible has the choices that are made without a host, and these are the fleet's by rank.
-use Rattle.std.specs.Prelude.{◌≡◌, ℕ, ◌/◌, ◌%◌, ◌==◌, Bool, true, false, cond, Some, None, List, refl, unwrap_or}
+-- Laws of hosts: a host at whose places nothing is visible has the choices that are made without a host, and these are
+-- the choices of the fleet by rank.
+use Rattle.std.proofs.Common.{◌%◌, ◌/◌, ◌==◌, ◌∙◌, ◌≡◌, ap, Bool, cond, false, List, None, refl, Some, sym, true, unwrap_or, ℕ}
 use Rattle.std.specs.Option.{option_and_then, option_or}
-use Rattle.std.proofs.Common.{ap, sym, ◌∙◌}
-use Rattle.list_laws.specs.FirstSaid.{first_said}
-use Rattle.load_path.specs.Paths.{PathParts}
-use Rattle.load_places.specs.Levels.{levels}
-use Rattle.load_places.specs.declared.places.Scope.TheVariants.{Fleet, Host}
-use Rattle.edit_sums.specs.Sums.{EntryMap}
-use Rattle.path_maps.specs.Scopes.{scope_of, shown_at}
-use Rattle.path_maps.specs.SeenLaws.{ShowsNothing, fleets_sights, same_sights}
-use Rattle.path_maps.specs.Sights.{path_behind}
-use Rattle.path_maps.specs.Views.{View, own_scope, seen_at, view_of}
-use Rattle.unit_name.specs.Names.{Name}
-use Rattle.unit_name.specs.Forms.{template_of}
-use Rattle.fragment_choice.specs.declared.choices.Choice.TheVariants.{NotFound}
-use Rattle.fragment_choice.specs.Choices.{choice, content_says, own_choice, own_path, own_place, says}
-use Rattle.fragment_choice.specs.FleetChoices.{fleet_choice, fleet_own_choice, fleet_says}
-use Rattle.fragment_choice.specs.ResolutionLaws.{choices_decide}
-use Rattle.fragment_choice.specs.Resolutions.{resolution}
+use Rattle.fragment_choice.specs.Prelude.{EntryMap, first_said, Fleet, fleets_sights, Host, host_view_of, HostViewMap, levels, Name, own_scope, path_after, PathParts, same_sights, scope_of, shown_at, ShowsNothing, template_of, viewed_at}
+use Rattle.fragment_choice.specs.{Choices.choice, Choices.content_says, Choices.own_choice, Choices.own_path, Choices.own_place, Choices.says, declared.choices.Choice.TheVariants.NotFound, FleetChoices.fleet_choice, FleetChoices.fleet_own_choice, FleetChoices.fleet_says, ResolutionLaws.choices_decide, Resolutions.resolution}
 
--- a host at whose places nothing is visible has the choices that are made without a host
+-- A host at whose places nothing is visible has the choices that are made without a host.
 abbrev pub HostsWithoutPlacesChooseAlike : Type 0
-HostsWithoutPlacesChooseAlike = (s : EntryMap) (host : List ℕ) → ShowsNothing s (Host host) → (n : Name) → choice (view_of s (Some host)) n ≡ choice (view_of s None) n
+HostsWithoutPlacesChooseAlike = (s : EntryMap) (host : List ℕ) → ShowsNothing s (Host host) → (n : Name) → choice (host_view_of s (Some host)) n ≡ choice (host_view_of s None) n
 
--- and the same stands for each name
+-- For such a host each name resolves as it does without a host.
 abbrev pub HostsWithoutPlacesResolveAlike : Type 0
-HostsWithoutPlacesResolveAlike = (s : EntryMap) (host : List ℕ) → ShowsNothing s (Host host) → (n : Name) → resolution (view_of s (Some host)) n ≡ resolution (view_of s None) n
+HostsWithoutPlacesResolveAlike = (s : EntryMap) (host : List ℕ) → ShowsNothing s (Host host) → (n : Name) → resolution (host_view_of s (Some host)) n ≡ resolution (host_view_of s None) n
 
--- the choices that are made without a host are those of before there were hosts
+-- The choices that are made without a host are those of the fleet's paths by rank.
 abbrev pub ChoicesAreTheFleets : Type 0
-ChoicesAreTheFleets = (s : EntryMap) (n : Name) → choice (view_of s None) n ≡ fleet_choice (scope_of s Fleet) n
+ChoicesAreTheFleets = (s : EntryMap) (n : Name) → choice (host_view_of s None) n ≡ fleet_choice (scope_of s Fleet) n
 
--- a view in which the fleet's alone is visible
-module _ (s : EntryMap) (v : View) (same : (p : PathParts) → seen_at v p ≡ seen_at (view_of s None) p) where
-  -- the levels of a host say nothing, and the fleet's what their ranks do
+-- A view in which only contents of the fleet are visible.
+module _ (s : EntryMap) (v : HostViewMap) (same : (p : PathParts) → viewed_at v p ≡ viewed_at (host_view_of s None) p) where
+  -- The levels of a host say nothing, and the levels of the fleet say what their ranks say.
   says_by_rank : (n o : Name) (level : ℕ) → says v n o level ≡ cond (level % 2 == 0) None (fleet_says (scope_of s Fleet) n o (level / 2))
   says_by_rank n o level = ap (option_and_then (content_says n o (own_place v o level))) (same (own_path o level) ∙ fleets_sights s (own_path o level)) ∙ by (level % 2 == 0)
     where
-      by : (b : Bool) → option_and_then (content_says n o (record { scope = cond b (own_scope v.own) Fleet; path = path_behind (own_path o level) })) (cond b None (shown_at (scope_of s Fleet) (path_behind (own_path o level)))) ≡ cond b None (fleet_says (scope_of s Fleet) n o (level / 2))
+      by : (b : Bool) → option_and_then (content_says n o (record { scope = cond b (own_scope v.own) Fleet; path = path_after (own_path o level) })) (cond b None (shown_at (scope_of s Fleet) (path_after (own_path o level)))) ≡ cond b None (fleet_says (scope_of s Fleet) n o (level / 2))
       by true = refl
       by false = refl
 
@@ -48,10 +34,10 @@ module _ (s : EntryMap) (v : View) (same : (p : PathParts) → seen_at v p ≡ s
   choice_by_rank n = (λ i. unwrap_or (option_or (own_by_rank n n i) (option_and_then (λ o. own_by_rank n o i) (template_of n))) NotFound)
 
 pub choices_are_the_fleets : ChoicesAreTheFleets
-choices_are_the_fleets s n = choice_by_rank s (view_of s None) (λ p. refl) n
+choices_are_the_fleets s n = choice_by_rank s (host_view_of s None) (λ p. refl) n
 
 pub hosts_without_places_choose_alike : HostsWithoutPlacesChooseAlike
-hosts_without_places_choose_alike s host none n = choice_by_rank s (view_of s (Some host)) (same_sights s host none) n ∙ sym (choices_are_the_fleets s n)
+hosts_without_places_choose_alike s host none n = choice_by_rank s (host_view_of s (Some host)) (same_sights s host none) n ∙ sym (choices_are_the_fleets s n)
 
 pub hosts_without_places_resolve_alike : HostsWithoutPlacesResolveAlike
-hosts_without_places_resolve_alike s host none = choices_decide (view_of s (Some host)) (view_of s None) (hosts_without_places_choose_alike s host none)
+hosts_without_places_resolve_alike s host none = choices_decide (host_view_of s (Some host)) (host_view_of s None) (hosts_without_places_choose_alike s host none)

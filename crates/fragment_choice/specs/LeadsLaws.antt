@@ -1,32 +1,22 @@
--- Which names are aliases of which decides all main names, and with the choice for a main name what stands for it.
-use Rattle.std.proofs.Common.{◌≡◌, ℕ, refl, ap, sym, ◌∙◌, subst}
-use Rattle.std.specs.Prelude.{◌↔◌}
-use Rattle.path_maps.specs.Views.{View}
-use Rattle.unit_name.specs.Names.{Name}
-use Rattle.fragment_choice.specs.declared.choices.Cause.TheVariants.{Loop}
-use Rattle.fragment_choice.specs.declared.choices.Choice.{Choice}
-use Rattle.fragment_choice.specs.declared.choices.Choice.TheVariants.{NotFound, Masked, Fragment, Alias, Bad}
-use Rattle.fragment_choice.specs.declared.resolutions.Resolution.{Resolution}
-use Rattle.fragment_choice.specs.Choices.{choice}
-use Rattle.fragment_choice.specs.Resolutions.{Chain, IsEnd, Leads, Resolves, resolution, main}
-use Rattle.fragment_choice.specs.Resolutions.Chain.{here, step}
-use Rattle.fragment_choice.specs.Resolutions.Resolves.{ends_at, goes_on}
-use Rattle.fragment_choice.specs.ResolutionLaws.{resolution_resolves, following_finds_the_end}
+-- Which names are aliases of which decides all main names, and with the choice for a main name what it resolves to.
+use Rattle.std.proofs.Common.{◌↔◌, ◌∙◌, ◌≡◌, ap, refl, subst, sym, ℕ}
+use Rattle.fragment_choice.specs.Prelude.{HostViewMap, Name}
+use Rattle.fragment_choice.specs.{Choices.choice, declared.choices.Cause.TheVariants.Loop, declared.choices.Choice.Choice, declared.choices.Choice.TheVariants.Alias, declared.choices.Choice.TheVariants.Bad, declared.choices.Choice.TheVariants.Fragment, declared.choices.Choice.TheVariants.Masked, declared.choices.Choice.TheVariants.NotFound, declared.resolutions.Resolution.Resolution, ResolutionLaws.following_finds_the_end, ResolutionLaws.resolution_resolves, Resolutions.Chain, Resolutions.Chain.here, Resolutions.Chain.step, Resolutions.IsEnd, Resolutions.Leads, Resolutions.main, Resolutions.resolution, Resolutions.Resolves, Resolutions.Resolves.ends_at, Resolutions.Resolves.goes_on}
 
--- the same names are aliases of the same
-abbrev pub SameLeads : View → View → Type 0
+-- Both views have the same aliases.
+abbrev pub SameLeads : HostViewMap → HostViewMap → Type 0
 SameLeads s t = (n m : Name) → Leads s n m ↔ Leads t n m
 
--- views with the same aliases have the same main name for each name
+-- Views with the same aliases have the same main name for each name.
 abbrev pub LeadsDecideMains : Type 0
-LeadsDecideMains = (s t : View) → SameLeads s t → (n : Name) → main s n ≡ main t n
+LeadsDecideMains = (s t : HostViewMap) → SameLeads s t → (n : Name) → main s n ≡ main t n
 
--- and the same stands for a main name where the choice for it is the same
+-- In such views a main name with the same choice resolves to the same.
 abbrev pub LeadsAndChoiceDecide : Type 0
 LeadsAndChoiceDecide =
-    (s t : View) → SameLeads s t → (u : Name) → main s u ≡ u → choice s u ≡ choice t u → resolution s u ≡ resolution t u
+    (s t : HostViewMap) → SameLeads s t → (u : Name) → main s u ≡ u → choice s u ≡ choice t u → resolution s u ≡ resolution t u
 
-module _ (s t : View) (same : SameLeads s t) where
+module _ (s t : HostViewMap) (same : SameLeads s t) where
   chain_same : (k : ℕ) (n u : Name) → Chain s k n u → Chain t k n u
   chain_same k n u (here _) = here n
   chain_same k n u (step _ m _ d l rest) = step n m u d ((same n m).0 l) (chain_same d m u rest)

@@ -1,3 +1,4 @@
+pub mod Prelude
 pub mod Choices
 pub mod ChoiceLaws
 pub mod Resolutions
@@ -6,13 +7,14 @@ pub mod UnitNames
 pub mod LinkedNames
 pub mod Indexes
 pub mod LinkLaws
-pub mod SilenceLaws
+pub mod UndefinedLaws
 pub mod LinkCaseLaws
 pub mod LikenessLaws
 pub mod UnitNameLaws
 pub mod LeadsLaws
-pub mod AliasWords
-pub mod AliasWordLaws
+pub mod LinkTargets
+pub mod LinkTargetLaws
 pub mod FragmentLaws
 pub mod FleetChoices
 pub mod HostLaws
+pub mod PlaceChoiceLaws

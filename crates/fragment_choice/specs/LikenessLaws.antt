@@ -1,44 +1,29 @@
--- Laws of aliases: a name and what it is an alias of are of one kind and one shape.
-use Rattle.std.proofs.Common.{◌≡◌, ℕ, Bool, true, false, not, ◌||◌, Option, Some, None, refl, ap, sym, ◌∙◌, subst, inl, inr}
-use Rattle.std.specs.Prelude.{◌⊎◌}
-use Rattle.std.specs.Str.{bytes_eq}
+-- Laws of aliases: a name and what it is an alias of have the same kind and the same shape.
+use Rattle.std.proofs.Common.{◌||◌, ◌∙◌, ◌≡◌, ◌⊎◌, ap, Bool, false, inl, inr, None, not, Option, refl, Some, subst, sym, true, ℕ}
 use Rattle.std.proofs.lemmas.Slice.Eq.{bytes_eq-Decides}
-use Rattle.path_maps.specs.Views.{View}
-use Rattle.unit_name.specs.declared.kinds.Kind.{Kind as UnitKind}
-use Rattle.unit_name.specs.declared.names.Shape.{Shape as UnitShape}
-use Rattle.unit_name.specs.declared.names.Shape.TheVariants.{Plain, Template, Instance}
-use Rattle.unit_name.specs.Names.{Name, IsName, kind, word, shape, instance}
-use Rattle.unit_name.specs.Forms.{template_of, with_instance}
-use Rattle.unit_name.specs.NameLaws.{instance_has_parts, templates_keep_parts}
-use Rattle.fragment_choice.specs.declared.choices.Choice.TheVariants.{Alias}
-use Rattle.fragment_choice.specs.declared.resolutions.Resolution.{Resolution}
-use Rattle.fragment_choice.specs.Choices.{alias_of, alias_to, has_no_alias, is_bad_kind, last_component, shapes_agree}
-use Rattle.fragment_choice.specs.Resolutions.{Chain, Leads, Resolves, main, resolution}
-use Rattle.fragment_choice.specs.Resolutions.Chain.{here, step}
-use Rattle.fragment_choice.specs.Resolutions.Resolves.{ends_at, goes_on}
-use Rattle.fragment_choice.specs.ResolutionLaws.{resolution_resolves}
-use Rattle.fragment_choice.specs.LinkLaws.{HasLink, IsPassed, alias_same, has_link, has_template, passed, template_alias}
-use Rattle.fragment_choice.specs.LinkCaseLaws.{same_kind}
+use Rattle.std.specs.Str.{bytes_eq}
+use Rattle.fragment_choice.specs.Prelude.{HostViewMap, Instance, instance, instance_has_parts, IsName, kind, Name, Plain, shape, Template, template_of, templates_keep_parts, UnitKind, UnitShape, with_instance, word}
+use Rattle.fragment_choice.specs.{Choices.alias_of, Choices.alias_to, Choices.has_no_alias, Choices.is_bad_kind, Choices.last_component, Choices.shapes_agree, declared.choices.Choice.TheVariants.Alias, declared.resolutions.Resolution.Resolution, LinkCaseLaws.same_kind, LinkLaws.alias_same, LinkLaws.has_link, LinkLaws.has_template, LinkLaws.HasLink, LinkLaws.IsPassed, LinkLaws.passed, LinkLaws.template_alias, ResolutionLaws.resolution_resolves, Resolutions.Chain, Resolutions.Chain.here, Resolutions.Chain.step, Resolutions.Leads, Resolutions.main, Resolutions.resolution, Resolutions.Resolves, Resolutions.Resolves.ends_at, Resolutions.Resolves.goes_on}
 
--- m is a name of the kind of n, and plain, a template or an instance as n is
+-- `m` is a name with the kind and the shape of `n`.
 pub record IsLike (n m : Name) : Type 0 where
   pub name : IsName m
   pub kind_is : kind m ≡ kind n
   pub shape_is : shape m ≡ shape n
 
--- what a name is an alias of is like it
+-- What a name is an alias of has its kind and shape.
 abbrev pub AliasesAreAlike : Type 0
-AliasesAreAlike = (s : View) (n m : Name) → IsName n → Leads s n m → IsLike n m
+AliasesAreAlike = (s : HostViewMap) (n m : Name) → IsName n → Leads s n m → IsLike n m
 
--- and so is the end of a chain of aliases
+-- So does the end of a chain of aliases.
 abbrev pub ChainsAreAlike : Type 0
-ChainsAreAlike = (s : View) (d : ℕ) (n u : Name) → IsName n → Chain s d n u → IsLike n u
+ChainsAreAlike = (s : HostViewMap) (d : ℕ) (n u : Name) → IsName n → Chain s d n u → IsLike n u
 
--- and the main name
+-- So does the main name.
 abbrev pub MainsAreAlike : Type 0
-MainsAreAlike = (s : View) (n : Name) → IsName n → IsLike n (main s n)
+MainsAreAlike = (s : HostViewMap) (n : Name) → IsName n → IsLike n (main s n)
 
--- the same of an alias that a link to t makes: of the kind of t, and of this shape
+-- The same for an alias that a link to `t` makes: it has the kind of `t`, and this shape.
 record IsMade (t m : Name) (x : UnitShape) : Type 0 where
   name : IsName m
   kind_is : kind m ≡ kind t
@@ -71,7 +56,7 @@ module _ (n t m : Name) (good : IsName t) where
   by_template_link i Template g h = with_its_part h
   by_template_link i Instance g h = cc (g)
 
--- kinds that don't clash are the same
+-- Kinds that don't clash are the same.
 kinds_agree : (k l : Option UnitKind) → is_bad_kind k l ≡ false → k ≡ l
 kinds_agree None l h = cc (h)
 kinds_agree (Some k) None h = cc (h)
@@ -82,7 +67,7 @@ kinds_agree (Some k) (Some l) h = by (bytes_eq (word k) (word l)) refl h
     by false e g = cc (g)
 
 pub aliases_are_alike : AliasesAreAlike
-aliases_are_alike s n m lawful h = by l.owns
+aliases_are_alike s n m well_formed h = by l.owns
   where
     l : HasLink s n m
     l = has_link s n m h
@@ -99,24 +84,24 @@ aliases_are_alike s n m lawful h = by l.owns
     by : (l.owner ≡ n) ⊎ (template_of n ≡ Some l.owner) → IsLike n m
     by (inl e) =
         let agree = sym (ap (λ o. shapes_agree (shape o) (instance o) (shape t) (instance t)) e) ∙ p.agree in
-        like (ap kind (sym e)) (by_own_link n t m l.link.lawful (shape n) (shape t) refl agree p.alias)
+        like (ap kind (sym e)) (by_own_link n t m l.link.well_formed (shape n) (shape t) refl agree p.alias)
     by (inr e) =
-        let keeps = templates_keep_parts n l.owner lawful e in
+        let keeps = templates_keep_parts n l.owner well_formed e in
         let instance_is : shape n ≡ Instance = has_template (shape n) n l.owner e in
         let agree = sym (ap (λ x. shapes_agree x (instance l.owner) (shape t) (instance t)) keeps.2.shape_is) ∙ p.agree in
-        let made = by_template_link n t m l.link.lawful (instance l.owner) (shape t) agree (sym (ap (λ x. alias_of x n (shape t) t) instance_is) ∙ p.alias) in
+        let made = by_template_link n t m l.link.well_formed (instance l.owner) (shape t) agree (sym (ap (λ x. alias_of x n (shape t) t) instance_is) ∙ p.alias) in
         like (keeps.1 ∙ sym keeps.2.kind_is) (subst (IsMade t m) (sym instance_is) made)
 
 pub chains_are_alike : ChainsAreAlike
-chains_are_alike s d n u lawful (here _) = record { name = lawful; kind_is = refl; shape_is = refl }
-chains_are_alike s d n u lawful (step _ m _ e l rest) =
-    let first = aliases_are_alike s n m lawful l in
+chains_are_alike s d n u well_formed (here _) = record { name = well_formed; kind_is = refl; shape_is = refl }
+chains_are_alike s d n u well_formed (step _ m _ e l rest) =
+    let first = aliases_are_alike s n m well_formed l in
     let more = chains_are_alike s e m u first.name rest in
     record { name = more.name; kind_is = more.kind_is ∙ first.kind_is; shape_is = more.shape_is ∙ first.shape_is }
 
 pub mains_are_alike : MainsAreAlike
-mains_are_alike s n lawful = by (resolution s n) (resolution_resolves s n)
+mains_are_alike s n well_formed = by (resolution s n) (resolution_resolves s n)
   where
     by : (r : Resolution) → Resolves s n r → IsLike n r.main
-    by r (ends_at d u le chain ends) = chains_are_alike s d n u lawful chain
-    by r (goes_on u chain) = record { name = lawful; kind_is = refl; shape_is = refl }
+    by r (ends_at d u le chain ends) = chains_are_alike s d n u well_formed chain
+    by r (goes_on u chain) = record { name = well_formed; kind_is = refl; shape_is = refl }

@@ -1,56 +1,43 @@
--- Laws of links: what makes one bad, case by case, and what a good one leads to.
-use Rattle.std.proofs.Common.{◌≡◌, ◌≢◌, ℕ, ◌<◌, ◌≤◌, Bool, true, false, cond, not, ◌||◌, leb, Option, Some, None, List, length, codes, refl, ap, sym, ◌∙◌, subst, inl, inr, arith, le-leb}
-use Rattle.std.specs.Prelude.{◌↔◌, ◌⊎◌}
+-- Laws of links: what makes a link bad, case by case, and what a good link makes an alias of.
+use Rattle.std.proofs.Common.{◌<◌, ◌||◌, ◌↔◌, ◌∙◌, ◌≡◌, ◌≢◌, ◌≤◌, ◌⊎◌, ap, arith, Bool, codes, cond, false, inl, inr, le-leb, leb, length, List, None, not, Option, refl, Some, subst, sym, true, ℕ}
+use Rattle.std.proofs.lemmas.Bool.{cases_lt, false_from_ne_true, leb-true, true≢false}
+use Rattle.std.proofs.lemmas.Option.{cond_some, none-some, same_Some}
+use Rattle.std.proofs.lemmas.Slice.Eq.{bytes_eq-Decides}
 use Rattle.std.specs.Option.{option_and_then}
 use Rattle.std.specs.Str.{bytes_eq}
-use Rattle.std.proofs.lemmas.Bool.{true≢false, cases_lt, leb-true, false_from_ne_true}
-use Rattle.std.proofs.lemmas.Option.{none-some, same_Some, cond_some}
-use Rattle.std.proofs.lemmas.Slice.Eq.{bytes_eq-Decides}
-use Rattle.edit_sums.specs.declared.contents.Content.TheVariants.{Link}
-use Rattle.path_maps.specs.Views.{View, seen_at}
-use Rattle.unit_name.specs.declared.kinds.Kind.{Kind as UnitKind}
-use Rattle.unit_name.specs.declared.kinds.Kind.TheVariants.{Service, Socket, Device, Mount, Automount, Swap, Target as TargetKind, Path, Timer, Slice, Scope}
-use Rattle.unit_name.specs.declared.names.Shape.{Shape as UnitShape}
-use Rattle.unit_name.specs.declared.names.Shape.TheVariants.{Plain, Template, Instance}
-use Rattle.unit_name.specs.Names.{Name, IsName, is_name, kind, kind_of, word, shape, instance, prefix, suffix}
-use Rattle.unit_name.specs.NameLaws.{fits, kind_of-word, made_of_name, parts_of_names_fit}
-use Rattle.unit_name.specs.Forms.{instance_name, instance_at, is_instance, if_short, template_of, with_instance}
-use Rattle.fragment_choice.specs.declared.choices.Choice.{Choice}
-use Rattle.fragment_choice.specs.declared.choices.Choice.TheVariants.{Masked, Alias, Bad}
-use Rattle.fragment_choice.specs.declared.choices.Cause.{Cause}
-use Rattle.fragment_choice.specs.declared.choices.Cause.TheVariants.{Kind, Shape, Loop, Target}
-use Rattle.fragment_choice.specs.Choices.{alias_of, alias_to, content_says, has_no_alias, is_bad_kind, is_null, is_self, last_component, link_says, own_path, own_place, says, shapes_agree}
-use Rattle.fragment_choice.specs.SilenceLaws.{told, leads_to_itself, itself_leads}
+use Rattle.fragment_choice.specs.Prelude.{Automount, Device, fits, HostViewMap, if_short, Instance, instance, instance_at, instance_name, is_instance, is_name, IsName, kind, kind_of, kind_of-word, Link, made_of_name, Mount, Name, parts_of_names_fit, Path, Plain, prefix, Scope, Service, shape, Slice, Socket, suffix, Swap, TargetKind, Template, template_of, Timer, UnitKind, UnitShape, viewed_at, with_instance, word}
+use Rattle.fragment_choice.specs.{Choices.alias_of, Choices.alias_to, Choices.content_says, Choices.has_no_alias, Choices.is_bad_kind, Choices.is_null, Choices.is_self, Choices.last_component, Choices.link_says, Choices.own_path, Choices.own_place, Choices.says, Choices.shapes_agree, declared.choices.Cause.Cause, declared.choices.Cause.TheVariants.Kind, declared.choices.Cause.TheVariants.Loop, declared.choices.Cause.TheVariants.Shape, declared.choices.Cause.TheVariants.Target, declared.choices.Choice.Choice, declared.choices.Choice.TheVariants.Alias, declared.choices.Choice.TheVariants.Bad, declared.choices.Choice.TheVariants.Masked, UndefinedLaws.decided, UndefinedLaws.itself_leads, UndefinedLaws.leads_to_itself}
 
--- a link is visible under the name o at a level, and its target, which isn't /dev/null, ends in the component t
-pub record LinkStands (s : View) (o : Name) (level : ℕ) (t : List ℕ) : Type 0 where
+-- A link is visible under the name `o` at a level, and its target, which isn't `/dev/null`, ends in the component `t`.
+pub record LinkStands (s : HostViewMap) (o : Name) (level : ℕ) (t : List ℕ) : Type 0 where
   pub target : List ℕ
-  pub there : seen_at s (own_path o level) ≡ Some (Link target)
+  pub there : viewed_at s (own_path o level) ≡ Some (Link target)
   pub no_mask : target ≢ codes "/dev/null"
   pub component : last_component target ≡ t
 
--- a link of the name o to t isn't passed over: t is a unit's name, and neither o nor the template of o
+-- A link of the name `o` to `t` isn't ignored: `t` is a unit name, and neither `o` nor the template of `o`.
 pub record IsHeeded (o t : Name) : Type 0 where
   pub name : IsName t
   pub other : t ≢ o
   pub no_template : template_of o ≢ Some t
 
--- units of these kinds have no aliases
+-- Units of these kinds have no aliases.
 abbrev pub HasNoAliases : UnitKind → Type 0
 HasNoAliases k = (k ≡ Mount) ⊎ ((k ≡ Slice) ⊎ ((k ≡ Swap) ⊎ (k ≡ Automount)))
 
--- the two are of different kinds, or the second is of one without aliases
+-- The two have different kinds, or the second has a kind without aliases.
 abbrev pub KindsClash : Name → Name → Type 0
 KindsClash o t = (kind o ≢ kind t) ⊎ ((k : UnitKind) × (kind t ≡ Some k) × HasNoAliases k)
 
--- a plain name may lead to plain names alone, a template to templates alone, and an instance to templates and to instances of its own part
+-- A plain name may only be linked to plain names, a template only to templates, and an instance to templates and to
+-- instances with the same instance part.
 pub data ShapesClash (o t : Name) : Type 0 where
   plain : shape o ≡ Plain → shape t ≢ Plain → ShapesClash o t
   template : shape o ≡ Template → shape t ≢ Template → ShapesClash o t
   instance_to_plain : shape o ≡ Instance → shape t ≡ Plain → ShapesClash o t
   other_instance : shape o ≡ Instance → shape t ≡ Instance → instance o ≢ instance t → ShapesClash o t
 
--- the link would be good, but the template t with the instance of n is over 255 bytes
+-- The link would be good, but the template `t` with the instance of `n` is over 255 bytes.
 pub record GrowsTooLong (n o t : Name) : Type 0 where
   pub heeded : IsHeeded o t
   pub kinds : KindsClash o t → ⊥
@@ -59,34 +46,36 @@ pub record GrowsTooLong (n o t : Name) : Type 0 where
   pub to_template : shape t ≡ Template
   pub long : 255 < length (instance_name (prefix t) (instance n) (suffix t))
 
--- a link is bad by its kind just where it is heeded and the kinds clash, whatever the shapes
+-- A link is bad by its kind exactly if it isn't ignored and the kinds clash, whatever the shapes.
 abbrev pub KindsMakeBad : Type 0
-KindsMakeBad = (s : View) (n o t : Name) (level : ℕ) → IsName o → LinkStands s o level t → (says s n o level ≡ Some (Bad Kind)) ↔ (IsHeeded o t × KindsClash o t)
+KindsMakeBad = (s : HostViewMap) (n o t : Name) (level : ℕ) → IsName o → LinkStands s o level t → (says s n o level ≡ Some (Bad Kind)) ↔ (IsHeeded o t × KindsClash o t)
 
--- and by its shape just where the kinds don't clash and the shapes do
+-- It is bad by its shape exactly if it isn't ignored, the kinds don't clash and the shapes do.
 abbrev pub ShapesMakeBad : Type 0
-ShapesMakeBad = (s : View) (n o t : Name) (level : ℕ) → IsName o → LinkStands s o level t → (says s n o level ≡ Some (Bad Shape)) ↔ (IsHeeded o t × (KindsClash o t → ⊥) × ShapesClash o t)
+ShapesMakeBad = (s : HostViewMap) (n o t : Name) (level : ℕ) → IsName o → LinkStands s o level t → (says s n o level ≡ Some (Bad Shape)) ↔ (IsHeeded o t × (KindsClash o t → ⊥) × ShapesClash o t)
 
--- and by its target just where that ends in no unit's name, or makes a name that is too long
+-- It is bad by its target exactly if the target doesn't end in a unit name, or makes a name that is too long.
 abbrev pub TargetsMakeBad : Type 0
-TargetsMakeBad = (s : View) (n o t : Name) (level : ℕ) → IsName n → IsName o → LinkStands s o level t → (says s n o level ≡ Some (Bad Target)) ↔ ((IsName t → ⊥) ⊎ GrowsTooLong n o t)
+TargetsMakeBad = (s : HostViewMap) (n o t : Name) (level : ℕ) → IsName n → IsName o → LinkStands s o level t → (says s n o level ≡ Some (Bad Target)) ↔ ((IsName t → ⊥) ⊎ GrowsTooLong n o t)
 
--- what a good link to t makes of n: a template with the part of the instance n, else t itself
+-- What a good link to `t` makes `n` an alias of: a template `t` with the instance part of an instance `n`, else `t`
+-- itself.
 pub data IsAliasOf (n t m : Name) : Type 0 where
   with_part : shape n ≡ Instance → shape t ≡ Template → m ≡ instance_name (prefix t) (instance n) (suffix t) → length m ≤ 255 → IsAliasOf n t m
   itself : (shape n ≡ Instance → shape t ≢ Template) → m ≡ t → IsAliasOf n t m
 
--- a link makes an alias just where it is heeded and neither the kinds nor the shapes clash
+-- A link makes an alias exactly if it isn't ignored, neither the kinds nor the shapes clash, and the alias isn't too
+-- long.
 abbrev pub GoodLinksMakeAliases : Type 0
-GoodLinksMakeAliases = (s : View) (n o t m : Name) (level : ℕ) → IsName n → IsName o → LinkStands s o level t → (says s n o level ≡ Some (Alias m)) ↔ (IsHeeded o t × (KindsClash o t → ⊥) × (ShapesClash o t → ⊥) × IsAliasOf n t m)
+GoodLinksMakeAliases = (s : HostViewMap) (n o t m : Name) (level : ℕ) → IsName n → IsName o → LinkStands s o level t → (says s n o level ≡ Some (Alias m)) ↔ (IsHeeded o t × (KindsClash o t → ⊥) × (ShapesClash o t → ⊥) × IsAliasOf n t m)
 
--- no single link is a loop
+-- No single link is a loop.
 abbrev pub NoLinkIsALoop : Type 0
-NoLinkIsALoop = (s : View) (n o t : Name) (level : ℕ) → LinkStands s o level t → says s n o level ≢ Some (Bad Loop)
+NoLinkIsALoop = (s : HostViewMap) (n o t : Name) (level : ℕ) → LinkStands s o level t → says s n o level ≢ Some (Bad Loop)
 
--- ---- the four tests in words
+-- ---- the four tests as propositions
 
-said_link : (s : View) (n o t : Name) (level : ℕ) → LinkStands s o level t → says s n o level ≡ link_says n o t
+said_link : (s : HostViewMap) (n o t : Name) (level : ℕ) → LinkStands s o level t → says s n o level ≡ link_says n o t
 said_link s n o t level k =
     ap (option_and_then (content_says n o (own_place s o level))) k.there
     ∙ by (is_null k.target) refl
@@ -131,7 +120,7 @@ has_none k (inr (inr (inr e))) = ap has_no_alias e
 pub same_kind : (k l : UnitKind) → word k ≡ word l → k ≡ l
 same_kind k l e = same_Some _ _ (sym (kind_of-word k) ∙ ap kind_of e ∙ kind_of-word l)
 
--- kinds that a test finds bad clash, and kinds that clash are found bad
+-- The test finds exactly those kinds bad that clash.
 module _ (o t : Name) (k l : UnitKind) (of_o : kind o ≡ Some k) (of_t : kind t ≡ Some l) where
   unlike : bytes_eq (word k) (word l) ≡ false → kind o ≢ kind t
   unlike e h = true≢false (sym ((bytes_eq-Decides (word k) (word l)).1 (ap word (same_Some _ _ (sym of_o ∙ h ∙ of_t)))) ∙ e)
@@ -217,7 +206,7 @@ shapes_fit o t c = by (agree o t) refl
 
 -- ---- the alias that a good link makes
 
--- what an alias that can't be made is bad by
+-- An alias that can't be made is bad by its target.
 alias_bad : (o : Option Name) (c : Cause) → alias_to o ≡ Bad c → (o ≡ None) × (c ≡ Target)
 alias_bad None c e = (refl, cc)
 alias_bad (Some m) c e = cc (e)
@@ -252,86 +241,86 @@ too_long m h = by (leb (length m) 255) refl
     by true e = absurd (let l = leb-true (length m) 255 e in omega arith)
     by false e = refl
 
--- a template's name with the part of an instance, if it is short
+-- A template with the instance part of a name, if the result isn't too long.
 with_part_is : (n t : Name) → IsName n → shape n ≡ Instance → shape t ≡ Template → with_instance t (instance n) ≡ if_short (instance_name (prefix t) (instance n) (suffix t))
 with_part_is n t h a b =
     let fit : is_instance (instance n) ≡ true = sym (ap (λ x. fits x (instance n)) a) ∙ (parts_of_names_fit n h).instance_fits in
     ap (λ x. instance_at x t (instance n)) b ∙ ap (λ x. cond x (if_short (instance_name (prefix t) (instance n) (suffix t))) None) fit
 
--- ---- what the tests that were passed say
+-- ---- what follows from the tests that were passed
 
-kind_told : (a b c d : Bool) (x : Choice) → (x ≡ Bad Kind → ⊥) → told a b c d x ≡ Some (Bad Kind) → (a ≡ true) × (b ≡ false) × (c ≡ true)
-kind_told false b c d x h e = cc (e)
-kind_told true true c d x h e = cc (e)
-kind_told true false true d x h e = (refl, refl, refl)
-kind_told true false false true x h e = absurd (h (same_Some _ _ e))
-kind_told true false false false x h e = cc (e)
+kind_decided : (a b c d : Bool) (x : Choice) → (x ≡ Bad Kind → ⊥) → decided a b c d x ≡ Some (Bad Kind) → (a ≡ true) × (b ≡ false) × (c ≡ true)
+kind_decided false b c d x h e = cc (e)
+kind_decided true true c d x h e = cc (e)
+kind_decided true false true d x h e = (refl, refl, refl)
+kind_decided true false false true x h e = absurd (h (same_Some _ _ e))
+kind_decided true false false false x h e = cc (e)
 
-shape_told : (a b c d : Bool) (x : Choice) → (x ≡ Bad Shape → ⊥) → told a b c d x ≡ Some (Bad Shape) → (a ≡ true) × (b ≡ false) × (c ≡ false) × (d ≡ false)
-shape_told false b c d x h e = cc (e)
-shape_told true true c d x h e = cc (e)
-shape_told true false true d x h e = cc (e)
-shape_told true false false true x h e = absurd (h (same_Some _ _ e))
-shape_told true false false false x h e = (refl, refl, refl, refl)
+shape_decided : (a b c d : Bool) (x : Choice) → (x ≡ Bad Shape → ⊥) → decided a b c d x ≡ Some (Bad Shape) → (a ≡ true) × (b ≡ false) × (c ≡ false) × (d ≡ false)
+shape_decided false b c d x h e = cc (e)
+shape_decided true true c d x h e = cc (e)
+shape_decided true false true d x h e = cc (e)
+shape_decided true false false true x h e = absurd (h (same_Some _ _ e))
+shape_decided true false false false x h e = (refl, refl, refl, refl)
 
 abbrev IsLast : Bool → Bool → Bool → Bool → Choice → Type 0
 IsLast a b c d x = (a ≡ true) × (b ≡ false) × (c ≡ false) × (d ≡ true) × (x ≡ Bad Target)
 
-target_told : (a b c d : Bool) (x : Choice) → told a b c d x ≡ Some (Bad Target) → (a ≡ false) ⊎ IsLast a b c d x
-target_told false b c d x e = inl refl
-target_told true true c d x e = cc (e)
-target_told true false true d x e = cc (e)
-target_told true false false true x e = inr (refl, refl, refl, refl, same_Some _ _ e)
-target_told true false false false x e = cc (e)
+target_decided : (a b c d : Bool) (x : Choice) → decided a b c d x ≡ Some (Bad Target) → (a ≡ false) ⊎ IsLast a b c d x
+target_decided false b c d x e = inl refl
+target_decided true true c d x e = cc (e)
+target_decided true false true d x e = cc (e)
+target_decided true false false true x e = inr (refl, refl, refl, refl, same_Some _ _ e)
+target_decided true false false false x e = cc (e)
 
-loop_told : (a b c d : Bool) (x : Choice) → (x ≡ Bad Loop → ⊥) → told a b c d x ≡ Some (Bad Loop) → ⊥
-loop_told false b c d x h e = cc (e)
-loop_told true true c d x h e = cc (e)
-loop_told true false true d x h e = cc (e)
-loop_told true false false true x h e = h (same_Some _ _ e)
-loop_told true false false false x h e = cc (e)
+loop_decided : (a b c d : Bool) (x : Choice) → (x ≡ Bad Loop → ⊥) → decided a b c d x ≡ Some (Bad Loop) → ⊥
+loop_decided false b c d x h e = cc (e)
+loop_decided true true c d x h e = cc (e)
+loop_decided true false true d x h e = cc (e)
+loop_decided true false false true x h e = h (same_Some _ _ e)
+loop_decided true false false false x h e = cc (e)
 
-abbrev all_told : Name → Name → Name → Option Choice
-all_told n o t = told (is_name t) (is_self o t) (is_bad_kind (kind o) (kind t)) (agree o t) (alias_of (shape n) n (shape t) t)
+abbrev all_decided : Name → Name → Name → Option Choice
+all_decided n o t = decided (is_name t) (is_self o t) (is_bad_kind (kind o) (kind t)) (agree o t) (alias_of (shape n) n (shape t) t)
 
-told_by : (a b c d e f g h : Bool) (x : Choice) → a ≡ e → b ≡ f → c ≡ g → d ≡ h → told a b c d x ≡ told e f g h x
-told_by a b c d e f g h x p q r s = cc
+decided_by : (a b c d e f g h : Bool) (x : Choice) → a ≡ e → b ≡ f → c ≡ g → d ≡ h → decided a b c d x ≡ decided e f g h x
+decided_by a b c d e f g h x p q r s = cc
 
 pub kinds_make_bad : KindsMakeBad
-kinds_make_bad s n o t level lawful stands = (there, back)
+kinds_make_bad s n o t level well_formed stands = (there, back)
   where
     there : says s n o level ≡ Some (Bad Kind) → IsHeeded o t × KindsClash o t
     there h =
-        let k = kind_told (is_name t) (is_self o t) (is_bad_kind (kind o) (kind t)) (agree o t) (alias_of (shape n) n (shape t) t) (λ e. cc ((unmade n t Kind e).cause)) (sym (said_link s n o t level stands) ∙ h) in
-        (heeded o t k.0 k.1, kinds_clash o t lawful k.0 k.2)
+        let k = kind_decided (is_name t) (is_self o t) (is_bad_kind (kind o) (kind t)) (agree o t) (alias_of (shape n) n (shape t) t) (λ e. cc ((unmade n t Kind e).cause)) (sym (said_link s n o t level stands) ∙ h) in
+        (heeded o t k.0 k.1, kinds_clash o t well_formed k.0 k.2)
 
     back : IsHeeded o t × KindsClash o t → says s n o level ≡ Some (Bad Kind)
     back (k, c) =
         said_link s n o t level stands
-        ∙ told_by (is_name t) (is_self o t) (is_bad_kind (kind o) (kind t)) (agree o t) true false true (agree o t) (alias_of (shape n) n (shape t) t) k.name (is_heeded o t k) (are_bad_kinds o t lawful k.name c) refl
+        ∙ decided_by (is_name t) (is_self o t) (is_bad_kind (kind o) (kind t)) (agree o t) true false true (agree o t) (alias_of (shape n) n (shape t) t) k.name (is_heeded o t k) (are_bad_kinds o t well_formed k.name c) refl
 
 pub shapes_make_bad : ShapesMakeBad
-shapes_make_bad s n o t level lawful stands = (there, back)
+shapes_make_bad s n o t level well_formed stands = (there, back)
   where
     there : says s n o level ≡ Some (Bad Shape) → IsHeeded o t × (KindsClash o t → ⊥) × ShapesClash o t
     there h =
-        let k = shape_told (is_name t) (is_self o t) (is_bad_kind (kind o) (kind t)) (agree o t) (alias_of (shape n) n (shape t) t) (λ e. cc ((unmade n t Shape e).cause)) (sym (said_link s n o t level stands) ∙ h) in
-        (heeded o t k.0 k.1, no_clash o t lawful k.0 k.2, shapes_clash o t k.3)
+        let k = shape_decided (is_name t) (is_self o t) (is_bad_kind (kind o) (kind t)) (agree o t) (alias_of (shape n) n (shape t) t) (λ e. cc ((unmade n t Shape e).cause)) (sym (said_link s n o t level stands) ∙ h) in
+        (heeded o t k.0 k.1, no_clash o t well_formed k.0 k.2, shapes_clash o t k.3)
 
     back : IsHeeded o t × (KindsClash o t → ⊥) × ShapesClash o t → says s n o level ≡ Some (Bad Shape)
     back (k, c, d) =
         said_link s n o t level stands
-        ∙ told_by (is_name t) (is_self o t) (is_bad_kind (kind o) (kind t)) (agree o t) true false false false (alias_of (shape n) n (shape t) t) k.name (is_heeded o t k) (kinds_fit o t lawful k.name c) (shapes_differ o t d)
+        ∙ decided_by (is_name t) (is_self o t) (is_bad_kind (kind o) (kind t)) (agree o t) true false false false (alias_of (shape n) n (shape t) t) k.name (is_heeded o t k) (kinds_fit o t well_formed k.name c) (shapes_differ o t d)
 
 pub targets_make_bad : TargetsMakeBad
-targets_make_bad s n o t level named lawful stands = (there, back)
+targets_make_bad s n o t level named well_formed stands = (there, back)
   where
     grown : IsLast (is_name t) (is_self o t) (is_bad_kind (kind o) (kind t)) (agree o t) (alias_of (shape n) n (shape t) t) → GrowsTooLong n o t
     grown k =
         let u = unmade n t Target k.4 in
         record {
           heeded = heeded o t k.0 k.1;
-          kinds = no_clash o t lawful k.0 k.2;
+          kinds = no_clash o t well_formed k.0 k.2;
           shapes = λ c. true≢false (sym k.3 ∙ shapes_differ o t c);
           of_instance = u.of_instance;
           to_template = u.to_template;
@@ -343,40 +332,40 @@ targets_make_bad s n o t level named lawful stands = (there, back)
     pick (inr k) = inr (grown k)
 
     there : says s n o level ≡ Some (Bad Target) → (IsName t → ⊥) ⊎ GrowsTooLong n o t
-    there h = pick (target_told (is_name t) (is_self o t) (is_bad_kind (kind o) (kind t)) (agree o t) (alias_of (shape n) n (shape t) t) (sym (said_link s n o t level stands) ∙ h))
+    there h = pick (target_decided (is_name t) (is_self o t) (is_bad_kind (kind o) (kind t)) (agree o t) (alias_of (shape n) n (shape t) t) (sym (said_link s n o t level stands) ∙ h))
 
     back : (IsName t → ⊥) ⊎ GrowsTooLong n o t → says s n o level ≡ Some (Bad Target)
     back (inl h) =
         said_link s n o t level stands
-        ∙ told_by (is_name t) (is_self o t) (is_bad_kind (kind o) (kind t)) (agree o t) false (is_self o t) (is_bad_kind (kind o) (kind t)) (agree o t) (alias_of (shape n) n (shape t) t) (false_from_ne_true (is_name t) h) refl refl refl
+        ∙ decided_by (is_name t) (is_self o t) (is_bad_kind (kind o) (kind t)) (agree o t) false (is_self o t) (is_bad_kind (kind o) (kind t)) (agree o t) (alias_of (shape n) n (shape t) t) (false_from_ne_true (is_name t) h) refl refl refl
     back (inr k) =
         said_link s n o t level stands
-        ∙ told_by (is_name t) (is_self o t) (is_bad_kind (kind o) (kind t)) (agree o t) true false false true (alias_of (shape n) n (shape t) t) k.heeded.name (is_heeded o t k.heeded) (kinds_fit o t lawful k.heeded.name k.kinds) (shapes_fit o t k.shapes)
+        ∙ decided_by (is_name t) (is_self o t) (is_bad_kind (kind o) (kind t)) (agree o t) true false false true (alias_of (shape n) n (shape t) t) k.heeded.name (is_heeded o t k.heeded) (kinds_fit o t well_formed k.heeded.name k.kinds) (shapes_fit o t k.shapes)
         ∙ ap (λ x. Some (alias_of x n (shape t) t)) k.of_instance
         ∙ ap (λ x. Some (alias_of Instance n x t)) k.to_template
         ∙ ap (λ m. Some (alias_to m)) (with_part_is n t named k.of_instance k.to_template ∙ too_long _ k.long)
 
 pub no_link_is_a_loop : NoLinkIsALoop
 no_link_is_a_loop s n o t level stands h =
-    loop_told (is_name t) (is_self o t) (is_bad_kind (kind o) (kind t)) (agree o t) (alias_of (shape n) n (shape t) t) (λ e. cc ((unmade n t Loop e).cause)) (sym (said_link s n o t level stands) ∙ h)
+    loop_decided (is_name t) (is_self o t) (is_bad_kind (kind o) (kind t)) (agree o t) (alias_of (shape n) n (shape t) t) (λ e. cc ((unmade n t Loop e).cause)) (sym (said_link s n o t level stands) ∙ h)
 
 -- ---- good links
 
 abbrev IsGood : Bool → Bool → Bool → Bool → Choice → Name → Type 0
 IsGood a b c d x m = (a ≡ true) × (b ≡ false) × (c ≡ false) × (d ≡ true) × (x ≡ Alias m)
 
-alias_told : (a b c d : Bool) (x : Choice) (m : Name) → told a b c d x ≡ Some (Alias m) → IsGood a b c d x m
-alias_told false b c d x m e = cc (e)
-alias_told true true c d x m e = cc (e)
-alias_told true false true d x m e = cc (e)
-alias_told true false false true x m e = (refl, refl, refl, refl, same_Some _ _ e)
-alias_told true false false false x m e = cc (e)
+alias_decided : (a b c d : Bool) (x : Choice) (m : Name) → decided a b c d x ≡ Some (Alias m) → IsGood a b c d x m
+alias_decided false b c d x m e = cc (e)
+alias_decided true true c d x m e = cc (e)
+alias_decided true false true d x m e = cc (e)
+alias_decided true false false true x m e = (refl, refl, refl, refl, same_Some _ _ e)
+alias_decided true false false false x m e = cc (e)
 
 to_name : (o : Option Name) (m : Name) → alias_to o ≡ Alias m → o ≡ Some m
 to_name None m e = cc (e)
 to_name (Some x) m e = cc (e)
 
--- the alias that is made, in words
+-- The alias that is made, as a proposition.
 made_alias : (n t m : Name) → IsName n → alias_of (shape n) n (shape t) t ≡ Alias m → IsAliasOf n t m
 made_alias n t m h e = by (shape n) (shape t) refl refl e
   where
@@ -406,15 +395,15 @@ alias_made n t m h (itself d e) = by (shape n) (shape t) refl refl
     by Instance Instance a b = ap (λ x. Alias x) (sym e)
 
 pub good_links_make_aliases : GoodLinksMakeAliases
-good_links_make_aliases s n o t m level named lawful stands = (there, back)
+good_links_make_aliases s n o t m level named well_formed stands = (there, back)
   where
     there : says s n o level ≡ Some (Alias m) → IsHeeded o t × (KindsClash o t → ⊥) × (ShapesClash o t → ⊥) × IsAliasOf n t m
     there h =
-        let k = alias_told (is_name t) (is_self o t) (is_bad_kind (kind o) (kind t)) (agree o t) (alias_of (shape n) n (shape t) t) m (sym (said_link s n o t level stands) ∙ h) in
-        (heeded o t k.0 k.1, no_clash o t lawful k.0 k.2, λ c. true≢false (sym k.3 ∙ shapes_differ o t c), made_alias n t m named k.4)
+        let k = alias_decided (is_name t) (is_self o t) (is_bad_kind (kind o) (kind t)) (agree o t) (alias_of (shape n) n (shape t) t) m (sym (said_link s n o t level stands) ∙ h) in
+        (heeded o t k.0 k.1, no_clash o t well_formed k.0 k.2, λ c. true≢false (sym k.3 ∙ shapes_differ o t c), made_alias n t m named k.4)
 
     back : IsHeeded o t × (KindsClash o t → ⊥) × (ShapesClash o t → ⊥) × IsAliasOf n t m → says s n o level ≡ Some (Alias m)
     back (k, c, d, a) =
         said_link s n o t level stands
-        ∙ told_by (is_name t) (is_self o t) (is_bad_kind (kind o) (kind t)) (agree o t) true false false true (alias_of (shape n) n (shape t) t) k.name (is_heeded o t k) (kinds_fit o t lawful k.name c) (shapes_fit o t d)
+        ∙ decided_by (is_name t) (is_self o t) (is_bad_kind (kind o) (kind t)) (agree o t) true false false true (alias_of (shape n) n (shape t) t) k.name (is_heeded o t k) (kinds_fit o t well_formed k.name c) (shapes_fit o t d)
         ∙ ap (λ x. Some x) (alias_made n t m named a)

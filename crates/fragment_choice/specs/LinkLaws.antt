@@ -1,45 +1,27 @@
 -- Laws of links: where aliases come from, and what an instance keeps along them.
-use Rattle.std.proofs.Common.{◌≡◌, ℕ, Bool, true, false, cond, Option, Some, None, List, [], ◌∷◌, refl, ap, sym, ◌∙◌, subst, unwrap_or, ◌⊎◌, inl, inr}
-use Rattle.std.specs.Option.{option_and_then, option_or}
+use Rattle.std.proofs.Common.{[], ◌∙◌, ◌∷◌, ◌≡◌, ◌⊎◌, ap, Bool, cond, false, inl, inr, List, None, Option, refl, Some, subst, sym, true, unwrap_or, ℕ}
+use Rattle.std.proofs.lemmas.Option.{none-some, same_Some}
 use Rattle.std.proofs.lemmas.Slice.Eq.{bytes_eq-Decides}
-use Rattle.std.proofs.lemmas.Option.{same_Some, none-some}
-use Rattle.edit_sums.specs.declared.contents.Content.{Content}
-use Rattle.edit_sums.specs.declared.contents.Content.TheVariants.{Gone, Link, File}
-use Rattle.path_maps.specs.Views.{View, seen_at}
-use Rattle.unit_name.specs.declared.names.Shape.{Shape as UnitShape}
-use Rattle.unit_name.specs.declared.names.Shape.TheVariants.{Plain, Template, Instance}
-use Rattle.unit_name.specs.Names.{Name, IsName, is_name, kind, shape, instance}
-use Rattle.unit_name.specs.Forms.{template_at, template_of, with_instance}
-use Rattle.unit_name.specs.NameLaws.{instances_have_the_template, templates_keep_parts}
-use Rattle.load_places.specs.Levels.{IsLevel}
-use Rattle.load_places.specs.LevelLaws.{said_by}
-use Rattle.fragment_choice.specs.declared.choices.Choice.{Choice}
-use Rattle.fragment_choice.specs.declared.choices.Choice.TheVariants.{NotFound, Masked, Fragment, Alias, Bad}
-use Rattle.fragment_choice.specs.declared.choices.Cause.TheVariants.{Kind, Shape, Target}
-use Rattle.fragment_choice.specs.declared.resolutions.Resolution.{Resolution}
-use Rattle.fragment_choice.specs.Choices.{alias_of, alias_to, content_says, is_bad_kind, is_null, is_self, last_component, link_says, own_choice, own_path, own_place, says, shapes_agree, target_says}
-use Rattle.fragment_choice.specs.Resolutions.{Chain, Leads, Resolves, main, resolution}
-use Rattle.fragment_choice.specs.Resolutions.Chain.{here, step}
-use Rattle.fragment_choice.specs.Resolutions.Resolves.{ends_at, goes_on}
-use Rattle.fragment_choice.specs.ResolutionLaws.{resolution_resolves}
-use Rattle.fragment_choice.specs.LinkedNames.{is_link, IsLinkedAt}
+use Rattle.std.specs.Option.{option_and_then, option_or}
+use Rattle.fragment_choice.specs.Prelude.{Content, File, Gone, HostViewMap, Instance, instance, instances_have_the_template, is_name, IsLevel, IsName, kind, Link, Name, Plain, said_by, shape, Template, template_at, template_of, templates_keep_parts, UnitShape, viewed_at, with_instance}
+use Rattle.fragment_choice.specs.{Choices.alias_of, Choices.alias_to, Choices.content_says, Choices.is_bad_kind, Choices.is_null, Choices.is_self, Choices.last_component, Choices.link_says, Choices.own_choice, Choices.own_path, Choices.own_place, Choices.says, Choices.shapes_agree, Choices.target_says, declared.choices.Cause.TheVariants.Kind, declared.choices.Cause.TheVariants.Shape, declared.choices.Cause.TheVariants.Target, declared.choices.Choice.Choice, declared.choices.Choice.TheVariants.Alias, declared.choices.Choice.TheVariants.Bad, declared.choices.Choice.TheVariants.Fragment, declared.choices.Choice.TheVariants.Masked, declared.choices.Choice.TheVariants.NotFound, declared.resolutions.Resolution.Resolution, LinkedNames.is_link, LinkedNames.IsLinkedAt, ResolutionLaws.resolution_resolves, Resolutions.Chain, Resolutions.Chain.here, Resolutions.Chain.step, Resolutions.Leads, Resolutions.main, Resolutions.resolution, Resolutions.Resolves, Resolutions.Resolves.ends_at, Resolutions.Resolves.goes_on}
 
--- a name that is an alias has a visible link of its own name or of its template's
+-- A name that is an alias has a visible link of its own or of its template.
 abbrev pub AliasesHaveLinks : Type 0
-AliasesHaveLinks = (s : View) (n m : Name) → Leads s n m → (level : ℕ) × IsLevel level × IsLinkedAt s level n
+AliasesHaveLinks = (s : HostViewMap) (n m : Name) → Leads s n m → (level : ℕ) × IsLevel level × IsLinkedAt s level n
 
--- an instance's main name is an instance too, of the same instance part
+-- The main name of an instance is an instance with the same instance part.
 abbrev pub InstancesKeepTheirPart : Type 0
-InstancesKeepTheirPart = (s : View) (n : Name) → IsName n → shape n ≡ Instance → IsName (main s n) × (shape (main s n) ≡ Instance) × (instance (main s n) ≡ instance n)
+InstancesKeepTheirPart = (s : HostViewMap) (n : Name) → IsName n → shape n ≡ Instance → IsName (main s n) × (shape (main s n) ≡ Instance) × (instance (main s n) ≡ instance n)
 
--- the link that made a name an alias
-pub record ByLink (s : View) (n o m : Name) : Type 0 where
+-- The link that made a name an alias.
+pub record ByLink (s : HostViewMap) (n o m : Name) : Type 0 where
   pub level : ℕ
   pub within : IsLevel level
   pub target : List ℕ
-  pub there : seen_at s (own_path o level) ≡ Some (Link target)
+  pub there : viewed_at s (own_path o level) ≡ Some (Link target)
   pub said : target_says n o (last_component target) ≡ Some (Alias m)
-  pub lawful : IsName (last_component target)
+  pub well_formed : IsName (last_component target)
 
 null_or : (b : Bool) (n o t m : Name) → cond b (Some Masked) (link_says n o t) ≡ Some (Alias m) → IsName t × (target_says n o t ≡ Some (Alias m))
 null_or true n o t m h = cc (h)
@@ -49,22 +31,22 @@ null_or false n o t m h = by (is_name t) refl h
     by true e k = (e, k)
     by false e k = cc (k)
 
-by_link : (s : View) (n o m : Name) (r : ℕ) → IsLevel r → (v : Option Content) → seen_at s (own_path o r) ≡ v → option_and_then (content_says n o (own_place s o r)) v ≡ Some (Alias m) → ByLink s n o m
+by_link : (s : HostViewMap) (n o m : Name) (r : ℕ) → IsLevel r → (v : Option Content) → viewed_at s (own_path o r) ≡ v → option_and_then (content_says n o (own_place s o r)) v ≡ Some (Alias m) → ByLink s n o m
 by_link s n o m r within None e h = cc (h)
 by_link s n o m r within (Some Gone) e h = cc (h)
 by_link s n o m r within (Some (File [])) e h = cc (h)
 by_link s n o m r within (Some (File (b ∷ bs))) e h = cc (h)
 by_link s n o m r within (Some (Link t)) e h =
     let k = null_or (is_null t) n o (last_component t) m h in
-    record { level = r; within = within; target = t; there = e; said = k.1; lawful = k.0 }
+    record { level = r; within = within; target = t; there = e; said = k.1; well_formed = k.0 }
 
-pub own_link : (s : View) (n o m : Name) → own_choice s n o ≡ Some (Alias m) → ByLink s n o m
+pub own_link : (s : HostViewMap) (n o m : Name) → own_choice s n o ≡ Some (Alias m) → ByLink s n o m
 own_link s n o m h =
     let w = said_by (says s n o) (Alias m) h in
-    by_link s n o m w.0 w.1 (seen_at s (own_path o w.0)) refl w.2
+    by_link s n o m w.0 w.1 (viewed_at s (own_path o w.0)) refl w.2
 
--- the link's name is the name's own, or its template's
-pub record HasLink (s : View) (n m : Name) : Type 0 where
+-- The link belongs to the name itself or to its template.
+pub record HasLink (s : HostViewMap) (n m : Name) : Type 0 where
   pub owner : Name
   pub owns : (owner ≡ n) ⊎ (template_of n ≡ Some owner)
   pub link : ByLink s n owner m
@@ -73,7 +55,7 @@ pub alias_said : (c : Option Choice) (m : Name) → unwrap_or c NotFound ≡ Ali
 alias_said None m h = cc (h)
 alias_said (Some c) m h = ap (λ x. Some x) h
 
-pub has_link : (s : View) (n m : Name) → Leads s n m → HasLink s n m
+pub has_link : (s : HostViewMap) (n m : Name) → Leads s n m → HasLink s n m
 has_link s n m h = by_own (own_choice s n n) refl h
   where
     by_template : (t : Option Name) → template_of n ≡ t → unwrap_or (option_and_then (own_choice s n) t) NotFound ≡ Alias m → HasLink s n m
@@ -89,7 +71,7 @@ aliases_have_links s n m h =
     let l = has_link s n m h in
     (l.link.level, l.link.within, (l.owner, record { link = ap is_link l.link.there; owner = l.owns }))
 
--- what a link that makes an alias has passed
+-- The tests that a link passes if it makes an alias.
 pub record IsPassed (n o t m : Name) : Type 0 where
   pub kinds : is_bad_kind (kind o) (kind t) ≡ false
   pub agree : shapes_agree (shape o) (instance o) (shape t) (instance t) ≡ true
@@ -110,7 +92,7 @@ passed n o t m h = by_self (is_self o t) h
     by_self true k = cc (k)
     by_self false k = by_kind (is_bad_kind (kind o) (kind t)) refl k
 
--- an instance with this instance part
+-- An instance with this instance part.
 pub record IsInstance (i n : Name) : Type 0 where
   pub name : IsName n
   pub shape_is : shape n ≡ Instance
@@ -121,7 +103,7 @@ has_template Plain n t h = absurd (none-some _ h)
 has_template Template n t h = absurd (none-some _ h)
 has_template Instance n t h = refl
 
--- the owner of an instance's link is that instance, or a template
+-- The owner of an instance's link is that instance, or a template.
 owner_shape : (n o : Name) → IsName n → shape n ≡ Instance → (o ≡ n) ⊎ (template_of n ≡ Some o) → ((shape o ≡ Instance) × (instance o ≡ instance n)) ⊎ (shape o ≡ Template)
 owner_shape n o h e (inl q) = inl (ap shape q ∙ e, ap instance q)
 owner_shape n o h e (inr q) = inr (templates_keep_parts n o h q).2.shape_is
@@ -141,7 +123,7 @@ pub alias_same : (t m : Name) → Alias t ≡ Alias m → t ≡ m
 alias_same t m h = same_Some _ _ (template_alias (Some t) m h)
 
 keeps : (n o t m : Name) → IsName n → shape n ≡ Instance → IsName t → ((shape o ≡ Instance) × (instance o ≡ instance n)) ⊎ (shape o ≡ Template) → IsPassed n o t m → IsInstance (instance n) m
-keeps n o t m h e lawful owner p =
+keeps n o t m h e well_formed owner p =
     by (shape t) refl owner (sym (ap (λ x. alias_of x n (shape t) t) e) ∙ p.alias) p.agree
   where
     agreed : (x y : UnitShape) → shape o ≡ x → shape t ≡ y → shapes_agree (shape o) (instance o) (shape t) (instance t) ≡ true → shapes_agree x (instance o) y (instance t) ≡ true
@@ -150,7 +132,7 @@ keeps n o t m h e lawful owner p =
     of_template : shape t ≡ Template → alias_of Instance n (shape t) t ≡ Alias m → IsInstance (instance n) m
     of_template q k =
         let some = template_alias (with_instance t (instance n)) m (sym (ap (λ z. alias_of Instance n z t) q) ∙ k) in
-        let all = (instances_have_the_template t (instance n) m lawful).0 some in
+        let all = (instances_have_the_template t (instance n) m well_formed).0 some in
         record { name = all.0; shape_is = has_template (shape m) m t all.1; part = all.2 }
 
     by : (y : UnitShape) → shape t ≡ y → ((shape o ≡ Instance) × (instance o ≡ instance n)) ⊎ (shape o ≡ Template) → alias_of Instance n (shape t) t ≡ Alias m → shapes_agree (shape o) (instance o) (shape t) (instance t) ≡ true → IsInstance (instance n) m
@@ -161,22 +143,22 @@ keeps n o t m h e lawful owner p =
     by Instance q (inl (a, i)) k g =
         let parts : instance o ≡ instance t = (bytes_eq-Decides (instance o) (instance t)).0 (agreed Instance Instance a q g) in
         let same : t ≡ m = alias_same t m (sym (ap (λ z. alias_of Instance n z t) q) ∙ k) in
-        record { name = subst IsName same lawful; shape_is = sym (ap shape same) ∙ q; part = sym (ap instance same) ∙ sym parts ∙ i }
+        record { name = subst IsName same well_formed; shape_is = sym (ap shape same) ∙ q; part = sym (ap instance same) ∙ sym parts ∙ i }
     by Instance q (inr a) k g = cc (agreed Template Instance a q g)
 
--- an instance's alias is an instance of the same part
-pub alias_keeps : (s : View) (i n m : Name) → Leads s n m → IsInstance i n → IsInstance i m
+-- What an instance is an alias of is an instance with the same instance part.
+pub alias_keeps : (s : HostViewMap) (i n m : Name) → Leads s n m → IsInstance i n → IsInstance i m
 alias_keeps s i n m h k =
     let l = has_link s n m h in
     let p = passed n l.owner (last_component l.link.target) m l.link.said in
-    let r = keeps n l.owner (last_component l.link.target) m k.name k.shape_is l.link.lawful (owner_shape n l.owner k.name k.shape_is l.owns) p in
+    let r = keeps n l.owner (last_component l.link.target) m k.name k.shape_is l.link.well_formed (owner_shape n l.owner k.name k.shape_is l.owns) p in
     record { name = r.name; shape_is = r.shape_is; part = r.part ∙ k.part }
 
-chain_keeps : (s : View) (i n u : Name) (d : ℕ) → Chain s d n u → IsInstance i n → IsInstance i u
+chain_keeps : (s : HostViewMap) (i n u : Name) (d : ℕ) → Chain s d n u → IsInstance i n → IsInstance i u
 chain_keeps s i n u d (here _) k = k
 chain_keeps s i n u d (step _ m _ e l rest) k = chain_keeps s i m u e rest (alias_keeps s i n m l k)
 
-resolves_keeps : (s : View) (i n : Name) (r : Resolution) → Resolves s n r → IsInstance i n → IsInstance i r.main
+resolves_keeps : (s : HostViewMap) (i n : Name) (r : Resolution) → Resolves s n r → IsInstance i n → IsInstance i r.main
 resolves_keeps s i n r (ends_at d u le chain ends) k = chain_keeps s i n u d chain k
 resolves_keeps s i n r (goes_on u chain) k = k
 

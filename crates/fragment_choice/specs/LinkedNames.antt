@@ -1,14 +1,10 @@
 -- The names that links give to a unit.
 -- Source: systemd.unit(5), "Description".
-use Rattle.std.specs.Prelude.{◌≡◌, ℕ, Bool, true, false, Option, Some, None, List, ◌⊎◌, IsTrue, if◌then◌else◌}
-use Rattle.edit_sums.specs.declared.contents.Content.{Content}
-use Rattle.edit_sums.specs.declared.contents.Content.TheVariants.{Gone, Link, File}
-use Rattle.path_maps.specs.Views.{View, seen_at}
-use Rattle.unit_name.specs.Names.{Name, is_name}
-use Rattle.unit_name.specs.Forms.{template_of}
+use Rattle.std.proofs.Common.{◌≡◌, ◌⊎◌, Bool, false, if◌then◌else◌, IsTrue, List, None, Option, Some, true, ℕ}
+use Rattle.fragment_choice.specs.Prelude.{Content, File, Gone, HostViewMap, is_name, Link, Name, template_of, viewed_at}
 use Rattle.fragment_choice.specs.Choices.{own_path}
 
--- the unit name that these bytes are
+-- The unit name that these bytes are, if they are one.
 abbrev pub unit_of : List ℕ → Option Name
 unit_of b = if is_name b then Some b else None
 
@@ -18,11 +14,11 @@ is_link (Some Gone) = false
 is_link (Some (Link target)) = true
 is_link (Some (File bytes)) = false
 
--- n or its template is o, and at this level a visible link has this name
-pub record IsLinkedBy (s : View) (level : ℕ) (o n : Name) : Type 0 where
-  pub link : IsTrue (is_link (seen_at s (own_path o level)))
+-- `o` is `n` or its template, and a visible link at this level has the name `o`.
+pub record IsLinkedBy (s : HostViewMap) (level : ℕ) (o n : Name) : Type 0 where
+  pub link : IsTrue (is_link (viewed_at s (own_path o level)))
   pub owner : (o ≡ n) ⊎ (template_of n ≡ Some o)
 
--- a link at this level gives the name n
-abbrev pub IsLinkedAt : View → ℕ → Name → Type 0
+-- A link at this level gives the name `n`.
+abbrev pub IsLinkedAt : HostViewMap → ℕ → Name → Type 0
 IsLinkedAt s level n = (o : Name) × IsLinkedBy s level o n

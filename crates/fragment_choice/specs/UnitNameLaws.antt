@@ -1,28 +1,24 @@
 -- Laws of the names of units.
-use Rattle.std.proofs.Common.{◌≡◌, ap, sym, ◌∙◌, subst, ◌∷◌, inl, inr, List}
+use Rattle.std.proofs.Common.{◌∙◌, ◌∷◌, ◌≡◌, ap, inl, inr, List, subst, sym}
 use Rattle.std.specs.Cmp.Lexicographic.{nat_list_cmp_total}
-use Rattle.list_laws.specs.Members.{IsAmong}
-use Rattle.list_laws.specs.Rising.{one_rising_list}
-use Rattle.path_maps.specs.Views.{View}
-use Rattle.unit_name.specs.Names.{Name, name_cmp}
-use Rattle.fragment_choice.specs.Resolutions.{main}
-use Rattle.fragment_choice.specs.UnitNames.{AreNames}
+use Rattle.fragment_choice.specs.Prelude.{HostViewMap, IsAmong, Name, name_cmp, one_ascending_list}
+use Rattle.fragment_choice.specs.{Resolutions.main, UnitNames.AreNames}
 
--- each name of a unit has the unit as its main
+-- Each name of a unit has the unit as its main name.
 abbrev pub NamesHaveTheMain : Type 0
-NamesHaveTheMain = (s : View) (u n : Name) (names : List Name) → main s u ≡ u → AreNames s u names → IsAmong n names → main s n ≡ u
+NamesHaveTheMain = (s : HostViewMap) (u n : Name) (names : List Name) → main s u ≡ u → AreNames s u names → IsAmong n names → main s n ≡ u
 
--- the names of two units don't meet: units that share a name are one
+-- Two units have no name in common: units that share a name are the same unit.
 abbrev pub NamesDontMeet : Type 0
-NamesDontMeet = (s : View) (u v n : Name) (names others : List Name) → main s u ≡ u → main s v ≡ v → AreNames s u names → AreNames s v others → IsAmong n names → IsAmong n others → u ≡ v
+NamesDontMeet = (s : HostViewMap) (u v n : Name) (names others : List Name) → main s u ≡ u → main s v ≡ v → AreNames s u names → AreNames s v others → IsAmong n names → IsAmong n others → u ≡ v
 
--- a unit has one list of names
+-- A unit has only one list of names.
 abbrev pub OneListOfNames : Type 0
-OneListOfNames = (s : View) (u : Name) (names others : List Name) → AreNames s u names → AreNames s u others → names ≡ others
+OneListOfNames = (s : HostViewMap) (u : Name) (names others : List Name) → AreNames s u names → AreNames s u others → names ≡ others
 
--- where each name has the same main in two stores, a unit has the same names in both
+-- If each name has the same main name in two views, a unit has the same names in both.
 abbrev pub MainsDecide : Type 0
-MainsDecide = (s t : View) → ((n : Name) → main s n ≡ main t n) → (u : Name) (names : List Name) → AreNames s u names → AreNames t u names
+MainsDecide = (s t : HostViewMap) → ((n : Name) → main s n ≡ main t n) → (u : Name) (names : List Name) → AreNames s u names → AreNames t u names
 
 pub names_have_the_main : NamesHaveTheMain
 names_have_the_main s u n names own are h = by (subst (IsAmong n) are.first h)
@@ -37,13 +33,13 @@ names_dont_meet s u v n names others own other a b h k =
 
 pub one_list_of_names : OneListOfNames
 one_list_of_names s u names others a b =
-    a.first ∙ ap (λ ns. u ∷ ns) (one_rising_list name_cmp nat_list_cmp_total a.others b.others a.rising b.rising (λ n. (λ h. (b.exact n).1 ((a.exact n).0 h), λ h. (a.exact n).1 ((b.exact n).0 h)))) ∙ sym b.first
+    a.first ∙ ap (λ ns. u ∷ ns) (one_ascending_list name_cmp nat_list_cmp_total a.others b.others a.ascending b.ascending (λ n. (λ h. (b.exact n).1 ((a.exact n).0 h), λ h. (a.exact n).1 ((b.exact n).0 h)))) ∙ sym b.first
 
 pub mains_decide : MainsDecide
 mains_decide s t same u names are = record {
   others = are.others;
   first = are.first;
-  rising = are.rising;
+  ascending = are.ascending;
   exact = λ n. (
     λ h. (let o = (are.exact n).0 h in record { other = o.other; name = o.name; main_is = sym (same n) ∙ o.main_is }),
     λ o. (are.exact n).1 (record { other = o.other; name = o.name; main_is = same n ∙ o.main_is }),

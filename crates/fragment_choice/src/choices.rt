@@ -1,34 +1,34 @@
 //! The choice of a unit's main file.
 ghost use Rattle.std.specs.{Prelude.{◌≡◌, IfOk}, Option.{option_copied}};
-ghost use Rattle.path_maps.specs.Views.{View, seen_place, view_of};
+ghost use Rattle.path_maps.specs.HostViews.{HostViewMap, viewed_place, host_view_of};
 ghost use Rattle.unit_name.specs.Names.{IsName};
 ghost use Rattle.fragment_choice.specs.{Choices.{choice, own_choice, says, content_says, link_says}, Indexes.{template_choice}};
 
 use crate::links::{last_component, target_says};
 use load_places::LEVELS;
-use replica_store::{Content, HostName, Place, Seen, SeenEntry, Store};
+use replica_store::{Content, HostName, HostView, HostViewEntry, Place, Store};
 use std::alloc::{AllocError, Global};
 use thiserror::Error;
 use unit_name::{NameFault, UnitName};
 
-/// Why a unit is bad. `Loop` comes from `resolve` alone, the others from a link.
+/// Why a unit is bad. Only `resolve` gives `Loop`; the other causes come from a link.
 #[derive(Clone, Copy, Debug, PartialEq, Eq, Error)]
 pub enum Cause {
-    /// B1: the link's name and its target are of different kinds, or of one without aliases.
+    /// B1: the link's name and its target have different kinds, or a kind without aliases.
     #[error("B1 Kind")]
     Kind,
-    /// B2: one is plain, a template or an instance where the other may not be.
+    /// B2: the shapes of the link's name and of its target (plain, template or instance) don't agree.
     #[error("B2 Shape")]
     Shape,
     /// B3: more than eight aliases follow one another.
     #[error("B3 Loop")]
     Loop,
-    /// B4: the target's last component is no unit name, or makes one that is too long.
+    /// B4: the target's last component is no unit name, or makes a name that is too long.
     #[error("B4 Target")]
     Target,
 }
 
-/// What stands for a unit.
+/// What the load path gives for a unit name.
 #[derive(Debug, Drop)]
 pub enum Choice {
     /// Nothing.
@@ -37,14 +37,14 @@ pub enum Choice {
     Masked,
     /// The file at this place.
     Fragment(Place),
-    /// The unit of this name.
+    /// An alias of the unit with this name.
     Alias(UnitName),
     /// A link that no unit may have.
     Bad(Cause),
 }
 
 impl Choice {
-    /// An equal choice. It fails for want of memory alone.
+    /// Returns an equal choice. Fails only if memory runs out.
     pub fn try_clone(&self) -> Result<Choice, AllocError>
         ensures copy { IfOk result (λ copy. copy ≡ self.now) }
     {
@@ -58,18 +58,18 @@ impl Choice {
     }
 }
 
-// What chooses for names.
+// Makes the choices for names.
 pub(crate) trait Chooses {
     // What is seen of a store.
-    ghost in_view: { Self → View };
+    ghost in_view: { Self → HostViewMap };
 
-    // What stands for a name.
+    // Returns the choice for a name.
     fn choose(&self, alloc: Global, name: &UnitName) -> Result<Choice, AllocError>
         ensures choice { IfOk result (λ chosen. chosen ≡ choice (in_view self.now) name.now) };
 }
 
-impl<'a> Chooses for Seen<'a> {
-    ghost in_view = { λ seen. seen };
+impl<'a> Chooses for HostView<'a> {
+    ghost in_view = { λ view. view };
 
     fn choose(&self, alloc: Global, name: &UnitName) -> Result<Choice, AllocError> {
         match own_choice(alloc, self, name, name)? {
@@ -79,83 +79,83 @@ impl<'a> Chooses for Seen<'a> {
     }
 }
 
-/// What stands for a name, as a host sees it or as it is seen without one: what is visible of it at the least level that
-/// isn't passed over, and for an instance that has nothing of its own what is visible of its template
+/// Returns the choice for a name, as a host sees it or as it is seen without a host: what is visible of the name at the
+/// least level that isn't ignored. For an instance that has nothing of its own, what is visible of its template decides
 /// (systemd.unit(5), "Unit File Load Path").
 ///
-/// It asks the store at most sixteen times, at eight levels for the name and for its template; at most eight times
-/// for a host without places of its own. Each is a search for which no path is built. It fails for want of memory alone.
+/// Asks the store at most sixteen times: at eight levels, for the name and for its template. For a host without places
+/// of its own it is at most eight times. Each time is a search, and builds no path. Fails only if memory runs out.
 pub fn choose(
     alloc: Global,
     store: &Store,
     host: Option<&HostName>,
     name: &UnitName,
 ) -> Result<Choice, AllocError>
-    ensures choice { IfOk result (λ chosen. chosen ≡ choice (view_of store.now (option_copied host.entry)) name.now) }
+    ensures choice { IfOk result (λ chosen. chosen ≡ choice (host_view_of store.now (option_copied host.entry)) name.now) }
 {
-    store.seen_by(host).choose(alloc, name)
+    store.host_view(host).choose(alloc, name)
 }
 
-/// What the visible paths of a name's template say of the name: nothing stands for it where there
-/// is no template.
+/// Returns what the visible paths of a name's template say of the name: `NotFound` where there is no template.
 pub(crate) fn template_choice(
     alloc: Global,
-    seen: &Seen,
+    view: &HostView,
     name: &UnitName,
 ) -> Result<Choice, AllocError>
-    ensures choice { IfOk result (λ chosen. chosen ≡ template_choice seen.now name.now) }
+    ensures choice { IfOk result (λ chosen. chosen ≡ template_choice view.now name.now) }
 {
     let Some(template) = name.template_of()? else {
         return Ok(Choice::NotFound);
     };
-    Ok(own_choice(alloc, seen, name, &template)?.unwrap_or(Choice::NotFound))
+    Ok(own_choice(alloc, view, name, &template)?.unwrap_or(Choice::NotFound))
 }
 
-/// What the visible paths of one own name say, the least level first.
+/// Returns what the visible paths of an own name, which is the name itself or its template, say of the name: the least
+/// level that says anything decides.
 pub(crate) fn own_choice(
     alloc: Global,
-    seen: &Seen,
+    view: &HostView,
     name: &UnitName,
     own: &UnitName,
 ) -> Result<Option<Choice>, AllocError>
-    ensures choice { IfOk result (λ said. said ≡ own_choice seen.now name.now own.now) }
-    ensures lawful { IsName own.now }
+    ensures choice { IfOk result (λ said. said ≡ own_choice view.now name.now own.now) }
+    ensures well_formed { IsName own.now }
 {
     for level in 0..LEVELS {
-        if let Some(said) = says(alloc, seen, name, own, level)? {
+        if let Some(said) = says(alloc, view, name, own, level)? {
             return Ok(Some(said));
         }
     }
     Ok(None)
 }
 
-// What the own name says at one level.
+// Returns what the own name says at one level.
 fn says(
     alloc: Global,
-    seen: &Seen,
+    view: &HostView,
     name: &UnitName,
     own: &UnitName,
     level: u8,
 ) -> Result<Option<Choice>, AllocError>
-    ensures said { IfOk result (λ said. said ≡ says seen.now name.now own.now level) }
-    ensures lawful { IsName own.now }
+    ensures said { IfOk result (λ said. said ≡ says view.now name.now own.now level) }
+    ensures well_formed { IsName own.now }
 {
-    match seen.entry_at(level, b"", own.bytes()) {
+    match view.entry_at(level, b"", own.bytes()) {
         None => Ok(None),
-        Some(placed) => entry_says(alloc, seen, name, own, &placed),
+        Some(placed) => entry_says(alloc, view, name, own, &placed),
     }
 }
 
-// What an entry says that is seen at a path of the own name.
+// Returns what an entry says that is seen at a path of the own name.
 fn entry_says(
     alloc: Global,
-    seen: &Seen,
+    view: &HostView,
     name: &UnitName,
     own: &UnitName,
-    placed: &SeenEntry,
+    placed: &HostViewEntry,
 ) -> Result<Option<Choice>, AllocError>
     ensures said { IfOk result (λ said. said ≡ content_says name.now own.now
-        (seen_place seen.now placed.now.0) placed.now.1.content) }
+        (viewed_place view.now placed.now.0) placed.now.1.content) }
 {
     match &placed.entry().content {
         Content::Gone => Ok(None),
@@ -163,7 +163,7 @@ fn entry_says(
             if file.bytes().is_empty() {
                 return Ok(Some(Choice::Masked));
             }
-            Ok(Some(Choice::Fragment(seen.place(placed)?)))
+            Ok(Some(Choice::Fragment(view.place(placed)?)))
         }
         Content::Link(target) => {
             if target.bytes() == b"/dev/null".as_slice() {
@@ -174,7 +174,7 @@ fn entry_says(
     }
 }
 
-// What a link says whose target ends in this component.
+// Returns what a link says whose target ends in this component.
 fn link_says(
     alloc: Global,
     name: &UnitName,

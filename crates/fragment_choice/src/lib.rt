@@ -1,7 +1,14 @@
-//! Which file stands for a unit: its fragment, its masks, its aliases, and the names that it has. The rules are
-//! those of systemd.unit(5), "Unit File Load Path" and "Description".
+//! Decides what a unit name resolves to: its main file (the fragment), a mask or an alias, and which names a unit has.
+//! The rules are those of systemd.unit(5), "Unit File Load Path" and "Description".
 //!
 //! Promise: units are exact.
+//!
+//! - `choose` and `Choice`: what the load path gives for one name; `Cause`: why a link makes a unit bad.
+//! - `resolve` and `Resolution`: follows a name's aliases to the unit's main name.
+//! - `names_of`: all names of a unit.
+//! - `AliasIndex`: an index of a store's aliases, made once, that resolves many names and lists the names of many
+//!   units.
+//! - `choice_laws`, `link_laws`, `alias_laws` and the other laws: what the definitions imply.
 #![tactic(auto)]
 
 mod aliases;

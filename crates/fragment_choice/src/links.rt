@@ -7,7 +7,7 @@ use crate::choices::{Cause, Choice};
 use std::alloc::AllocError;
 use unit_name::{Kind, Shape, UnitName};
 
-/// What a link of the own name to this unit says of the name.
+/// Returns what a link of the own name to this unit says of the name; `None` if the link is ignored.
 pub(crate) fn target_says(
     name: &UnitName,
     own: &UnitName,
@@ -27,7 +27,7 @@ pub(crate) fn target_says(
     Ok(Some(alias_of(name, target)?))
 }
 
-// Whether a link leads to its own name or to that name's template.
+// Returns whether a link points to its own name or to that name's template.
 fn is_self(own: &UnitName, target: &UnitName) -> Result<bool, AllocError>
     ensures test { IfOk result (λ it. it ≡ is_self own.now target.now) }
 {
@@ -40,14 +40,14 @@ fn is_self(own: &UnitName, target: &UnitName) -> Result<bool, AllocError>
     }
 }
 
-// Whether the kinds differ, or are one without aliases.
+// Returns whether the kinds differ, or are a kind without aliases.
 fn is_bad_kind(own: Kind, target: Kind) -> bool
     ensures test { result ≡ is_bad_kind (Some own) (Some target) }
 {
     own != target || has_no_alias(target)
 }
 
-// Whether units of this kind have no aliases (systemd.unit(5), "Description").
+// Returns whether units of this kind have no aliases (systemd.unit(5), "Description").
 fn has_no_alias(kind: Kind) -> bool
     ensures test { result ≡ has_no_alias kind }
 {
@@ -57,7 +57,7 @@ fn has_no_alias(kind: Kind) -> bool
     )
 }
 
-// Whether a link may lead from the one shape to the other.
+// Returns whether a link may point from the one shape to the other.
 fn shapes_agree(own: &UnitName, target: &UnitName) -> bool
     ensures test { result ≡ shapes_agree (shape own.now) (instance own.now) (shape target.now)
         (instance target.now) }
@@ -71,7 +71,7 @@ fn shapes_agree(own: &UnitName, target: &UnitName) -> bool
     }
 }
 
-// The alias that a link to the target makes of the name.
+// Returns the alias that a link to the target makes of the name.
 fn alias_of(name: &UnitName, target: UnitName) -> Result<Choice, AllocError>
     ensures alias { IfOk result (λ said. said ≡ alias_of (shape name.now) name.now (shape target) target) }
 {
@@ -84,15 +84,15 @@ fn alias_of(name: &UnitName, target: UnitName) -> Result<Choice, AllocError>
     }
 }
 
-/// What stands behind the last slash of a link's target, or all of it.
+/// Returns the part of a link's target after its last slash, or all of it.
 pub(crate) fn last_component(target: &[u8]) -> &[u8]
     ensures part { result.now ≡ last_component target.now }
 {
-    &target[behind_slash(target)..]
+    &target[after_slash(target)..]
 }
 
-// The place behind the last slash, or 0.
-fn behind_slash(target: &[u8]) -> usize
+// Returns the index after the last slash, or 0.
+fn after_slash(target: &[u8]) -> usize
     ensures within { result ≤ length target.now }
     ensures place { result ≡ length target.now - suffix_len (λ b. not (is_slash b)) target.now }
 {

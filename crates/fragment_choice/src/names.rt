@@ -2,10 +2,10 @@
 ghost use Rattle.std.specs.{Prelude.{◌≡◌, Some, [], ◌∷◌, ◌↔◌, IsTrue, IfOk, OnOk}, BTreeSet.{insert_key}, List.Sorted.{IsStrictlySortedBy}};
 ghost use Rattle.std.specs.Option.{option_copied};
 ghost use Rattle.list_laws.specs.Members.{IsAmong};
-ghost use Rattle.path_maps.specs.Views.{view_of};
+ghost use Rattle.path_maps.specs.HostViews.{host_view_of};
 ghost use Rattle.unit_name.specs.Names.{name_cmp};
 ghost use Rattle.fragment_choice.specs.{Choices.{choice}, Resolutions.{Leads, main}, UnitNames.{AreNames}};
-ghost use Rattle.fragment_choice.specs.Indexes.{Adds, AreBehind, Gathers, IsLeadingInstance, IsLeadingInstanceOfAny, LeadsToAny, is_alias};
+ghost use Rattle.fragment_choice.specs.Indexes.{Adds, AreAliasesWithin, Gathers, IsLeadingInstance, IsLeadingInstanceOfAny, LeadsToAny, is_alias};
 
 use crate::aliases::AliasIndex;
 use crate::choices::{Choice, Chooses};
@@ -14,71 +14,71 @@ use std::alloc::{AllocError, Global};
 use std::collections::BTreeSet;
 use unit_name::UnitName;
 
-/// The names of a unit, as a host sees it or as it is seen without one (systemd.unit(5), "Description"): its own, which has to be its main name,
-/// and then in byte order the others whose main name it is, also those that only a link of their
-/// template gives.
+/// Returns the names of a unit, as a host sees it or as it is seen without a host (systemd.unit(5), "Description"):
+/// first `name`, which has to be its main name, and then in byte order all other names with this main name. These
+/// include names that exist only by a link of their template.
 ///
-/// It makes an index of the whole store; for the names of several units make one and ask it. It
-/// fails for want of memory alone.
+/// Makes an index of the whole store; for the names of several units, make an `AliasIndex` and ask it. Fails only if
+/// memory runs out.
 pub fn names_of(
     alloc: Global,
     store: &Store,
     host: Option<&HostName>,
     name: &UnitName,
 ) -> Result<Vec<UnitName>, AllocError>
-    requires main { main (view_of store.now (option_copied host)) name.now ≡ name.now }
-    ensures names { IfOk result (λ names. AreNames (view_of store.now (option_copied host.entry)) name.now names.items) }
+    requires main { main (host_view_of store.now (option_copied host)) name.now ≡ name.now }
+    ensures names { IfOk result (λ names. AreNames (host_view_of store.now (option_copied host.entry)) name.now names.items) }
 {
     AliasIndex::of(alloc, store, host)?.names_of(alloc, name)
 }
 
 impl<'a> AliasIndex<'a> {
-    /// The names of a unit of the index's store, as the function of this name gives them.
+    /// Returns the names of a unit of the index's store, as the function `names_of` does.
     ///
-    /// Names that their own links make aliases are found and not asked for. There is one choice for
-    /// each instance that a link of its template may make an alias of one of the names, and one for a
-    /// unit that has other names. It fails for want of memory alone.
+    /// Names that are aliases by their own links are found in the index, without a choice. Makes one choice for each
+    /// instance that a link of its template may make an alias of one of the names, and one for a unit that has other
+    /// names. Fails only if memory runs out.
     pub fn names_of(&self, alloc: Global, name: &UnitName) -> Result<Vec<UnitName>, AllocError>
         requires main { main self.now name.now ≡ name.now }
         ensures names { IfOk result (λ names. AreNames self.now name.now names.items) }
     {
-        let others = self.all_behind(alloc, name)?;
+        let others = self.all_after(alloc, name)?;
         if others.is_empty() {
             return alone(alloc, name);
         }
-        // an alias that more than eight follow is its own main, but has no other names
+        // an alias that more than eight others follow is its own main name, but has no other names
         if self.is_alias(alloc, name)? {
             return alone(alloc, name);
         }
         listed(alloc, name, others)
     }
 
-    // The names that some aliases, and at most eight, lead to this one.
-    fn all_behind(&self, alloc: Global, name: &UnitName) -> Result<BTreeSet<UnitName>, AllocError>
-        ensures behind { IfOk result (λ others. AreBehind self.now name.now 8 others.keys) }
+    // Returns the names from which one to eight aliases lead to this one.
+    fn all_after(&self, alloc: Global, name: &UnitName) -> Result<BTreeSet<UnitName>, AllocError>
+        ensures after { IfOk result (λ others. AreAliasesWithin self.now name.now 8 others.keys) }
     {
         let mut others = BTreeSet::new(alloc);
         let mut level = alone(alloc, name)?;
         for depth in 0..8u8 {
-            let next = self.behind(alloc, &level)?;
+            let next = self.after(alloc, &level)?;
             level = add_all(alloc, &mut others, next)?;
         }
         Ok(others)
     }
 
-    // The names that are aliases of one of these.
-    fn behind(&self, alloc: Global, level: &[UnitName]) -> Result<BTreeSet<UnitName>, AllocError>
+    // Returns the names that are aliases of one of these.
+    fn after(&self, alloc: Global, level: &[UnitName]) -> Result<BTreeSet<UnitName>, AllocError>
         ensures gathered { IfOk result (λ next. Gathers (LeadsToAny self.now level.now) [] next.keys) }
     {
         let mut next = BTreeSet::new(alloc);
         for name in level {
-            self.gather_behind(alloc, &mut next, name)?;
+            self.gather_after(alloc, &mut next, name)?;
         }
         Ok(next)
     }
 
     // Adds the names that are aliases of this one.
-    fn gather_behind(
+    fn gather_after(
         &self,
         alloc: Global,
         others: &mut BTreeSet<UnitName>,
@@ -96,7 +96,7 @@ impl<'a> AliasIndex<'a> {
         }
     }
 
-    // Adds those that these templates give with a name's instance and that are aliases of the name.
+    // Adds the names that these templates give with the instance of `name`, if they are aliases of `name`.
     fn gather_instances(
         &self,
         alloc: Global,
@@ -113,7 +113,7 @@ impl<'a> AliasIndex<'a> {
         Ok(())
     }
 
-    // Adds a template's name with a name's instance, if there is one and it is an alias of the name.
+    // Adds the template with the instance of `name`, if there is such a name and it is an alias of `name`.
     fn add_instance(
         &self,
         alloc: Global,
@@ -133,7 +133,7 @@ impl<'a> AliasIndex<'a> {
         put(others, instance)
     }
 
-    // Whether a name is an alias of another.
+    // Returns whether a name is an alias of another.
     fn leads(&self, alloc: Global, from: &UnitName, to: &UnitName) -> Result<bool, AllocError>
         ensures test { IfOk result (λ it. IsTrue it ↔ Leads self.now from.now to.now) }
     {
@@ -143,7 +143,7 @@ impl<'a> AliasIndex<'a> {
         }
     }
 
-    // Whether a name is an alias.
+    // Returns whether a name is an alias.
     fn is_alias(&self, alloc: Global, name: &UnitName) -> Result<bool, AllocError>
         ensures test { IfOk result (λ it. it ≡ is_alias (choice self.now name.now)) }
     {
@@ -154,7 +154,7 @@ impl<'a> AliasIndex<'a> {
     }
 }
 
-// A list of one name.
+// Returns a list of one name.
 fn alone(alloc: Global, name: &UnitName) -> Result<Vec<UnitName>, AllocError>
     ensures alone { IfOk result (λ names. names.items ≡ name.now ∷ []) }
 {
@@ -163,7 +163,7 @@ fn alone(alloc: Global, name: &UnitName) -> Result<Vec<UnitName>, AllocError>
     Ok(names)
 }
 
-// Adds names to others, and lists them.
+// Adds names to others, and returns the added names as a list.
 fn add_all(
     alloc: Global,
     others: &mut BTreeSet<UnitName>,
@@ -180,14 +180,14 @@ fn add_all(
     Ok(list)
 }
 
-// The name, and then the others.
+// Returns a list of the name and then the others.
 fn listed(
     alloc: Global,
     name: &UnitName,
     others: BTreeSet<UnitName>,
 ) -> Result<Vec<UnitName>, AllocError>
     ensures list { IfOk result (λ names. names.items ≡ name.now ∷ others.keys) }
-    ensures rising { OnOk result (IsStrictlySortedBy name_cmp others.keys) }
+    ensures ascending { OnOk result (IsStrictlySortedBy name_cmp others.keys) }
 {
     let mut names = Vec::new(alloc);
     names.push(name.try_clone()?)?;
@@ -207,7 +207,7 @@ fn gather_owners(others: &mut BTreeSet<UnitName>, owners: &[UnitName]) -> Result
     Ok(())
 }
 
-// Puts a name among others.
+// Adds a name to a set.
 pub(crate) fn put(others: &mut BTreeSet<UnitName>, name: UnitName) -> Result<(), AllocError>
     ensures put { OnOk result (others.new.keys ≡ insert_key name_cmp others.old.keys name) }
 {

@@ -1,6 +1,6 @@
 //! The end of a unit's aliases.
 ghost use Rattle.std.specs.{Prelude.{◌≡◌, IfOk}, Option.{option_copied}};
-ghost use Rattle.path_maps.specs.Views.{view_of};
+ghost use Rattle.path_maps.specs.HostViews.{host_view_of};
 ghost use Rattle.fragment_choice.specs.Resolutions.{IsEnd, Resolves, resolution};
 
 use crate::aliases::AliasIndex;
@@ -9,36 +9,37 @@ use replica_store::{HostName, Store};
 use std::alloc::{AllocError, Global};
 use unit_name::UnitName;
 
-/// A unit's main name, and what stands for it: no alias.
+/// A unit's main name and its choice, which is never an alias.
 #[derive(Debug, Drop)]
 pub struct Resolution {
     pub main: UnitName,
     pub choice: Choice,
 }
 
-/// Follows a name's aliases as a host sees them, or as they are seen without one, at most eight of them (systemd.unit(5), "Description"). The main
-/// name is the one at which no alias follows, also where nothing, a mask or a bad link stands
-/// there. Where more than eight follow, it is the name itself, which is bad.
+/// Follows a name's aliases, at most eight of them, as a host sees them or as they are seen without a host
+/// (systemd.unit(5), "Description"). The main name is the first one that isn't an alias, even if it isn't found, is
+/// masked or has a bad link. If more than eight aliases follow, the main name is the name itself, with the choice
+/// `Bad(Loop)`.
 ///
-/// It makes at most nine choices, and fails for want of memory alone.
+/// Makes at most nine choices. Fails only if memory runs out.
 pub fn resolve(
     alloc: Global,
     store: &Store,
     host: Option<&HostName>,
     name: &UnitName,
 ) -> Result<Resolution, AllocError>
-    ensures resolution { IfOk result (λ it. it ≡ resolution (view_of store.now (option_copied host.entry)) name.now) }
-    ensures chain { IfOk result (Resolves (view_of store.now (option_copied host.entry)) name.now) }
+    ensures resolution { IfOk result (λ it. it ≡ resolution (host_view_of store.now (option_copied host.entry)) name.now) }
+    ensures chain { IfOk result (Resolves (host_view_of store.now (option_copied host.entry)) name.now) }
     ensures no_alias { IfOk result (λ it. IsEnd it.choice) }
 {
-    follow_aliases(alloc, &store.seen_by(host), name)
+    follow_aliases(alloc, &store.host_view(host), name)
 }
 
 impl<'a> AliasIndex<'a> {
-    /// The end of a name's aliases in the index's store, as the function of this name gives it.
+    /// Follows a name's aliases in the index's store, as the function `resolve` does.
     ///
-    /// It makes as many choices, but what the own links of a name say is known and asks the store
-    /// for nothing. It fails for want of memory alone.
+    /// Makes as many choices, but what a name's own links say comes from the index, without asking the store. Fails
+    /// only if memory runs out.
     pub fn resolve(&self, alloc: Global, name: &UnitName) -> Result<Resolution, AllocError>
         ensures resolution { IfOk result (λ it. it ≡ resolution self.now name.now) }
         ensures chain { IfOk result (Resolves self.now name.now) }
@@ -48,7 +49,7 @@ impl<'a> AliasIndex<'a> {
     }
 }
 
-// The end of a name's aliases, by what chooses for names.
+// Follows a name's aliases, with choices by `chooser`.
 fn follow_aliases<C: Chooses>(
     alloc: Global,
     chooser: &C,

@@ -1,27 +1,18 @@
 -- Distances, level by level.
-use Rattle.std.proofs.Common.{◌≡◌, ℕ, zero, suc, ◌+◌, ◌<◌, ◌≤◌, ◌⊎◌, ◌↔◌, inl, inr, Bool, false, List, [], ◌∷◌, ◌++◌, length, map, refl, ap, sym, ◌∙◌, subst, arith, replicate, append_assoc}
+use Rattle.std.proofs.Common.{[], ◌++◌, ◌+◌, ◌<◌, ◌↔◌, ◌∙◌, ◌∷◌, ◌≡◌, ◌≤◌, ◌⊎◌, ap, append_assoc, arith, Bool, false, inl, inr, length, List, map, refl, replicate, subst, suc, sym, zero, ℕ}
+use Rattle.std.proofs.lemmas.Bool.{cases_lt}
+use Rattle.std.proofs.lemmas.Cmp.{tied_itself}
+use Rattle.std.proofs.lemmas.List.{length-replicate}
+use Rattle.std.specs.Cmp.{nat_cmp_total}
 use Rattle.std.specs.List.{AllByRecursion, flat_map}
-use Rattle.std.specs.List.Sorted.{IsStrictlySortedBy}
 use Rattle.std.specs.Ordering.{nat_cmp, ordering_then}
 use Rattle.std.specs.declared.cmp.Ordering.{Ordering}
 use Rattle.std.specs.declared.cmp.Ordering.TheVariants.{Less}
-use Rattle.std.specs.Cmp.{nat_cmp_total}
-use Rattle.std.proofs.lemmas.Cmp.{tied_itself}
-use Rattle.std.proofs.lemmas.List.{length-replicate}
-use Rattle.std.proofs.lemmas.Bool.{cases_lt}
-use Rattle.list_laws.specs.Members.{IsAmong, IsAmong-append_cases, IsAmong-append_left, IsAmong-append_right}
-use Rattle.name_closure.specs.Chains.{IsChain, IsReached, IsDistance, IsDistances, distance_cmp}
-use Rattle.name_closure.specs.ClosureLaws.{reached_least}
-use Rattle.name_closure.specs.DistanceLaws.{one_distance}
-use Rattle.name_closure.specs.ListedLaws.{Listed, Named, named_by, names_all}
-use Rattle.index_rows.specs.Rows.{Marked}
-use Rattle.index_rows.specs.ListLaws.{below_cmp}
-use Rattle.index_rows.specs.MarkLaws.{Marked-none, unset}
-use Rattle.index_rows.specs.NumberingLaws.{among_mapped, mapped_from}
-use Rattle.index_rows.specs.Spreads.{IsSpread}
-use Rattle.index_rows.proofs.Listing.{IsStrictlySortedBy-push, IsStrictlySortedBy-none}
+use Rattle.index_rows.proofs.Prelude.{among_mapped, below_cmp, distance_cmp, IsAmong, IsAmong-append_cases, IsAmong-append_left, IsAmong-append_right, IsChain, IsDistance, IsDistances, IsMember, IsMember-none, IsReached, IsSpread, Listed, mapped_from, Named, named_by, names_all, one_distance, reached_least, unset}
+use Rattle.index_rows.proofs.Listing.{IsStrictlySortedBy-none, IsStrictlySortedBy-push}
+use Rattle.std.specs.List.Sorted.{IsStrictlySortedBy}
 
--- one list of nodes after another one
+-- one list of nodes after another
 pub IsSpread-append : (a b c : List Bool) (t u v xs ys : List ℕ) → IsSpread a b t u xs → IsSpread b c u v ys → IsSpread a c t v (xs ++ ys)
 IsSpread-append a b c t u v xs ys p q = record {
   units = q.units ∙ p.units;
@@ -53,15 +44,15 @@ module _ (count : ℕ) (next : ℕ → List ℕ) (sources : List ℕ) where
   abbrev cmp : ℕ × ℕ → ℕ × ℕ → Ordering
   cmp = distance_cmp (Listed sources) (Named next) nat_cmp
 
-  -- all up to this distance are marked, and those before it are listed
+  -- all nodes up to this distance are in `seen`, and those before it are listed
   pub record IsLevel (distance : ℕ) (seen : List Bool) (level : List ℕ) (pairs : List (ℕ × ℕ)) : Type 0 where
     pub units : length seen ≡ count
     pub room : distance + unset seen + length level ≤ count
-    pub near : (j v : ℕ) → j ≤ distance → Chain j v → Marked seen v
-    pub seen_at : (v : ℕ) → Marked seen v → IsAmong v level ⊎ ((j : ℕ) × IsAmong {X = ℕ × ℕ} (j, v) pairs)
+    pub near : (j v : ℕ) → j ≤ distance → Chain j v → IsMember seen v
+    pub seen_at : (v : ℕ) → IsMember seen v → IsAmong v level ⊎ ((j : ℕ) × IsAmong {X = ℕ × ℕ} (j, v) pairs)
     pub level_at : (v : ℕ) → IsAmong v level → At v distance
     pub pair_at : (p : ℕ × ℕ) → IsAmong p pairs → (p.0 < distance) × At p.1 p.0
-    pub rising : IsStrictlySortedBy cmp pairs
+    pub ascending : IsStrictlySortedBy cmp pairs
 
   unset-replicate : (n : ℕ) → unset (replicate n false) ≡ n
   unset-replicate zero = refl
@@ -74,17 +65,17 @@ module _ (count : ℕ) (next : ℕ → List ℕ) (sources : List ℕ) where
         units = s.units ∙ length-replicate (count) false;
         room = (let a = s.sum in let b = unset-replicate (count) in omega (arith, a, b));
         near = near s;
-        seen_at = λ v m. elim (s.noted v m) [ inl k ↦ absurd (Marked-none (count) v k) | inr k ↦ inl k ];
+        seen_at = λ v m. elim (s.noted v m) [ inl k ↦ absurd (IsMember-none (count) v k) | inr k ↦ inl k ];
         level_at = λ v k. elim (s.notes_origin v k) [ inl none' ↦ absurd none' | inr o ↦ record { chain = o.0; least = λ j c. omega arith } ];
         pair_at = λ p k. absurd k;
-        rising = IsStrictlySortedBy-none cmp;
+        ascending = IsStrictlySortedBy-none cmp;
       })
     where
-      near : IsSpread (replicate (count) false) seen [] level sources → (j v : ℕ) → j ≤ 0 → Chain j v → Marked seen v
+      near : IsSpread (replicate (count) false) seen [] level sources → (j v : ℕ) → j ≤ 0 → Chain j v → IsMember seen v
       near s zero v l c = s.all v c
       near s (suc j) v l c = absurd (omega arith)
 
-  -- pairs of one distance behind pairs of lesser ones
+  -- pairs of one distance come after pairs of lesser ones
   later : (distance : ℕ) (p : ℕ × ℕ) (v : ℕ) → p.0 < distance → cmp p (distance, v) ≡ Less
   later distance p v l = ap (λ o. ordering_then o (nat_cmp p.1 v)) (below_cmp p.0 distance l)
 
@@ -96,18 +87,18 @@ module _ (count : ℕ) (next : ℕ → List ℕ) (sources : List ℕ) where
   above_of u (x ∷ xs) v a (inl e) = subst (λ w. nat_cmp u w ≡ Less) e a.0
   above_of u (x ∷ xs) v a (inr h) = above_of u xs v a.1 h
 
-  rising_more : (distance : ℕ) (pairs : List (ℕ × ℕ)) (vs : List ℕ) → IsStrictlySortedBy cmp pairs → IsStrictlySortedBy nat_cmp vs
+  ascending_more : (distance : ℕ) (pairs : List (ℕ × ℕ)) (vs : List ℕ) → IsStrictlySortedBy cmp pairs → IsStrictlySortedBy nat_cmp vs
       → ((p : ℕ × ℕ) → IsAmong p pairs → (v : ℕ) → IsAmong v vs → cmp p (distance, v) ≡ Less) → IsStrictlySortedBy cmp (pairs ++ map (λ v. (distance, v)) vs)
   unfolding IsStrictlySortedBy
-  rising_more distance pairs [] s t below = subst (IsStrictlySortedBy cmp) (sym (append_none pairs)) s
+  ascending_more distance pairs [] s t below = subst (IsStrictlySortedBy cmp) (sym (append_none pairs)) s
     where
       append_none : (ps : List (ℕ × ℕ)) → ps ++ [] ≡ ps
       append_none [] = refl
       append_none (p ∷ ps) = ap (λ qs. p ∷ qs) (append_none ps)
-  rising_more distance pairs (u ∷ us) s t below =
+  ascending_more distance pairs (u ∷ us) s t below =
       let one : IsStrictlySortedBy cmp (pairs ++ (distance, u) ∷ []) = IsStrictlySortedBy-push cmp pairs (distance, u) s (λ p h. below p h u (inl refl)) in
       let rest : IsStrictlySortedBy cmp ((pairs ++ (distance, u) ∷ []) ++ map (λ v. (distance, v)) us) =
-      rising_more distance (pairs ++ (distance, u) ∷ []) us one t.1 (λ p h v k. elim (IsAmong-append_cases p pairs ((distance, u) ∷ []) h) [
+      ascending_more distance (pairs ++ (distance, u) ∷ []) us one t.1 (λ p h v k. elim (IsAmong-append_cases p pairs ((distance, u) ∷ []) h) [
         | inl a ↦ below p a v (inr k)
         | inr a ↦ elim a [ inl e ↦ subst (λ q. cmp q (distance, v) ≡ Less) e (same_distance_cmp distance u v (above_of u us v t.0 k)) | inr none ↦ absurd none ]
       ]) in
@@ -137,11 +128,11 @@ module _ (count : ℕ) (next : ℕ → List ℕ) (sources : List ℕ) where
         | inr a ↦ (let r = mapped_from (λ w. (distance, w)) p level a in
             subst (λ (q : ℕ × ℕ). (q.0 < distance + 1) × At q.1 q.0) r.1.1 (omega arith, h.level_at r.0 ((same r.0).0 r.1.0)))
       ];
-      rising = rising_more distance pairs level h.rising order (λ p k v a. later distance p v (h.pair_at p k).0);
+      ascending = ascending_more distance pairs level h.ascending order (λ p k v a. later distance p v (h.pair_at p k).0);
     })
       where
-        -- a step from a marked node leads to one that is marked now
-        step : (u v : ℕ) → Marked seen u → IsAmong v (next u) → Marked new v
+        -- an edge from a member leads to a node that is now a member
+        step : (u v : ℕ) → IsMember seen u → IsAmong v (next u) → IsMember new v
         step u v m a = elim (h.seen_at u m) [
           | inl k ↦ s.all v (names_all next level u v ((same u).1 k) a)
           | inr k ↦ (let q = h.pair_at (k.0, u) k.1 in
@@ -152,13 +143,13 @@ module _ (count : ℕ) (next : ℕ → List ℕ) (sources : List ℕ) where
         at_or_below : (j k : ℕ) → j ≤ k + 1 → (j ≤ k) ⊎ (j ≡ suc k)
         at_or_below j k l = elim (cases_lt k j) [ inl m ↦ inr (omega arith) | inr m ↦ inl m ]
 
-        near : (j v : ℕ) → j ≤ distance + 1 → Chain j v → Marked new v
+        near : (j v : ℕ) → j ≤ distance + 1 → Chain j v → IsMember new v
         near j v l c = elim (at_or_below j distance l) [
           | inl k ↦ s.kept v (h.near j v k c)
           | inr k ↦ (let d : Chain (suc distance) v = subst (λ i. Chain i v) k c in step d.0 v (h.near distance d.0 (omega arith) d.1.0) d.1.1)
         ]
 
-        nearest : (v : ℕ) → IsAmong v (flat_map next level) → ¬ Marked seen v → At v (distance + 1)
+        nearest : (v : ℕ) → IsAmong v (flat_map next level) → ¬ IsMember seen v → At v (distance + 1)
         nearest v a out =
             let b = named_by next level v a in
             let up : suc distance ≡ distance + 1 = omega arith in
@@ -167,15 +158,15 @@ module _ (count : ℕ) (next : ℕ → List ℕ) (sources : List ℕ) where
               least = λ j c. (let far : ¬ (j ≤ distance) = λ l. out (h.near j v l c) in omega arith);
             })
 
-  -- with nothing at this distance, all is listed
+  -- where no node has this distance, all are listed
   pub IsLevel-done : (distance : ℕ) (seen : List Bool) (level : List ℕ) (pairs : List (ℕ × ℕ)) → level ≡ [] → IsLevel distance seen level pairs → IsDistances (Listed sources) (Named next) nat_cmp pairs
-  IsLevel-done distance seen level pairs e h = record { rising = h.rising; members = λ k v. (λ a. (h.pair_at (k, v) a).1, λ d. listed_at k v d) }
+  IsLevel-done distance seen level pairs e h = record { ascending = h.ascending; members = λ k v. (λ a. (h.pair_at (k, v) a).1, λ d. listed_at k v d) }
     where
-      place : (v : ℕ) → Marked seen v → (j : ℕ) × IsAmong {X = ℕ × ℕ} (j, v) pairs
+      place : (v : ℕ) → IsMember seen v → (j : ℕ) × IsAmong {X = ℕ × ℕ} (j, v) pairs
       place v m = elim (h.seen_at v m) [ inl a ↦ absurd (subst (λ l. IsAmong v l) e a) | inr a ↦ a ]
 
-      marked : (v : ℕ) → IsReached (Listed sources) (Named next) v → Marked seen v
-      marked v r = reached_least (Listed sources) (Named next) (Marked seen) (record {
+      member : (v : ℕ) → IsReached (Listed sources) (Named next) v → IsMember seen v
+      member v r = reached_least (Listed sources) (Named next) (IsMember seen) (record {
         started = λ n a. h.near 0 n (omega arith) a;
         stepped = λ n m k a. (let p = place n k in
             let q = h.pair_at (p.0, n) p.1 in
@@ -185,6 +176,6 @@ module _ (count : ℕ) (next : ℕ → List ℕ) (sources : List ℕ) where
 
       listed_at : (k v : ℕ) → At v k → IsAmong {X = ℕ × ℕ} (k, v) pairs
       listed_at k v d =
-          let p = place v (marked v (record { steps = k; chain = d.chain })) in
+          let p = place v (member v (record { steps = k; chain = d.chain })) in
           let same : p.0 ≡ k = one_distance (Listed sources) (Named next) v p.0 k (h.pair_at (p.0, v) p.1).1 d in
           subst (λ i. IsAmong {X = ℕ × ℕ} (i, v) pairs) same p.1

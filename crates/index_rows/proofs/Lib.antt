@@ -1,3 +1,4 @@
+pub mod Prelude
 pub mod Listing
 pub mod Spreading
 pub mod Notes

@@ -1,19 +1,18 @@
--- Marked nodes listed from the first on.
-use Rattle.std.proofs.Common.{◌≡◌, ℕ, ◌+◌, ◌<◌, ◌↔◌, inl, inr, List, [], ◌∷◌, ◌++◌, refl, sym, subst, arith}
+-- The members of a set, listed in ascending order.
+use Rattle.std.proofs.Common.{[], ◌++◌, ◌+◌, ◌<◌, ◌↔◌, ◌∷◌, ◌≡◌, arith, inl, inr, List, refl, subst, sym, ℕ}
+use Rattle.std.proofs.lemmas.Bool.{cases_eq}
 use Rattle.std.specs.List.{AllByRecursion}
-use Rattle.std.specs.List.Sorted.{IsStrictlySortedBy}
 use Rattle.std.specs.Ordering.{nat_cmp}
 use Rattle.std.specs.declared.cmp.Ordering.{Ordering}
 use Rattle.std.specs.declared.cmp.Ordering.TheVariants.{Less}
-use Rattle.std.proofs.lemmas.Bool.{cases_eq}
-use Rattle.list_laws.specs.Members.{IsAmong, IsAmong-append_cases, IsAmong-append_left, IsAmong-append_right}
-use Rattle.index_rows.specs.ListLaws.{below_cmp}
+use Rattle.index_rows.proofs.Prelude.{below_cmp, IsAmong, IsAmong-append_cases, IsAmong-append_left, IsAmong-append_right}
+use Rattle.std.specs.List.Sorted.{IsStrictlySortedBy}
 
 below_push : {X : Type 0} (R : X → X → Ordering) (y : X) (xs : List X) (x : X) → AllByRecursion (λ z. R y z ≡ Less) xs → R y x ≡ Less → AllByRecursion (λ z. R y z ≡ Less) (xs ++ x ∷ [])
 below_push R y [] x a l = (l, tt)
 below_push R y (z ∷ zs) x a l = (a.0, below_push R y zs x a.1 l)
 
--- a rising list still rises behind one that is above all of it
+-- an ascending list stays ascending when a greater element is appended
 pub IsStrictlySortedBy-push : {X : Type 0} (R : X → X → Ordering) (xs : List X) (x : X) → IsStrictlySortedBy R xs → ((y : X) → IsAmong y xs → R y x ≡ Less) → IsStrictlySortedBy R (xs ++ x ∷ [])
 unfolding IsStrictlySortedBy
 IsStrictlySortedBy-push R [] x s above = (tt, tt)
@@ -23,14 +22,14 @@ pub IsStrictlySortedBy-none : {X : Type 0} (R : X → X → Ordering) → IsStri
 unfolding IsStrictlySortedBy
 IsStrictlySortedBy-none R = tt
 
--- the list rises, and has just those below i with P
+-- the list is ascending, and has exactly the nodes below i with P
 pub record IsListedBelow (P : ℕ → Type 0) (i : ℕ) (list : List ℕ) : Type 0 where
-  pub rising : IsStrictlySortedBy nat_cmp list
+  pub ascending : IsStrictlySortedBy nat_cmp list
   pub members : (v : ℕ) → IsAmong v list ↔ ((v < i) × P v)
 
 pub IsListedBelow-none : (P : ℕ → Type 0) → IsListedBelow P 0 []
 IsListedBelow-none P = record {
-  rising = IsStrictlySortedBy-none nat_cmp;
+  ascending = IsStrictlySortedBy-none nat_cmp;
   members = λ v. (λ h. absurd h, λ h. absurd (let l : v < 0 = h.0 in omega arith));
 }
 
@@ -40,7 +39,7 @@ below_still i v l ne = omega arith
 module _ (P : ℕ → Type 0) (i : ℕ) (old new : List ℕ) (h : IsListedBelow P i old) where
   pub IsListedBelow-more : P i → new ≡ old ++ i ∷ [] → IsListedBelow P (i + 1) new
   IsListedBelow-more p e = subst (IsListedBelow P (i + 1)) (sym e) (record {
-    rising = IsStrictlySortedBy-push nat_cmp old i h.rising (λ y k. below_cmp y i ((h.members y).0 k).0);
+    ascending = IsStrictlySortedBy-push nat_cmp old i h.ascending (λ y k. below_cmp y i ((h.members y).0 k).0);
     members = λ v. (to v, from v);
   })
     where
@@ -57,7 +56,7 @@ module _ (P : ℕ → Type 0) (i : ℕ) (old new : List ℕ) (h : IsListedBelow 
       ]
 
   pub IsListedBelow-skip : ¬ P i → new ≡ old → IsListedBelow P (i + 1) new
-  IsListedBelow-skip out e = subst (IsListedBelow P (i + 1)) (sym e) (record { rising = h.rising; members = λ v. (to v, from v) })
+  IsListedBelow-skip out e = subst (IsListedBelow P (i + 1)) (sym e) (record { ascending = h.ascending; members = λ v. (to v, from v) })
     where
       to : (v : ℕ) → IsAmong v old → (v < i + 1) × P v
       to v k = let f = (h.members v).0 k in let l : v < i = f.0 in (omega arith, f.1)

@@ -1,10 +1,6 @@
--- Nodes that are marked and noted one by one.
-use Rattle.std.proofs.Common.{◌≡◌, ℕ, ◌<◌, ◌+◌, inl, inr, Bool, true, List, [], ◌∷◌, ◌++◌, length, set, refl, sym, ◌∙◌, subst, arith, length-set, length-append}
-use Rattle.list_laws.specs.Members.{IsAmong-append_left, IsAmong-append_right}
-use Rattle.index_rows.specs.Rows.{Marked}
-use Rattle.index_rows.specs.MarkLaws.{Marked-set, Marked-set_same, Marked-set_other, unset-set}
-use Rattle.index_rows.specs.ListLaws.{IsAmong-push_cases}
-use Rattle.index_rows.specs.Spreads.{IsSpread}
+-- Nodes that are added to a set and noted, one by one.
+use Rattle.std.proofs.Common.{[], ◌++◌, ◌+◌, ◌<◌, ◌∙◌, ◌∷◌, ◌≡◌, arith, Bool, inl, inr, length, length-append, length-set, List, refl, set, subst, sym, true, ℕ}
+use Rattle.index_rows.proofs.Prelude.{IsAmong-append_left, IsAmong-append_right, IsAmong-push_cases, IsMember, IsMember-set, IsMember-set_other, IsMember-set_same, IsSpread, unset-set}
 
 pub IsSpread-none : (s : List Bool) (t : List ℕ) → IsSpread s s t t []
 IsSpread-none s t = record {
@@ -18,11 +14,11 @@ IsSpread-none s t = record {
   sum = refl;
 }
 
-pub IsSpread-skip : (s0 s : List Bool) (t0 t nodes : List ℕ) (x : ℕ) → Marked s x → IsSpread s0 s t0 t nodes → IsSpread s0 s t0 t (nodes ++ x ∷ [])
+pub IsSpread-skip : (s0 s : List Bool) (t0 t nodes : List ℕ) (x : ℕ) → IsMember s x → IsSpread s0 s t0 t nodes → IsSpread s0 s t0 t (nodes ++ x ∷ [])
 IsSpread-skip s0 s t0 t nodes x m h = record {
   units = h.units;
   kept = h.kept;
-  all = λ v k. elim (IsAmong-push_cases x v nodes k) [ inl a ↦ h.all v a | inr e ↦ subst (Marked s) e m ];
+  all = λ v k. elim (IsAmong-push_cases x v nodes k) [ inl a ↦ h.all v a | inr e ↦ subst (IsMember s) e m ];
   origin = λ v k. elim (h.origin v k) [ inl a ↦ inl a | inr a ↦ inr (IsAmong-append_left v nodes (x ∷ []) a) ];
   notes_kept = h.notes_kept;
   noted = h.noted;
@@ -30,27 +26,27 @@ IsSpread-skip s0 s t0 t nodes x m h = record {
   sum = h.sum;
 }
 
-pub IsSpread-more : (s0 s : List Bool) (t0 t nodes : List ℕ) (x : ℕ) → x < length s → ¬ Marked s x → IsSpread s0 s t0 t nodes
+pub IsSpread-more : (s0 s : List Bool) (t0 t nodes : List ℕ) (x : ℕ) → x < length s → ¬ IsMember s x → IsSpread s0 s t0 t nodes
     → IsSpread s0 (set s x true) t0 (t ++ x ∷ []) (nodes ++ x ∷ [])
 IsSpread-more s0 s t0 t nodes x lt fresh h = record {
   units = length-set s x true ∙ h.units;
-  kept = λ v m. Marked-set_other s x v (h.kept v m);
+  kept = λ v m. IsMember-set_other s x v (h.kept v m);
   all = λ v k. elim (IsAmong-push_cases x v nodes k) [
-    | inl a ↦ Marked-set_other s x v (h.all v a)
-    | inr e ↦ subst (Marked (set s x true)) e (Marked-set_same s x lt)
+    | inl a ↦ IsMember-set_other s x v (h.all v a)
+    | inr e ↦ subst (IsMember (set s x true)) e (IsMember-set_same s x lt)
   ];
-  origin = λ v k. elim (Marked-set s x v lt k) [
+  origin = λ v k. elim (IsMember-set s x v lt k) [
     | inl m ↦ elim (h.origin v m) [ inl a ↦ inl a | inr a ↦ inr (IsAmong-append_left v nodes (x ∷ []) a) ]
     | inr e ↦ inr (IsAmong-append_right v nodes (x ∷ []) (inl e))
   ];
   notes_kept = λ v k. IsAmong-append_left v t (x ∷ []) (h.notes_kept v k);
-  noted = λ v k. elim (Marked-set s x v lt k) [
+  noted = λ v k. elim (IsMember-set s x v lt k) [
     | inl m ↦ elim (h.noted v m) [ inl a ↦ inl a | inr a ↦ inr (IsAmong-append_left v t (x ∷ []) a) ]
     | inr e ↦ inr (IsAmong-append_right v t (x ∷ []) (inl e))
   ];
   notes_origin = λ v k. elim (IsAmong-push_cases x v t k) [
     | inl m ↦ elim (h.notes_origin v m) [ inl a ↦ inl a | inr a ↦ inr (IsAmong-append_left v nodes (x ∷ []) a.0, a.1) ]
-    | inr e ↦ inr (IsAmong-append_right v nodes (x ∷ []) (inl e), λ m. fresh (subst (Marked s) (sym e) (h.kept v m)))
+    | inr e ↦ inr (IsAmong-append_right v nodes (x ∷ []) (inl e), λ m. fresh (subst (IsMember s) (sym e) (h.kept v m)))
   ];
   sum = (let a = unset-set s x lt fresh in let b : length (t ++ x ∷ []) ≡ length t + 1 = length-append t (x ∷ []) in let d = h.sum in omega arith);
 }

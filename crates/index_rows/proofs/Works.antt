@@ -1,22 +1,15 @@
 -- How far a closure has come.
-use Rattle.std.proofs.Common.{◌≡◌, ℕ, ◌⊎◌, ◌↔◌, inl, inr, Bool, false, List, [], ◌∷◌, ◌++◌, length, refl, ◌∙◌, subst, replicate}
+use Rattle.std.proofs.Common.{[], ◌++◌, ◌↔◌, ◌∙◌, ◌∷◌, ◌≡◌, ◌⊎◌, Bool, false, inl, inr, length, List, refl, replicate, subst, ℕ}
 use Rattle.std.proofs.lemmas.List.{length-replicate}
-use Rattle.list_laws.specs.Members.{IsAmong, IsAmong-append_left, IsAmong-append_right}
-use Rattle.name_closure.specs.Chains.{IsReached}
-use Rattle.name_closure.specs.ClosureLaws.{reached_closed, reached_least}
-use Rattle.name_closure.specs.ListedLaws.{Listed}
-use Rattle.index_rows.specs.Rows.{Marked}
-use Rattle.index_rows.specs.MarkLaws.{Marked-none}
-use Rattle.index_rows.specs.Spreads.{IsSpread}
-use Rattle.index_rows.specs.ListLaws.{IsAmong-push_cases}
+use Rattle.index_rows.proofs.Prelude.{IsAmong, IsAmong-append_left, IsAmong-append_right, IsAmong-push_cases, IsMember, IsMember-none, IsReached, IsSpread, Listed, reached_closed, reached_least}
 
--- all that is marked is reached, and what is marked is still to be done or all that it leads to is marked
+-- all members are reached, and each member is either still to be done or all its successors are members
 pub record IsWork (count : ℕ) (leads : ℕ → ℕ → Type 0) (sources : List ℕ) (seen : List Bool) (todo : List ℕ) : Type 0 where
   pub units : length seen ≡ count
-  pub sound : (v : ℕ) → Marked seen v → IsReached (Listed sources) leads v
-  pub noted : (v : ℕ) → IsAmong v todo → Marked seen v
-  pub closed : (u : ℕ) → Marked seen u → IsAmong u todo ⊎ ((v : ℕ) → leads u v → Marked seen v)
-  pub start : (v : ℕ) → IsAmong v sources → Marked seen v
+  pub sound : (v : ℕ) → IsMember seen v → IsReached (Listed sources) leads v
+  pub noted : (v : ℕ) → IsAmong v todo → IsMember seen v
+  pub closed : (u : ℕ) → IsMember seen u → IsAmong u todo ⊎ ((v : ℕ) → leads u v → IsMember seen v)
+  pub start : (v : ℕ) → IsAmong v sources → IsMember seen v
 
 pub IsWork-init : (count : ℕ) (leads : ℕ → ℕ → Type 0) (sources : List ℕ) (none seen : List Bool) (before todo : List ℕ) → none ≡ replicate (count) false → before ≡ []
     → IsSpread none seen before todo sources → IsWork count leads sources seen todo
@@ -26,9 +19,9 @@ IsWork-init count leads sources none seen before todo e f h =
     let s : IsSpread (replicate (count) false) seen [] todo sources = subst P e (subst Q f h) in
     record {
       units = s.units ∙ length-replicate (count) false;
-      sound = λ v m. elim (s.origin v m) [ inl k ↦ absurd (Marked-none (count) v k) | inr k ↦ record { steps = 0; chain = k } ];
+      sound = λ v m. elim (s.origin v m) [ inl k ↦ absurd (IsMember-none (count) v k) | inr k ↦ record { steps = 0; chain = k } ];
       noted = λ v k. elim (s.notes_origin v k) [ inl a ↦ absurd a | inr a ↦ s.all v a.0 ];
-      closed = λ u m. elim (s.noted u m) [ inl k ↦ absurd (Marked-none (count) u k) | inr k ↦ inl k ];
+      closed = λ u m. elim (s.noted u m) [ inl k ↦ absurd (IsMember-none (count) u k) | inr k ↦ inl k ];
       start = s.all;
     }
 
@@ -36,7 +29,7 @@ pub IsWork-step : (count : ℕ) (leads : ℕ → ℕ → Type 0) (sources : List
     → ((v : ℕ) → IsAmong v next ↔ leads node v)
     → IsWork count leads sources seen (todo ++ node ∷ []) → IsSpread seen new todo after next → IsWork count leads sources new after
 IsWork-step count leads sources node next seen new todo after same w s =
-    let P : ℕ → Type 0 = λ x. (v : ℕ) → leads x v → Marked new v in
+    let P : ℕ → Type 0 = λ x. (v : ℕ) → leads x v → IsMember new v in
     let here = w.sound node (w.noted node (IsAmong-append_right node todo (node ∷ []) (inl refl))) in
     record {
       units = s.units ∙ w.units;
@@ -53,12 +46,12 @@ IsWork-step count leads sources node next seen new todo after same w s =
     }
 
 pub IsWork-done : (count : ℕ) (leads : ℕ → ℕ → Type 0) (sources : List ℕ) (seen : List Bool) (todo : List ℕ) → todo ≡ [] → IsWork count leads sources seen todo
-    → (v : ℕ) → Marked seen v ↔ IsReached (Listed sources) leads v
+    → (v : ℕ) → IsMember seen v ↔ IsReached (Listed sources) leads v
 IsWork-done count leads sources seen todo e w v =
     let P : List ℕ → Type 0 = λ l. IsWork count leads sources seen l in
     let z : IsWork count leads sources seen [] = subst P e w in (
       w.sound v,
-      reached_least (Listed sources) leads (Marked seen) (record {
+      reached_least (Listed sources) leads (IsMember seen) (record {
         started = w.start;
         stepped = λ n m k l. elim (z.closed n k) [ inl none ↦ absurd none | inr all ↦ all m l ];
       }) v,

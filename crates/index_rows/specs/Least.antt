@@ -1,10 +1,10 @@
--- The least of a set.
+-- The least member of a set.
 -- Source: this project's own.
-use Rattle.std.specs.Prelude.{◌≡◌}
+use Rattle.std.proofs.Common.{◌≡◌}
 use Rattle.std.specs.declared.cmp.Ordering.{Ordering}
 use Rattle.std.specs.declared.cmp.Ordering.TheVariants.{Less}
 
--- the node is one of the set, and none of the set is less
+-- the node is a member of the set, and no member is less
 pub record IsLeast {N : Type 0} (order : N → N → Ordering) (set : N → Type 0) (u : N) : Type 0 where
   pub member : set u
   pub least : (v : N) → set v → ¬ (order v u ≡ Less)

@@ -1,12 +1,11 @@
--- Lists that grow at their end, and numbers compared.
-use Rattle.std.proofs.Common.{◌≡◌, ℕ, ◌<◌, ◌⊎◌, inl, inr, List, [], ◌∷◌, ◌++◌, length, refl, sym, arith}
-use Rattle.std.specs.List.{All}
-use Rattle.std.specs.Ordering.{nat_cmp}
-use Rattle.std.specs.Cmp.{nat_cmp_is}
-use Rattle.std.specs.declared.cmp.Ordering.TheVariants.{Less}
+-- Lists that grow at their end, and comparisons of numbers.
+use Rattle.std.proofs.Common.{[], ◌++◌, ◌<◌, ◌∷◌, ◌≡◌, ◌⊎◌, All, arith, inl, inr, length, List, refl, sym, ℕ}
 use Rattle.std.proofs.lemmas.Cmp.{ranked}
 use Rattle.std.proofs.lemmas.List.Elements.{All-contains}
-use Rattle.list_laws.specs.Members.{IsAmong, contains_from_among, IsAmong-append_cases, IsAmong-append_right}
+use Rattle.std.specs.Cmp.{nat_cmp_is}
+use Rattle.std.specs.Ordering.{nat_cmp}
+use Rattle.std.specs.declared.cmp.Ordering.TheVariants.{Less}
+use Rattle.index_rows.specs.Prelude.{contains_from_among, IsAmong, IsAmong-append_cases, IsAmong-append_right}
 
 pub IsAmong-push : {X : Type 0} (x : X) (xs : List X) → IsAmong x (xs ++ x ∷ [])
 IsAmong-push x xs = IsAmong-append_right x xs (x ∷ []) (inl refl)
@@ -14,7 +13,7 @@ IsAmong-push x xs = IsAmong-append_right x xs (x ∷ []) (inl refl)
 pub IsAmong-push_cases : {X : Type 0} (x v : X) (xs : List X) → IsAmong v (xs ++ x ∷ []) → IsAmong v xs ⊎ (x ≡ v)
 IsAmong-push_cases x v xs h = elim (IsAmong-append_cases v xs (x ∷ []) h) [ inl a ↦ inl a | inr a ↦ elim a [ inl e ↦ inr e | inr none ↦ absurd none ] ]
 
--- what holds of all that stand in a list
+-- what holds of all members of a list
 pub All-among : {X : Type 0} (P : X → Type 0) (xs : List X) (x : X) → All P xs → IsAmong x xs → P x
 All-among P xs x all h = All-contains P xs x all (contains_from_among x xs h)
 

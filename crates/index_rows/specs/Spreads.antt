@@ -1,36 +1,33 @@
--- What steps of the code add to marks, lists and rows. Only private clauses cite these, and that of `lesser`.
-use Rattle.std.specs.Prelude.{◌≡◌, ◌+◌, ◌⊎◌, ℕ, Bool, List, length, Option, Some, None, min}
-use Rattle.std.specs.Option.{MatchOption}
+-- What code adds to bit sets and lists. Only private clauses cite these, and the clause of `lesser`.
+use Rattle.std.proofs.Common.{◌+◌, ◌≡◌, ◌⊎◌, Bool, length, List, MatchOption, min, None, Option, Some, ℕ}
 use Rattle.std.specs.Ordering.{nat_cmp}
-use Rattle.std.specs.declared.vec.Vec.{Vec}
 use Rattle.std.specs.declared.alloc.Global.{Global}
-use Rattle.list_laws.specs.Members.{IsAmong}
-use Rattle.index_rows.specs.Least.{IsLeast}
-use Rattle.index_rows.specs.Rows.{Marked, row as row_of, times}
-use Rattle.index_rows.specs.MarkLaws.{unset}
+use Rattle.std.specs.declared.vec.Vec.{Vec}
+use Rattle.index_rows.specs.Prelude.{IsAmong}
+use Rattle.index_rows.specs.{Adjacency.IsMember, Adjacency.neighbors as neighbors_of, Adjacency.times, BitSetLaws.unset, Least.IsLeast}
 
--- the nodes of a list were marked, and those that weren't marked before stand behind the noted ones
+-- the nodes of a list were added to the set, and those that weren't in it before were added to the noted ones
 pub record IsSpread (old new : List Bool) (before after nodes : List ℕ) : Type 0 where
   pub units : length new ≡ length old
-  pub kept : (v : ℕ) → Marked old v → Marked new v
-  pub all : (v : ℕ) → IsAmong v nodes → Marked new v
-  pub origin : (v : ℕ) → Marked new v → Marked old v ⊎ IsAmong v nodes
+  pub kept : (v : ℕ) → IsMember old v → IsMember new v
+  pub all : (v : ℕ) → IsAmong v nodes → IsMember new v
+  pub origin : (v : ℕ) → IsMember new v → IsMember old v ⊎ IsAmong v nodes
   pub notes_kept : (v : ℕ) → IsAmong v before → IsAmong v after
-  pub noted : (v : ℕ) → Marked new v → Marked old v ⊎ IsAmong v after
-  pub notes_origin : (v : ℕ) → IsAmong v after → IsAmong v before ⊎ (IsAmong v nodes × ¬ Marked old v)
+  pub noted : (v : ℕ) → IsMember new v → IsMember old v ⊎ IsAmong v after
+  pub notes_origin : (v : ℕ) → IsAmong v after → IsAmong v before ⊎ (IsAmong v nodes × ¬ IsMember old v)
   pub sum : unset new + length after ≡ unset old + length before
 
--- the node was added to the rows of the nodes of a list, as often as these stand there
+-- `node` was added to the adjacency lists of the nodes of a list, as often as these occur there
 pub record IsNoted (old new : List (Vec ℕ Global)) (nodes : List ℕ) (node : ℕ) : Type 0 where
   pub units : length new ≡ length old
-  pub same : (u v : ℕ) → node ≡ v → times v (row_of new u) ≡ times v (row_of old u) + times u nodes
-  pub other : (u v : ℕ) → ¬ (node ≡ v) → times v (row_of new u) ≡ times v (row_of old u)
+  pub same : (u v : ℕ) → node ≡ v → times v (neighbors_of new u) ≡ times v (neighbors_of old u) + times u nodes
+  pub other : (u v : ℕ) → ¬ (node ≡ v) → times v (neighbors_of new u) ≡ times v (neighbors_of old u)
 
--- the least of a set, or none where it is empty
+-- the least member of a set, or none if it is empty
 abbrev pub IsLeastOrNone : (ℕ → Type 0) → Option ℕ → Type 0
 IsLeastOrNone set least = MatchOption least ((v : ℕ) → ¬ set v) (IsLeast nat_cmp set)
 
--- the lesser of two numbers, of which each may be missing
+-- the lesser of two indices, each of which may be missing
 abbrev pub lesser_of : Option ℕ → Option ℕ → Option ℕ
 lesser_of None second = second
 lesser_of (Some one) None = Some one

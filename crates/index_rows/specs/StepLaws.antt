@@ -1,81 +1,78 @@
--- Steps of several kinds: where they lead.
-use Rattle.std.proofs.Common.{◌≡◌, ℕ, zero, suc, ◌<◌, ◌⊎◌, ◌↔◌, inl, inr, Bool, true, false, cond, List, [], ◌∷◌, ◌++◌, refl, sym, subst, arith, replicate, filter, append-nil, ◌||◌, eqb, ◌∙◌, ap, length}
-use Rattle.std.specs.List.{All, AllByRecursion}
-use Rattle.std.specs.List.Sorted.{IsStrictlySortedBy}
+-- Edges of several kinds: where they lead.
+use Rattle.std.proofs.Common.{[], ◌++◌, ◌<◌, ◌||◌, ◌↔◌, ◌∙◌, ◌∷◌, ◌≡◌, ◌⊎◌, All, ap, append-nil, arith, Bool, cond, eqb, false, filter, inl, inr, length, List, refl, replicate, subst, suc, sym, true, zero, ℕ}
+use Rattle.std.proofs.lemmas.Bool.{cases_eq, cases_lt, eq-eqb, ne_eqb}
+use Rattle.std.proofs.lemmas.List.Concat.{flat_map-append}
+use Rattle.std.proofs.lemmas.List.Elements.{All-append, All-head, All-tail}
+use Rattle.std.specs.List.{AllByRecursion}
 use Rattle.std.specs.Ordering.{nat_cmp}
+use Rattle.std.specs.declared.alloc.Global.{Global}
 use Rattle.std.specs.declared.cmp.Ordering.TheVariants.{Less}
 use Rattle.std.specs.declared.vec.Vec.{Vec}
-use Rattle.std.specs.declared.alloc.Global.{Global}
-use Rattle.std.proofs.lemmas.Bool.{cases_eq, cases_lt, ne_eqb, eq-eqb}
-use Rattle.std.proofs.lemmas.List.Elements.{All-append, All-head, All-tail}
-use Rattle.std.proofs.lemmas.List.Concat.{flat_map-append}
-use Rattle.list_laws.specs.Members.{IsAmong, IsAmong-append_left, IsAmong-append_right, IsAmong-append_cases}
-use Rattle.index_rows.specs.Rows.{Marked, AreRowsOf, AreTurned, row, times}
-use Rattle.index_rows.specs.ListLaws.{cmp_below}
-use Rattle.index_rows.specs.RowLaws.{All-row, row-below, row-past, times_cases, times-in, times-cons_same, times-cons_other}
-use Rattle.index_rows.specs.Steps.{AreOpposite, AreStepsOf, LeadsInside, is_marked, stands_in, steps_from, steps_inside}
+use Rattle.index_rows.specs.Prelude.{IsAmong, IsAmong-append_cases, IsAmong-append_left, IsAmong-append_right}
+use Rattle.index_rows.specs.{Adjacency.AreAdjacencyOf, Adjacency.AreTransposed, Adjacency.IsMember, Adjacency.neighbors, Adjacency.times, AdjacencyLaws.All-neighbors, AdjacencyLaws.neighbors-below, AdjacencyLaws.neighbors-past, AdjacencyLaws.times-cons_other, AdjacencyLaws.times-cons_same, AdjacencyLaws.times-in, AdjacencyLaws.times_cases, ListLaws.cmp_below, Successors.AreOpposite, Successors.AreSuccessorsOf, Successors.is_member, Successors.LeadsInside, Successors.stands_in, Successors.successors_from, Successors.successors_inside}
+use Rattle.std.specs.List.Sorted.{IsStrictlySortedBy}
 
--- a row with something in it is that of one of so many nodes
-pub row-start : (n : ℕ) (rows : List (Vec ℕ Global)) (u v : ℕ) → AreRowsOf n rows → IsAmong v (row rows u) → u < n
-row-start n rows u v a h = elim (cases_lt u (length rows)) [
+-- a node whose adjacency list isn't empty is one of the n nodes
+pub neighbors-start : (n : ℕ) (adjacency : List (Vec ℕ Global)) (u v : ℕ) → AreAdjacencyOf n adjacency → IsAmong v (neighbors adjacency u) → u < n
+neighbors-start n adjacency u v a h = elim (cases_lt u (length adjacency)) [
   | inl l ↦ (let e = a.one_each in omega (arith, l, e))
-  | inr l ↦ (let past : row rows u ≡ [] = row-past rows u l in
+  | inr l ↦ (let past : neighbors adjacency u ≡ [] = neighbors-past adjacency u l in
       let P : List ℕ → Type 0 = λ r. IsAmong v r in
       absurd (subst P past h))
 ]
 
--- the steps of one kind
-pub one_kind : (rows : List (Vec ℕ Global)) (u v : ℕ) → IsAmong v (steps_from (rows ∷ []) u) ↔ IsAmong v (row rows u)
-one_kind rows u v = let P : List ℕ → Type 0 = λ l. IsAmong v l ↔ IsAmong v (row rows u) in subst P (sym (append-nil (row rows u))) (λ h. h, λ h. h)
+-- the edges of one kind
+pub one_kind : (adjacency : List (Vec ℕ Global)) (u v : ℕ) → IsAmong v (successors_from (adjacency ∷ []) u) ↔ IsAmong v (neighbors adjacency u)
+one_kind adjacency u v = let P : List ℕ → Type 0 = λ l. IsAmong v l ↔ IsAmong v (neighbors adjacency u) in subst P (sym (append-nil (neighbors adjacency u))) (λ h. h, λ h. h)
 
--- the steps of some kinds and of others
-pub more_kinds : (kinds others : List (List (Vec ℕ Global))) (u v : ℕ) → IsAmong v (steps_from (kinds ++ others) u) ↔ (IsAmong v (steps_from kinds u) ⊎ IsAmong v (steps_from others u))
+-- the edges of some kinds and of others
+pub more_kinds : (kinds others : List (List (Vec ℕ Global))) (u v : ℕ) → IsAmong v (successors_from (kinds ++ others) u) ↔ (IsAmong v (successors_from kinds u) ⊎ IsAmong v (successors_from others u))
 more_kinds kinds others u v =
-    let P : List ℕ → Type 0 = λ l. IsAmong v l ↔ (IsAmong v (steps_from kinds u) ⊎ IsAmong v (steps_from others u)) in
-    subst P (sym (flat_map-append (λ rows. row rows u) kinds others)) (
-      IsAmong-append_cases v (steps_from kinds u) (steps_from others u),
+    let P : List ℕ → Type 0 = λ l. IsAmong v l ↔ (IsAmong v (successors_from kinds u) ⊎ IsAmong v (successors_from others u)) in
+    subst P (sym (flat_map-append (λ adjacency. neighbors adjacency u) kinds others)) (
+      IsAmong-append_cases v (successors_from kinds u) (successors_from others u),
       λ h. elim h [
-        | inl a ↦ IsAmong-append_left v (steps_from kinds u) (steps_from others u) a
-        | inr a ↦ IsAmong-append_right v (steps_from kinds u) (steps_from others u) a
+        | inl a ↦ IsAmong-append_left v (successors_from kinds u) (successors_from others u) a
+        | inr a ↦ IsAmong-append_right v (successors_from kinds u) (successors_from others u) a
       ],
     )
 
 -- one more kind
-pub steps-push : (kinds : List (List (Vec ℕ Global))) (rows : List (Vec ℕ Global)) (u : ℕ) → steps_from (kinds ++ rows ∷ []) u ≡ steps_from kinds u ++ row rows u
-steps-push kinds rows u = flat_map-append (λ r. row r u) kinds (rows ∷ []) ∙ ap (λ l. steps_from kinds u ++ l) (append-nil (row rows u))
+pub successors-push : (kinds : List (List (Vec ℕ Global))) (adjacency : List (Vec ℕ Global)) (u : ℕ) → successors_from (kinds ++ adjacency ∷ []) u ≡ successors_from kinds u ++ neighbors adjacency u
+successors-push kinds adjacency u = flat_map-append (λ r. neighbors r u) kinds (adjacency ∷ []) ∙ ap (λ l. successors_from kinds u ++ l) (append-nil (neighbors adjacency u))
 
-pub within-one : (n : ℕ) (rows : List (Vec ℕ Global)) → AreRowsOf n rows → AreStepsOf n (rows ∷ [])
-within-one n rows a zero d lt = a
-within-one n rows a (suc k) d lt = absurd (omega arith)
+pub within-one : (n : ℕ) (adjacency : List (Vec ℕ Global)) → AreAdjacencyOf n adjacency → AreSuccessorsOf n (adjacency ∷ [])
+within-one n adjacency a zero d lt = a
+within-one n adjacency a (suc k) d lt = absurd (omega arith)
 
-pub within-both : (n : ℕ) (kinds others : List (List (Vec ℕ Global))) → AreStepsOf n kinds → AreStepsOf n others → AreStepsOf n (kinds ++ others)
-within-both n kinds others a b = All-append (AreRowsOf n) kinds others a b
+pub within-both : (n : ℕ) (kinds others : List (List (Vec ℕ Global))) → AreSuccessorsOf n kinds → AreSuccessorsOf n others → AreSuccessorsOf n (kinds ++ others)
+within-both n kinds others a b = All-append (AreAdjacencyOf n) kinds others a b
 
--- a step leads to one of so many nodes
-pub steps-below : (n : ℕ) (kinds : List (List (Vec ℕ Global))) (u v : ℕ) → AreStepsOf n kinds → IsAmong v (steps_from kinds u) → v < n
-steps-below n [] u v a h = absurd h
-steps-below n (rows ∷ kinds) u v a h = elim (IsAmong-append_cases v (row rows u) (steps_from kinds u) h) [
-  | inl k ↦ row-below n rows u v (All-head (AreRowsOf n) rows kinds a).within k
-  | inr k ↦ steps-below n kinds u v (All-tail (AreRowsOf n) rows kinds a) k
+-- an edge leads to one of the n nodes
+pub successors-below : (n : ℕ) (kinds : List (List (Vec ℕ Global))) (u v : ℕ) → AreSuccessorsOf n kinds → IsAmong v (successors_from kinds u) → v < n
+successors-below n [] u v a h = absurd h
+successors-below n (adjacency ∷ kinds) u v a h = elim (IsAmong-append_cases v (neighbors adjacency u) (successors_from kinds u) h) [
+  | inl k ↦ neighbors-below n adjacency u v (All-head (AreAdjacencyOf n) adjacency kinds a).within k
+  | inr k ↦ successors-below n kinds u v (All-tail (AreAdjacencyOf n) adjacency kinds a) k
 ]
 
 -- and from one of them
-pub steps-start : (n : ℕ) (kinds : List (List (Vec ℕ Global))) (u v : ℕ) → AreStepsOf n kinds → IsAmong v (steps_from kinds u) → u < n
-steps-start n [] u v a h = absurd h
-steps-start n (rows ∷ kinds) u v a h = elim (IsAmong-append_cases v (row rows u) (steps_from kinds u) h) [
-  | inl k ↦ row-start n rows u v (All-head (AreRowsOf n) rows kinds a) k
-  | inr k ↦ steps-start n kinds u v (All-tail (AreRowsOf n) rows kinds a) k
+pub successors-start : (n : ℕ) (kinds : List (List (Vec ℕ Global))) (u v : ℕ) → AreSuccessorsOf n kinds → IsAmong v (successors_from kinds u) → u < n
+successors-start n [] u v a h = absurd h
+successors-start n (adjacency ∷ kinds) u v a h = elim (IsAmong-append_cases v (neighbors adjacency u) (successors_from kinds u) h) [
+  | inl k ↦ neighbors-start n adjacency u v (All-head (AreAdjacencyOf n) adjacency kinds a) k
+  | inr k ↦ successors-start n kinds u v (All-tail (AreAdjacencyOf n) adjacency kinds a) k
 ]
 
--- among so many marks that are all set, each node has one
-pub Marked-all : (n v : ℕ) → v < n → Marked (replicate n true) v
-Marked-all zero v l = absurd (omega arith)
-Marked-all (suc n) zero l = refl
-Marked-all (suc n) (suc v) l = Marked-all n v (omega arith)
+-- in the set of all of n nodes, each node is a member
+pub IsMember-all : (n v : ℕ) → v < n → IsMember (replicate n true) v
+IsMember-all zero v l = absurd (omega arith)
+IsMember-all (suc n) zero l = refl
+IsMember-all (suc n) (suc v) l = IsMember-all n v (omega arith)
 
--- ---- rows that rise
+-- ---- ascending lists
 
--- a node that is above all of a list doesn't stand there
+-- a node above all of a list's members isn't among them
 above_all : (x v : ℕ) (xs : List ℕ) → AllByRecursion (λ y. nat_cmp x y ≡ Less) xs → IsAmong v xs → x < v
 above_all x v [] a h = absurd h
 above_all x v (y ∷ ys) a (inl e) = subst (λ w. x < w) e (cmp_below x y a.0)
@@ -84,7 +81,7 @@ above_all x v (y ∷ ys) a (inr h) = above_all x v ys a.1 h
 times_none : (v : ℕ) (xs : List ℕ) → ¬ IsAmong v xs → times v xs ≡ 0
 times_none v xs out = elim (times_cases v xs) [ inl z ↦ z | inr a ↦ absurd (out a) ]
 
--- in a list that rises each stands once
+-- in a strictly ascending list each member occurs once
 pub times_once : (v : ℕ) (xs : List ℕ) → IsStrictlySortedBy nat_cmp xs → IsAmong v xs → times v xs ≡ 1
 unfolding IsStrictlySortedBy
 times_once v [] s h = absurd h
@@ -93,31 +90,31 @@ times_once v (x ∷ xs) s (inl e) =
 times_once v (x ∷ xs) s (inr h) =
     times-cons_other v xs x (λ e. (let l : x < v = above_all x v xs s.0 h in omega (arith, l, e))) ∙ times_once v xs s.1 h
 
--- rows that rise are turned round where their steps lead back
-pub turned_from : (rows others : List (Vec ℕ Global)) → ((u : ℕ) → IsStrictlySortedBy nat_cmp (row rows u)) → ((u : ℕ) → IsStrictlySortedBy nat_cmp (row others u))
-    → ((u v : ℕ) → IsAmong v (row others u) ↔ IsAmong u (row rows v)) → AreTurned rows others
-turned_from rows others s t h u v = elim (times_cases v (row others u)) [
-  | inl z ↦ z ∙ sym (times_none u (row rows v) (λ a. (let b = times-in v (row others u) ((h u v).1 a) in omega (arith, b, z))))
-  | inr a ↦ times_once v (row others u) (t u) a ∙ sym (times_once u (row rows v) (s v) ((h u v).0 a))
+-- ascending adjacency lists are transposed where their edges lead back
+pub transposed_from : (adjacency others : List (Vec ℕ Global)) → ((u : ℕ) → IsStrictlySortedBy nat_cmp (neighbors adjacency u)) → ((u : ℕ) → IsStrictlySortedBy nat_cmp (neighbors others u))
+    → ((u v : ℕ) → IsAmong v (neighbors others u) ↔ IsAmong u (neighbors adjacency v)) → AreTransposed adjacency others
+transposed_from adjacency others s t h u v = elim (times_cases v (neighbors others u)) [
+  | inl z ↦ z ∙ sym (times_none u (neighbors adjacency v) (λ a. (let b = times-in v (neighbors others u) ((h u v).1 a) in omega (arith, b, z))))
+  | inr a ↦ times_once v (neighbors others u) (t u) a ∙ sym (times_once u (neighbors adjacency v) (s v) ((h u v).0 a))
 ]
 
--- where all marks are set, all of a list is marked
-filter_all : (n : ℕ) (xs : List ℕ) → All (λ v. v < n) xs → filter (is_marked (replicate n true)) xs ≡ xs
+-- in the set of all nodes, all nodes of a list are members
+filter_all : (n : ℕ) (xs : List ℕ) → All (λ v. v < n) xs → filter (is_member (replicate n true)) xs ≡ xs
 filter_all n [] a = refl
-filter_all n (x ∷ xs) a = keep (is_marked (replicate n true) x) (Marked-all n x (All-head (λ v. v < n) x xs a)) ∙ ap (λ ys. x ∷ ys) (filter_all n xs (All-tail (λ v. v < n) x xs a))
+filter_all n (x ∷ xs) a = keep (is_member (replicate n true) x) (IsMember-all n x (All-head (λ v. v < n) x xs a)) ∙ ap (λ ys. x ∷ ys) (filter_all n xs (All-tail (λ v. v < n) x xs a))
   where
-    keep : (b : Bool) → b ≡ true → cond b (x ∷ filter (is_marked (replicate n true)) xs) (filter (is_marked (replicate n true)) xs) ≡ x ∷ filter (is_marked (replicate n true)) xs
+    keep : (b : Bool) → b ≡ true → cond b (x ∷ filter (is_member (replicate n true)) xs) (filter (is_member (replicate n true)) xs) ≡ x ∷ filter (is_member (replicate n true)) xs
     keep true e = refl
     keep false e = cc
 
--- and all steps lead to marked nodes
-pub inside_all : (n : ℕ) (kinds : List (List (Vec ℕ Global))) (u : ℕ) → AreStepsOf n kinds → steps_inside (replicate n true) kinds u ≡ steps_from kinds u
+-- and all edges lead to members
+pub inside_all : (n : ℕ) (kinds : List (List (Vec ℕ Global))) (u : ℕ) → AreSuccessorsOf n kinds → successors_inside (replicate n true) kinds u ≡ successors_from kinds u
 inside_all n [] u a = refl
-inside_all n (rows ∷ kinds) u a =
-    ap (λ l. l ++ steps_inside (replicate n true) kinds u) (filter_all n (row rows u) (All-row n rows u (All-head (AreRowsOf n) rows kinds a).within))
-    ∙ ap (λ l. row rows u ++ l) (inside_all n kinds u (All-tail (AreRowsOf n) rows kinds a))
+inside_all n (adjacency ∷ kinds) u a =
+    ap (λ l. l ++ successors_inside (replicate n true) kinds u) (filter_all n (neighbors adjacency u) (All-neighbors n adjacency u (All-head (AreAdjacencyOf n) adjacency kinds a).within))
+    ∙ ap (λ l. neighbors adjacency u ++ l) (inside_all n kinds u (All-tail (AreAdjacencyOf n) adjacency kinds a))
 
--- ---- steps the other way round
+-- ---- transposed edges
 
 or_first : (a b : Bool) → a ≡ true → (a || b) ≡ true
 or_first true b e = refl
@@ -161,7 +158,7 @@ module _ (next others : ℕ → List ℕ) where
       (λ e. among_stands u (next v) ((h u v).0 (stands_among v (others u) e)))
       (λ e. among_stands v (others u) ((h u v).1 (stands_among u (next v) e)))
 
--- ---- the marked ones of a list
+-- ---- the members of a set in a list
 
 filter_one : (b : Bool) (v x : ℕ) (xs ys : List ℕ) → IsAmong v (cond b (x ∷ ys) ys) → ((b ≡ true) × (x ≡ v)) ⊎ IsAmong v ys
 filter_one true v x xs ys (inl e) = inl (refl, e)
@@ -176,35 +173,35 @@ filter_later : (b : Bool) (v x : ℕ) (ys : List ℕ) → IsAmong v ys → IsAmo
 filter_later true v x ys h = inr h
 filter_later false v x ys h = h
 
-pub filtered : (inside : List Bool) (xs : List ℕ) (v : ℕ) → IsAmong v (filter (is_marked inside) xs) ↔ (IsAmong v xs × Marked inside v)
+pub filtered : (inside : List Bool) (xs : List ℕ) (v : ℕ) → IsAmong v (filter (is_member inside) xs) ↔ (IsAmong v xs × IsMember inside v)
 filtered inside [] v = (λ h. absurd h, λ h. absurd h.0)
 filtered inside (x ∷ xs) v = (
-  λ h. elim (filter_one (is_marked inside x) v x xs (filter (is_marked inside) xs) h) [
-    | inl a ↦ (inl a.1, subst (Marked inside) a.1 a.0)
+  λ h. elim (filter_one (is_member inside x) v x xs (filter (is_member inside) xs) h) [
+    | inl a ↦ (inl a.1, subst (IsMember inside) a.1 a.0)
     | inr a ↦ (let k = (filtered inside xs v).0 a in (inr k.0, k.1))
   ],
   λ h. elim h.0 [
-    | inl e ↦ filter_first (is_marked inside x) v x (filter (is_marked inside) xs) (subst (Marked inside) (sym e) h.1) e
-    | inr a ↦ filter_later (is_marked inside x) v x (filter (is_marked inside) xs) ((filtered inside xs v).1 (a, h.1))
+    | inl e ↦ filter_first (is_member inside x) v x (filter (is_member inside) xs) (subst (IsMember inside) (sym e) h.1) e
+    | inr a ↦ filter_later (is_member inside x) v x (filter (is_member inside) xs) ((filtered inside xs v).1 (a, h.1))
   ],
 )
 
-module _ (inside : List Bool) (rows : List (Vec ℕ Global)) (kinds : List (List (Vec ℕ Global))) (u v : ℕ) (rest : IsAmong v (steps_inside inside kinds u) ↔ LeadsInside inside kinds u v) where
+module _ (inside : List Bool) (adjacency : List (Vec ℕ Global)) (kinds : List (List (Vec ℕ Global))) (u v : ℕ) (rest : IsAmong v (successors_inside inside kinds u) ↔ LeadsInside inside kinds u v) where
   abbrev first : List ℕ
-  first = filter (is_marked inside) (row rows u)
+  first = filter (is_member inside) (neighbors adjacency u)
 
-  inside_there : IsAmong v (steps_inside inside (rows ∷ kinds) u) → LeadsInside inside (rows ∷ kinds) u v
-  inside_there h = elim (IsAmong-append_cases v first (steps_inside inside kinds u) h) [
-    | inl a ↦ (let k = (filtered inside (row rows u) v).0 a in record { step = IsAmong-append_left v (row rows u) (steps_from kinds u) k.0; marked = k.1 })
-    | inr a ↦ (let k = rest.0 a in record { step = IsAmong-append_right v (row rows u) (steps_from kinds u) k.step; marked = k.marked })
+  inside_there : IsAmong v (successors_inside inside (adjacency ∷ kinds) u) → LeadsInside inside (adjacency ∷ kinds) u v
+  inside_there h = elim (IsAmong-append_cases v first (successors_inside inside kinds u) h) [
+    | inl a ↦ (let k = (filtered inside (neighbors adjacency u) v).0 a in record { step = IsAmong-append_left v (neighbors adjacency u) (successors_from kinds u) k.0; member = k.1 })
+    | inr a ↦ (let k = rest.0 a in record { step = IsAmong-append_right v (neighbors adjacency u) (successors_from kinds u) k.step; member = k.member })
   ]
 
-  inside_back : LeadsInside inside (rows ∷ kinds) u v → IsAmong v (steps_inside inside (rows ∷ kinds) u)
-  inside_back l = elim (IsAmong-append_cases v (row rows u) (steps_from kinds u) l.step) [
-    | inl a ↦ IsAmong-append_left v first (steps_inside inside kinds u) ((filtered inside (row rows u) v).1 (a, l.marked))
-    | inr a ↦ IsAmong-append_right v first (steps_inside inside kinds u) (rest.1 (record { step = a; marked = l.marked }))
+  inside_back : LeadsInside inside (adjacency ∷ kinds) u v → IsAmong v (successors_inside inside (adjacency ∷ kinds) u)
+  inside_back l = elim (IsAmong-append_cases v (neighbors adjacency u) (successors_from kinds u) l.step) [
+    | inl a ↦ IsAmong-append_left v first (successors_inside inside kinds u) ((filtered inside (neighbors adjacency u) v).1 (a, l.member))
+    | inr a ↦ IsAmong-append_right v first (successors_inside inside kinds u) (rest.1 (record { step = a; member = l.member }))
   ]
 
-pub inside_is : (inside : List Bool) (kinds : List (List (Vec ℕ Global))) (u v : ℕ) → IsAmong v (steps_inside inside kinds u) ↔ LeadsInside inside kinds u v
+pub inside_is : (inside : List Bool) (kinds : List (List (Vec ℕ Global))) (u v : ℕ) → IsAmong v (successors_inside inside kinds u) ↔ LeadsInside inside kinds u v
 inside_is inside [] u v = (λ h. absurd h, λ l. absurd l.step)
-inside_is inside (rows ∷ kinds) u v = let rest = inside_is inside kinds u v in (inside_there inside rows kinds u v rest, inside_back inside rows kinds u v rest)
+inside_is inside (adjacency ∷ kinds) u v = let rest = inside_is inside kinds u v in (inside_there inside adjacency kinds u v rest, inside_back inside adjacency kinds u v rest)

@@ -1,63 +1,65 @@
-//! What is reached from sources.
+//! The nodes that are reached from sources.
 ghost use Rattle.std.specs.{Prelude.{◌≡◌, ◌<◌, ◌↔◌, ℕ, length, All, IfOk}, Ordering.{nat_cmp}};
 ghost use Rattle.name_closure.specs.{Chains.{IsReached, IsClosure}, ListedLaws.{Listed, Named}};
-ghost use Rattle.index_rows.specs.{Rows.{Marked}, Steps.{AreStepsOf, LeadsInside, steps_from}};
+ghost use Rattle.index_rows.specs.{Adjacency.{IsMember}, Successors.{AreSuccessorsOf, LeadsInside, successors_from}};
 
-use crate::marks::{all_marks, marked_nodes, no_marks, spread};
-use crate::steps::Steps;
+use crate::bits::{empty_bits, full_bits, members_of, spread};
+use crate::successors::Successors;
 use std::alloc::{AllocError, Global};
 
-/// Marks at the nodes that are reached from the sources by steps to marked nodes; the sources need no mark. O(n), the
-/// sources and the steps from what is reached.
+/// Returns the bit set of the nodes that are reached from the sources along edges to members of `inside`. The sources
+/// needn't be members. O(n + m), for n nodes, and m sources and edges from what is reached.
 pub fn reached_inside(
     alloc: Global,
-    steps: &Steps,
+    successors: &Successors,
     inside: &[bool],
     sources: &[usize],
 ) -> Result<Vec<bool>, AllocError>
-    requires steps { AreStepsOf (length inside.now) steps.now }
+    requires successors { AreSuccessorsOf (length inside.now) successors.now }
     requires sources { All (λ v. v < length inside.now) sources.now }
-    ensures units { IfOk result (λ marks. length marks.items ≡ length inside.now) }
-    ensures reached { IfOk result (λ marks. (v : ℕ) → Marked marks.items v
-        ↔ IsReached (Listed sources.now) (LeadsInside inside.now steps.now) v) }
+    ensures units { IfOk result (λ bits. length bits.items ≡ length inside.now) }
+    ensures reached { IfOk result (λ bits. (v : ℕ) → IsMember bits.items v
+        ↔ IsReached (Listed sources.now) (LeadsInside inside.now successors.now) v) }
 {
-    let mut seen = no_marks(alloc, inside.len())?;
+    let mut seen = empty_bits(alloc, inside.len())?;
     let mut todo = Vec::new(alloc);
     spread(&mut seen, &mut todo, sources)?;
     while let Some(node) = todo.pop() {
-        steps.spread(&mut seen, &mut todo, inside, node)?;
+        successors.spread(&mut seen, &mut todo, inside, node)?;
     }
     Ok(seen)
 }
 
-/// Marks at the nodes of so many that are reached from the sources. O(n), the sources and the steps from what is reached.
+/// Returns the bit set of those of `count` nodes that are reached from the sources. O(n + m), for n nodes, and m
+/// sources and edges from what is reached.
 pub fn reached(
     alloc: Global,
     count: usize,
-    steps: &Steps,
+    successors: &Successors,
     sources: &[usize],
 ) -> Result<Vec<bool>, AllocError>
-    requires steps { AreStepsOf count steps.now }
+    requires successors { AreSuccessorsOf count successors.now }
     requires sources { All (λ v. v < count) sources.now }
-    ensures units { IfOk result (λ marks. length marks.items ≡ count) }
-    ensures reached { IfOk result (λ marks. (v : ℕ) → Marked marks.items v
-        ↔ IsReached (Listed sources.now) (Named (steps_from steps.now)) v) }
+    ensures units { IfOk result (λ bits. length bits.items ≡ count) }
+    ensures reached { IfOk result (λ bits. (v : ℕ) → IsMember bits.items v
+        ↔ IsReached (Listed sources.now) (Named (successors_from successors.now)) v) }
 {
-    let all = all_marks(alloc, count)?;
-    reached_inside(alloc, steps, &all, sources)
+    let all = full_bits(alloc, count)?;
+    reached_inside(alloc, successors, &all, sources)
 }
 
-/// The nodes of so many that are reached from the sources, rising. O(n), the sources and the steps from what is reached.
+/// Returns those of `count` nodes that are reached from the sources, in ascending order. O(n + m), for n nodes, and m
+/// sources and edges from what is reached.
 pub fn closure(
     alloc: Global,
     count: usize,
-    steps: &Steps,
+    successors: &Successors,
     sources: &[usize],
 ) -> Result<Vec<usize>, AllocError>
-    requires steps { AreStepsOf count steps.now }
+    requires successors { AreSuccessorsOf count successors.now }
     requires sources { All (λ v. v < count) sources.now }
-    ensures { IfOk result (λ nodes. IsClosure (Listed sources.now) (Named (steps_from steps.now)) nat_cmp nodes.items) }
+    ensures { IfOk result (λ nodes. IsClosure (Listed sources.now) (Named (successors_from successors.now)) nat_cmp nodes.items) }
 {
-    let marks = reached(alloc, count, steps, sources)?;
-    marked_nodes(alloc, &marks)
+    let bits = reached(alloc, count, successors, sources)?;
+    members_of(alloc, &bits)
 }

@@ -1,22 +1,28 @@
-//! Nodes numbered from 0: sets of them by marks, steps between them by rows, and what is reached. What is reached
-//! and how far it is are those of `name_closure`, for numbers.
+//! Graphs whose nodes are indices from 0: bit sets of nodes, edges as adjacency lists, and what is reached.
+//! Reachability and distance are those of `name_closure`, for indices.
 //!
 //! Promise: the universe and its graph are exact.
 //!
-//! A set of nodes is a slice of marks, one for each node. Steps are rows: the row of a node has the nodes to which
-//! a step leads from it, in any order, and a node may stand there more than once.
+//! A set of nodes is a slice of booleans, one for each node. A node's adjacency list has the nodes to which an edge
+//! leads from it, in any order; a node may be there more than once.
+//!
+//! - `marks`: bit sets.
+//! - `rows`: adjacency lists, transposed and united.
+//! - `steps`: several kinds of edges, taken together.
+//! - `closures`, `shortest`: what is reached, and at which distance.
+//! - `laws`: what holds over indices holds over names.
 #![tactic(auto)]
 
+mod adjacency;
+mod bits;
 mod closures;
 mod laws;
-mod marks;
-mod rows;
 mod shortest;
-mod steps;
+mod successors;
 
+pub use adjacency::{joined, neighbors, put_in_order, transposed};
+pub use bits::{empty_bits, first_member, least_member, lesser, members_of, non_members, without};
 pub use closures::{closure, reached, reached_inside};
 pub use laws::closures_by_name;
-pub use marks::{first_marked, least_marked, lesser, marked_nodes, no_marks, unmarked, without};
-pub use rows::{joined, put_in_order, row, turned};
 pub use shortest::distances;
-pub use steps::Steps;
+pub use successors::Successors;

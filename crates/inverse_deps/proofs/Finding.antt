@@ -1,21 +1,11 @@
 -- What a search among the names of a load finds.
-use Rattle.std.proofs.Common.{◌≡◌, ◌<◌, ℕ, List, [], length, get_or, IsTrue, ap, sym, ◌∙◌, subst}
-use Rattle.std.specs.Map.{keys_of}
-use Rattle.std.specs.Option.{option_and_then}
+use Rattle.std.proofs.Common.{[], ◌<◌, ◌∙◌, ◌≡◌, ap, get_or, IsTrue, length, List, subst, sym, ℕ}
+use Rattle.std.proofs.lemmas.Option.{none-some}
 use Rattle.std.specs.Cmp.Lexicographic.{nat_list_cmp_total}
 use Rattle.std.specs.FinMap.Entries.{find, is_sorted}
-use Rattle.std.proofs.lemmas.Option.{none-some}
-use Rattle.sorted_pairs.specs.Places.{IsAt, IsGap}
-use Rattle.sorted_pairs.specs.PlaceLaws.{at_within, find_at, find_gap}
-use Rattle.unit_name.specs.Names.{Name, name_cmp}
-use Rattle.unit_name.specs.NameLaws.{name_cmp-IsAntisymmetric}
-use Rattle.unit_loads.specs.declared.units.Unit.{Unit as LoadedUnit}
-use Rattle.parallel_load.specs.declared.loaded.NameLoad.{NameLoad}
-use Rattle.parallel_load.specs.declared.loaded.NameLoad.TheVariants.{Unit as OfUnit, Alias as OfAlias}
-use Rattle.parallel_load.specs.KeyLaws.{key_found}
-use Rattle.parallel_load.specs.Loads.{LoadMap, unit_in, unit_part}
-use Rattle.inverse_deps.specs.Edges.{IsUnitIn}
-use Rattle.inverse_deps.specs.Numbers.{IsNumberOf}
+use Rattle.std.specs.Map.{keys_of}
+use Rattle.std.specs.Option.{option_and_then}
+use Rattle.inverse_deps.proofs.Prelude.{at_within, find_at, find_gap, IsAt, IsGap, IsIndexOf, IsUnitIn, key_found, LoadedUnit, LoadMap, Name, name_cmp, name_cmp-IsAntisymmetric, NameLoad, OfAlias, OfUnit, unit_in, unit_part}
 
 module _ (load : LoadMap) (es : List (Name × NameLoad)) (same : es ≡ load.names) (name : Name) where
   part_at : (at : ℕ) (p : Name × NameLoad) → IsAt name_cmp name es at → unit_in load name ≡ unit_part (get_or es at p).1
@@ -23,7 +13,7 @@ module _ (load : LoadMap) (es : List (Name × NameLoad)) (same : es ≡ load.nam
       ap (λ ns. option_and_then unit_part (find name_cmp name ns)) (sym same)
       ∙ ap (λ o. option_and_then unit_part o) (find_at name_cmp name es at p a)
 
-  pub found_unit : (at : ℕ) (p : Name × NameLoad) (unit : LoadedUnit) → IsAt name_cmp name es at → (get_or es at p).1 ≡ OfUnit unit → IsNumberOf load name at
+  pub found_unit : (at : ℕ) (p : Name × NameLoad) (unit : LoadedUnit) → IsAt name_cmp name es at → (get_or es at p).1 ≡ OfUnit unit → IsIndexOf load name at
   found_unit at p unit a u = record {
     below = (let P : List (Name × NameLoad) → Type 0 = λ ns. at < length ns in subst P same (at_within name_cmp name es at a));
     named = (let P : List (Name × NameLoad) → Type 0 = λ ns. get_or (keys_of ns) at [] ≡ name in

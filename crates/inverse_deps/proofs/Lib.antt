@@ -1,6 +1,7 @@
+pub mod Prelude
 pub mod Finding
 pub mod Linking
 pub mod Listing
-pub mod SameRows
+pub mod SameAdjacency
 pub mod Stepping
 pub mod Tabling

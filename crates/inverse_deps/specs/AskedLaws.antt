@@ -1,14 +1,8 @@
--- Which names were asked for makes no edge: a load has the edges that it has for others.
+-- Which names were asked for adds no edge: a load has the edges that it has for other names.
 -- Source: this project's own.
-use Rattle.std.proofs.Common.{List, inl, inr, refl}
-use Rattle.std.specs.Prelude.{◌↔◌}
-use Rattle.unit_name.specs.Names.{Name}
-use Rattle.setting_rules.specs.declared.kinds.DepKind.{DepKind}
-use Rattle.setting_rules.specs.Kinds.{inverse}
-use Rattle.parallel_load.specs.AskedLaws.{asked_for}
-use Rattle.parallel_load.specs.Loads.{LoadMap}
-use Rattle.inverse_deps.specs.EdgeLaws.{edges_go_over}
-use Rattle.inverse_deps.specs.Edges.{DependsOn, HaveSameEdges, IsEdge}
+use Rattle.std.proofs.Common.{◌↔◌, inl, inr, List, refl}
+use Rattle.inverse_deps.specs.Prelude.{asked_for, DepKind, inverse, LoadMap, Name}
+use Rattle.inverse_deps.specs.{EdgeLaws.edges_go_over, Edges.DependsOn, Edges.HaveSameEdges, Edges.IsEdge}
 
 abbrev pub AskingMakesNoEdges : Type 0
 AskingMakesNoEdges = (load : LoadMap) (extra : List Name) → HaveSameEdges load (asked_for extra load)

@@ -1,23 +1,12 @@
--- Laws of edges: an edge and its inverse are one, edges join units, and a load has one list of its edges.
-use Rattle.std.proofs.Common.{◌≡◌, ◌⊎◌, ◌↔◌, List, [], ◌∷◌, Some, inl, inr, map, refl, ap, sym, subst, ◌∙◌}
-use Rattle.std.specs.List.{All}
-use Rattle.std.specs.Map.{keys_of}
-use Rattle.std.specs.Cmp.Lexicographic.{nat_list_cmp_total}
+-- Laws of edges: each edge has its inverse, edges join units, and a load has one list of its edges.
+use Rattle.std.proofs.Common.{[], ◌↔◌, ◌∙◌, ◌∷◌, ◌≡◌, ◌⊎◌, All, ap, inl, inr, List, map, refl, Some, subst, sym}
 use Rattle.std.proofs.lemmas.List.Elements.{All-head, All-tail, All-weaker}
-use Rattle.list_laws.specs.Rising.{one_rising_list}
-use Rattle.path_maps.specs.Views.{View}
-use Rattle.unit_name.specs.Names.{Name, name_cmp}
-use Rattle.setting_rules.specs.declared.dependency_lists.DependencyList.{DependencyList}
-use Rattle.setting_rules.specs.declared.kinds.DepKind.{DepKind}
-use Rattle.setting_rules.specs.declared.kinds.DepKind.TheVariants.{Before, After, Wants, WantedBy, Requires, RequiredBy, Requisite, RequisiteOf, BindsTo, BoundBy, PartOf, ConsistsOf, Conflicts, ConflictedBy, OnFailure, OnFailureOf, PropagatesReloadTo, ReloadPropagatedFrom}
-use Rattle.setting_rules.specs.Kinds.{inverse}
-use Rattle.unit_loads.specs.declared.units.Unit.{Unit as LoadedUnit}
-use Rattle.unit_loads.specs.NamedUnits.{IsListed}
-use Rattle.parallel_load.specs.Loads.{IsLoad, LoadMap, unit_in}
-use Rattle.parallel_load.specs.UniverseLaws.{IsDependency, dependencies_are_loaded, dependencies_are_mains}
-use Rattle.inverse_deps.specs.Edges.{IsUnitIn, DependsOn, IsEdge, EdgeMap, AreEdges, AreEdgesFrom, AreEdgesOf, HaveSameEdges, names_in}
+use Rattle.std.specs.Cmp.Lexicographic.{nat_list_cmp_total}
+use Rattle.std.specs.Map.{keys_of}
+use Rattle.inverse_deps.specs.Prelude.{After, Before, BindsTo, BoundBy, ConflictedBy, Conflicts, ConsistsOf, dependencies_are_loaded, dependencies_are_mains, DependencyList, DepKind, HostViewMap, inverse, IsDependency, IsListed, IsLoad, LoadedUnit, LoadMap, Name, name_cmp, one_ascending_list, OnFailure, OnFailureOf, PartOf, PropagatesReloadTo, ReloadPropagatedFrom, RequiredBy, Requires, Requisite, RequisiteOf, unit_in, WantedBy, Wants}
+use Rattle.inverse_deps.specs.Edges.{AreEdges, AreEdgesFrom, AreEdgesOf, DependsOn, EdgeMap, HaveSameEdges, IsEdge, IsUnitIn, names_in}
 
--- An edge and its inverse are one.
+-- Each edge has its inverse.
 abbrev pub InversesAreOne : Type 0
 InversesAreOne = (load : LoadMap) (dep : DepKind) (u v : Name) → IsEdge load dep u v ↔ IsEdge load (inverse dep) v u
 
@@ -40,12 +29,13 @@ ListsAreOfAllEdges = (load : LoadMap) (u : Name) (lists : List DependencyList) (
 
 -- In a load of a store all dependencies of its units are edges.
 abbrev pub DependenciesAreEdges : Type 0
-DependenciesAreEdges = (s : View) (extra : List Name) (load : LoadMap) (dep : DepKind) (u v : Name) (unit : LoadedUnit) → IsLoad s extra load
+DependenciesAreEdges = (s : HostViewMap) (extra : List Name) (load : LoadMap) (dep : DepKind) (u v : Name) (unit : LoadedUnit) → IsLoad s extra load
     → unit_in load u ≡ Some unit → IsListed unit.deps dep v → IsEdge load dep u v
 
--- And there an edge leads from a unit to another where one names the other in the store, by the kind or by its inverse.
+-- And there an edge leads from one unit to another exactly where one names the other in the store, by the kind or by
+-- its inverse.
 abbrev pub EdgesComeFromNames : Type 0
-EdgesComeFromNames = (s : View) (extra : List Name) (load : LoadMap) (dep : DepKind) (u v : Name) → IsLoad s extra load
+EdgesComeFromNames = (s : HostViewMap) (extra : List Name) (load : LoadMap) (dep : DepKind) (u v : Name) → IsLoad s extra load
     → IsEdge load dep u v ↔ (IsUnitIn load u × IsUnitIn load v × (IsDependency s u dep v ⊎ IsDependency s v (inverse dep) u))
 
 -- the inverse of the inverse is the kind
@@ -86,7 +76,7 @@ edges_join_units load dep u v (inr d) = (d.other, (d.unit, d.unit_is))
 
 one_list_from : (load : LoadMap) (dep : DepKind) (u : Name) (a b : List Name) → AreEdgesFrom load dep u a → AreEdgesFrom load dep u b → a ≡ b
 one_list_from load dep u a b p q =
-    one_rising_list name_cmp nat_list_cmp_total a b p.rising q.rising
+    one_ascending_list name_cmp nat_list_cmp_total a b p.ascending q.ascending
     (λ v. (λ h. (q.exact v).1 ((p.exact v).0 h), λ h. (p.exact v).1 ((q.exact v).0 h)))
 
 pub one_list_of_edges : OneListOfEdges
@@ -131,7 +121,7 @@ dependencies_are_edges s extra load dep u v unit l e h =
     let there = dependencies_are_loaded s extra load u unit dep v l e h in
     inl (record { unit = unit; unit_is = e; listed = h; other = (there.unit, there.there) })
 
-module _ (s : View) (extra : List Name) (load : LoadMap) (l : IsLoad s extra load) where
+module _ (s : HostViewMap) (extra : List Name) (load : LoadMap) (l : IsLoad s extra load) where
   dependency : (dep : DepKind) (u v : Name) → DependsOn load dep u v → IsDependency s u dep v
   dependency dep u v d = (dependencies_are_mains s extra load u d.unit dep v l d.unit_is).0 d.listed
 
@@ -159,11 +149,12 @@ goes_over a b names same edges e = record {
   names = e.names ∙ names;
   in_order = e.in_order;
   lists = λ dep u. record {
-    rising = (e.lists dep u).rising;
+    ascending = (e.lists dep u).ascending;
     exact = λ v. (λ h. (same dep u v).0 (((e.lists dep u).exact v).0 h), λ h. ((e.lists dep u).exact v).1 ((same dep u v).1 h));
   };
 }
 
--- where two loads have the same names and an edge of one is an edge of the other, all edges of one are all edges of the other
+-- if two loads have the same names and each edge of one is an edge of the other, all edges of one are all edges of the
+-- other
 pub edges_go_over : (a b : LoadMap) → keys_of a.names ≡ keys_of b.names → ((dep : DepKind) (u v : Name) → IsEdge a dep u v ↔ IsEdge b dep u v) → HaveSameEdges a b
 edges_go_over a b names same edges = (goes_over a b names same edges, goes_over b a (sym names) (λ dep u v. ((same dep u v).1, (same dep u v).0)) edges)

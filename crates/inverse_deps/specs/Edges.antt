@@ -1,19 +1,11 @@
--- The dependencies between the units of a load, as either side has them.
+-- The dependencies between the units of a load, in both directions.
 -- Source: systemd.unit(5), "Mapping of unit properties to their inverses".
-use Rattle.std.specs.Prelude.{◌≡◌, ◌⊎◌, ◌↔◌, ℕ, Option, Some, None, List, [], map, IsTrue}
-use Rattle.std.specs.List.{All, slice_index_or}
-use Rattle.std.specs.List.Sorted.{IsStrictlySortedBy}
+use Rattle.std.proofs.Common.{[], ◌↔◌, ◌≡◌, ◌⊎◌, All, IsTrue, List, map, None, Option, Some, ℕ}
 use Rattle.std.specs.FinMap.{find, is_sorted}
+use Rattle.std.specs.List.Sorted.{IsStrictlySortedBy}
 use Rattle.std.specs.Map.{keys_of}
-use Rattle.list_laws.specs.Members.{IsAmong}
-use Rattle.unit_name.specs.Names.{Name, name_cmp}
-use Rattle.setting_rules.specs.declared.dependency_lists.DependencyList.{DependencyList}
-use Rattle.setting_rules.specs.declared.kinds.DepKind.{DepKind}
-use Rattle.setting_rules.specs.declared.kinds.DepKind.TheVariants.{Before, After, Wants, WantedBy, Requires, RequiredBy, Requisite, RequisiteOf, BindsTo, BoundBy, PartOf, ConsistsOf, Conflicts, ConflictedBy, OnFailure, OnFailureOf, PropagatesReloadTo, ReloadPropagatedFrom}
-use Rattle.setting_rules.specs.Kinds.{inverse, kinds}
-use Rattle.unit_loads.specs.declared.units.Unit.{Unit as LoadedUnit}
-use Rattle.unit_loads.specs.NamedUnits.{IsListed}
-use Rattle.parallel_load.specs.Loads.{LoadMap, unit_in}
+use Rattle.std.specs.Prelude.{slice_index_or}
+use Rattle.inverse_deps.specs.Prelude.{After, Before, BindsTo, BoundBy, ConflictedBy, Conflicts, ConsistsOf, DependencyList, DepKind, inverse, IsAmong, IsListed, kinds, LoadedUnit, LoadMap, Name, name_cmp, OnFailure, OnFailureOf, PartOf, PropagatesReloadTo, ReloadPropagatedFrom, RequiredBy, Requires, Requisite, RequisiteOf, unit_in, WantedBy, Wants}
 
 -- ---- edges
 
@@ -28,13 +20,14 @@ pub record DependsOn (load : LoadMap) (dep : DepKind) (u v : Name) : Type 0 wher
   pub listed : IsListed unit.deps dep v
   pub other : IsUnitIn load v
 
--- An edge of this kind leads from the unit u to the unit v: either of the two names the other, by the kind or by its inverse.
+-- An edge of this kind leads from the unit u to the unit v: one of the two names the other, u by the kind or v by its
+-- inverse.
 abbrev pub IsEdge : LoadMap → DepKind → Name → Name → Type 0
 IsEdge load dep u v = DependsOn load dep u v ⊎ DependsOn load (inverse dep) v u
 
 -- ---- lists of edges
 
--- the place of a kind among all kinds
+-- the position of a kind among all kinds
 abbrev pub place : DepKind → ℕ
 place Before = 0
 place After = 1
@@ -59,7 +52,7 @@ place ReloadPropagatedFrom = 17
 abbrev pub EdgeMap : Type 0
 EdgeMap = List (Name × List (List Name))
 
--- the list of a kind; no names where there is none
+-- the list of a kind; no names if there are no lists
 abbrev pub list_at : DepKind → Option (List (List Name)) → List Name
 list_at dep None = []
 list_at dep (Some lists) = slice_index_or lists (place dep) []
@@ -70,7 +63,7 @@ names_in edges dep name = list_at dep (find name_cmp name edges)
 
 -- these are the units to which edges of this kind lead from a unit, each once, in byte order
 pub record AreEdgesFrom (load : LoadMap) (dep : DepKind) (u : Name) (names : List Name) : Type 0 where
-  pub rising : IsStrictlySortedBy name_cmp names
+  pub ascending : IsStrictlySortedBy name_cmp names
   pub exact : (v : Name) → IsAmong v names ↔ IsEdge load dep u v
 
 -- These are all edges of the load, for each of its names in byte order.
@@ -84,6 +77,6 @@ pub record AreEdgesOf (load : LoadMap) (u : Name) (lists : List DependencyList) 
   pub kinds_are : map (λ list. list.kind) lists ≡ kinds
   pub each : All (λ list. AreEdgesFrom load list.kind u list.names) lists
 
--- What are all edges of one load are all edges of the other.
+-- All edges of one load are all edges of the other.
 abbrev pub HaveSameEdges : LoadMap → LoadMap → Type 0
 HaveSameEdges a b = (edges : EdgeMap) → AreEdges a edges ↔ AreEdges b edges

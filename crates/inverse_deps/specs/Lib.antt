@@ -1,12 +1,13 @@
+pub mod Prelude
 pub mod AskedLaws
 pub mod EdgeLaws
-pub mod EdgeRows
+pub mod EdgeAdjacency
 pub mod Edges
 pub mod LinkLaws
 pub mod Links
 pub mod MakingLaws
 pub mod NamingLaws
-pub mod NumberLaws
-pub mod RowLaws
+pub mod IndexLaws
+pub mod AdjacencyLaws
 pub mod Tables
-pub mod Numbers
+pub mod Indices

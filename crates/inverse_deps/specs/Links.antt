@@ -1,57 +1,50 @@
--- The dependencies of each unit and those on it, by numbers.
+-- The dependencies of each unit and those on it, by index.
 -- Source: this project's own.
-use Rattle.std.specs.Prelude.{◌≡◌, ◌↔◌, ◌⊎◌, ◌<◌, ℕ, List, [], length, map}
-use Rattle.std.specs.List.{All, slice_index_or}
+use Rattle.std.proofs.Common.{[], ◌<◌, ◌↔◌, ◌≡◌, ◌⊎◌, All, length, List, map, ℕ}
 use Rattle.std.specs.List.Sorted.{IsStrictlySortedBy}
-use Rattle.std.specs.declared.vec.Vec.{Vec}
+use Rattle.std.specs.Prelude.{slice_index_or}
 use Rattle.std.specs.declared.alloc.Global.{Global}
-use Rattle.list_laws.specs.Members.{IsAmong}
-use Rattle.index_rows.specs.Numbering.{AreNames}
-use Rattle.unit_name.specs.Names.{Name, name_cmp}
-use Rattle.setting_rules.specs.declared.kinds.DepKind.{DepKind}
-use Rattle.setting_rules.specs.Kinds.{inverse}
-use Rattle.parallel_load.specs.declared.loaded.Dependency.{Dependency}
-use Rattle.parallel_load.specs.Loads.{LoadMap}
-use Rattle.inverse_deps.specs.Edges.{IsEdge}
-use Rattle.inverse_deps.specs.Numbers.{count_of, name_at}
-use Rattle.inverse_deps.specs.Tables.{HasKind}
+use Rattle.std.specs.declared.vec.Vec.{Vec}
+use Rattle.inverse_deps.specs.Prelude.{AreNames, Dependency, DepKind, inverse, IsAmong, LoadMap, Name, name_cmp}
+use Rattle.inverse_deps.specs.{Edges.IsEdge, Indices.count_of, Indices.name_at, Tables.HasKind}
 
--- the lists that rows are
+-- the rows as lists
 abbrev pub links_in : List (Vec Dependency Global) → List (List Dependency)
-links_in rows = map (λ row. row.items) rows
+links_in adjacency = map (λ neighbors. neighbors.items) adjacency
 
--- one of the dependencies of the unit with the number `from` is on this number, and this is it turned round
-pub record IsTurned (deps : List Dependency) (from number : ℕ) (one : Dependency) : Type 0 where
+-- the unit with the index `from` has a dependency on this index, and this is its reverse
+pub record IsTransposed (deps : List Dependency) (from index : ℕ) (one : Dependency) : Type 0 where
   pub dep : Dependency
   pub there : IsAmong dep deps
-  pub on : dep.number ≡ number
+  pub on : dep.index ≡ index
   pub kind_is : one.kind ≡ inverse dep.kind
-  pub number_is : one.number ≡ from
+  pub index_is : one.index ≡ from
 
--- each row has what it had, and those of the dependencies of the unit with the number `from` that are on its number, turned round
-pub record AreTurnedIn (old : List (List Dependency)) (deps : List Dependency) (from : ℕ) (rows : List (List Dependency)) : Type 0 where
-  pub units : length rows ≡ length old
-  pub just : (number : ℕ) (one : Dependency) → IsAmong one (slice_index_or rows number []) ↔ (IsAmong one (slice_index_or old number []) ⊎ IsTurned deps from number one)
+-- each list has what it had, and the reverse of those dependencies of the unit with the index `from` that are on its
+-- index
+pub record AreTransposedIn (old : List (List Dependency)) (deps : List Dependency) (from : ℕ) (adjacency : List (List Dependency)) : Type 0 where
+  pub units : length adjacency ≡ length old
+  pub just : (index : ℕ) (one : Dependency) → IsAmong one (slice_index_or adjacency index []) ↔ (IsAmong one (slice_index_or old index []) ⊎ IsTransposed deps from index one)
 
--- these are the edges from a unit: each has the kind of the edge, and the number of the unit to which it leads
+-- these are the edges from a unit: each has the kind of the edge, and the index of the unit to which it leads
 pub record AreLinksOf (load : LoadMap) (u : Name) (links : List Dependency) : Type 0 where
-  pub within : All (λ one. one.number < count_of load) links
-  pub steps : (dep : DepKind) → AreNames (count_of load) (name_at load) (HasKind links dep) (IsEdge load dep u)
+  pub within : All (λ one. one.index < count_of load) links
+  pub successors : (dep : DepKind) → AreNames (count_of load) (name_at load) (HasKind links dep) (IsEdge load dep u)
 
--- For each name of the load, by its number, these are the edges from it.
-pub record AreLinks (load : LoadMap) (rows : List (List Dependency)) : Type 0 where
-  pub one_each : length rows ≡ count_of load
-  pub each : (number : ℕ) → number < count_of load → AreLinksOf load (name_at load number) (slice_index_or rows number [])
+-- For each name of the load, by its index, these are the edges from it.
+pub record AreLinks (load : LoadMap) (adjacency : List (List Dependency)) : Type 0 where
+  pub one_each : length adjacency ≡ count_of load
+  pub each : (index : ℕ) → index < count_of load → AreLinksOf load (name_at load index) (slice_index_or adjacency index [])
 
--- What are the links of one load are the links of the other.
+-- The links of one load are the links of the other.
 abbrev pub HaveSameLinks : LoadMap → LoadMap → Type 0
-HaveSameLinks a b = (rows : List (List Dependency)) → AreLinks a rows ↔ AreLinks b rows
+HaveSameLinks a b = (adjacency : List (List Dependency)) → AreLinks a adjacency ↔ AreLinks b adjacency
 
--- one of the links is of this kind and has the number of this name
+-- one of the links is of this kind and has the index of this name
 abbrev pub IsLinked : LoadMap → List Dependency → DepKind → Name → Type 0
 IsLinked load links dep v = (i : ℕ) × (HasKind links dep i × (name_at load i ≡ v))
 
 -- these are the names of the links of a kind, each once, in byte order
 pub record AreLinked (load : LoadMap) (links : List Dependency) (dep : DepKind) (names : List Name) : Type 0 where
-  pub rising : IsStrictlySortedBy name_cmp names
+  pub ascending : IsStrictlySortedBy name_cmp names
   pub exact : (v : Name) → IsAmong v names ↔ IsLinked load links dep v

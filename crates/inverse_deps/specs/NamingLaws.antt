@@ -1,38 +1,35 @@
--- Sets of numbers and the sets of their names: put together, said in other words, and steps turned round.
-use Rattle.std.proofs.Common.{◌≡◌, ◌<◌, ◌⊎◌, ◌↔◌, ℕ, inl, inr, List, ◌++◌, refl, sym, subst}
+-- Sets of indices and the sets of their names: unions, other descriptions, and reversed edges.
+use Rattle.std.proofs.Common.{◌++◌, ◌<◌, ◌↔◌, ◌≡◌, ◌⊎◌, inl, inr, List, refl, subst, sym, ℕ}
 use Rattle.std.specs.Cmp.{IsTotalOrder}
 use Rattle.std.specs.declared.cmp.Ordering.{Ordering}
-use Rattle.list_laws.specs.Members.{IsAmong, IsAmong-append_cases, IsAmong-append_left, IsAmong-append_right}
-use Rattle.name_closure.specs.ListedLaws.{Listed}
-use Rattle.index_rows.specs.Numbering.{IsNumbering, AreNames, AreNamedSteps}
-use Rattle.index_rows.specs.NumberingLaws.{number_of}
+use Rattle.inverse_deps.specs.Prelude.{AreNamedSuccessors, AreNames, index_of, IsAmong, IsAmong-append_cases, IsAmong-append_left, IsAmong-append_right, IsIndexing, Listed}
 
 module _ {N : Type 0} (count : ℕ) (name : ℕ → N) where
-  -- the same sets in other words
+  -- the same sets, described otherwise
   pub names_along : (P P' : ℕ → Type 0) (Q Q' : N → Type 0) → AreNames count name P Q → ((i : ℕ) → P i ↔ P' i) → ((u : N) → Q u ↔ Q' u)
       → AreNames count name P' Q'
   names_along P P' Q Q' a p q = record {
     within = λ i h. a.within i ((p i).1 h);
     named = λ i h. (q (name i)).0 (a.named i ((p i).1 h));
-    numbered = λ u h. (let r = a.numbered u ((q u).1 h) in (r.0, ((p r.0).0 r.1.0, r.1.1)));
+    indexed = λ u h. (let r = a.indexed u ((q u).1 h) in (r.0, ((p r.0).0 r.1.0, r.1.1)));
   }
 
-  -- no numbers, and no names
+  -- no indices, and no names
   pub names_none : (P : ℕ → Type 0) (Q : N → Type 0) → ((i : ℕ) → ¬ P i) → ((u : N) → ¬ Q u) → AreNames count name P Q
-  names_none P Q p q = record { within = λ i h. absurd (p i h); named = λ i h. absurd (p i h); numbered = λ u h. absurd (q u h) }
+  names_none P Q p q = record { within = λ i h. absurd (p i h); named = λ i h. absurd (p i h); indexed = λ u h. absurd (q u h) }
 
-  -- one number and its name
+  -- one index and its name
   pub names_one : (i : ℕ) (u : N) → i < count → name i ≡ u → AreNames count name (λ j. i ≡ j) (λ v. u ≡ v)
   names_one i u l e = record {
     within = λ j h. (let P : ℕ → Type 0 = λ k. k < count in subst P h l);
     named = λ j h. (let P : ℕ → Type 0 = λ k. u ≡ name k in subst P h (sym e));
-    numbered = λ v h. (i, (refl, (let P : N → Type 0 = λ w. name i ≡ w in subst P h e)));
+    indexed = λ v h. (i, (refl, (let P : N → Type 0 = λ w. name i ≡ w in subst P h e)));
   }
 
-  -- two sets put together
+  -- the union of two sets
   pub names_either : (P P' : ℕ → Type 0) (Q Q' : N → Type 0) → AreNames count name P Q → AreNames count name P' Q'
       → AreNames count name (λ i. P i ⊎ P' i) (λ u. Q u ⊎ Q' u)
-  names_either P P' Q Q' a b = record { within = within; named = named; numbered = numbered }
+  names_either P P' Q Q' a b = record { within = within; named = named; indexed = indexed }
     where
       within : (i : ℕ) → P i ⊎ P' i → i < count
       within i (inl h) = a.within i h
@@ -42,11 +39,11 @@ module _ {N : Type 0} (count : ℕ) (name : ℕ → N) where
       named i (inl h) = inl (a.named i h)
       named i (inr h) = inr (b.named i h)
 
-      numbered : (u : N) → Q u ⊎ Q' u → (i : ℕ) × ((P i ⊎ P' i) × (name i ≡ u))
-      numbered u (inl h) = let r = a.numbered u h in (r.0, (inl r.1.0, r.1.1))
-      numbered u (inr h) = let r = b.numbered u h in (r.0, (inr r.1.0, r.1.1))
+      indexed : (u : N) → Q u ⊎ Q' u → (i : ℕ) × ((P i ⊎ P' i) × (name i ≡ u))
+      indexed u (inl h) = let r = a.indexed u h in (r.0, (inl r.1.0, r.1.1))
+      indexed u (inr h) = let r = b.indexed u h in (r.0, (inr r.1.0, r.1.1))
 
-  -- two lists, one behind the other
+  -- two lists, one after the other
   pub listed_either : (is js ks : List ℕ) (Q Q' : N → Type 0) → AreNames count name (Listed is) Q → AreNames count name (Listed js) Q' → ks ≡ is ++ js
       → AreNames count name (Listed ks) (λ u. Q u ⊎ Q' u)
   listed_either is js ks Q Q' a b e =
@@ -59,16 +56,16 @@ module _ {N : Type 0} (count : ℕ) (name : ℕ → N) where
       both i (inl h) = IsAmong-append_left i is js h
       both i (inr h) = IsAmong-append_right i is js h
 
-  -- Steps turned round are steps between the same names turned round.
-  pub turned_named : (order : N → N → Ordering) → IsTotalOrder order → IsNumbering count name order → (E F : ℕ → ℕ → Type 0) (L : N → N → Type 0)
-      → AreNamedSteps count name E L → ((i j : ℕ) → F i j ↔ E j i) → ((i j : ℕ) → F i j → j < count)
-      → ((u v : N) → L u v → (i : ℕ) × ((i < count) × (name i ≡ u))) → AreNamedSteps count name F (λ u v. L v u)
-  turned_named order total n E F L steps turned within numbers i l = record {
+  -- Reversed edges between indices are reversed edges between their names.
+  pub transposed_named : (order : N → N → Ordering) → IsTotalOrder order → IsIndexing count name order → (E F : ℕ → ℕ → Type 0) (L : N → N → Type 0)
+      → AreNamedSuccessors count name E L → ((i j : ℕ) → F i j ↔ E j i) → ((i j : ℕ) → F i j → j < count)
+      → ((u v : N) → L u v → (i : ℕ) × ((i < count) × (name i ≡ u))) → AreNamedSuccessors count name F (λ u v. L v u)
+  transposed_named order total n E F L successors transposed within indices i l = record {
     within = λ j h. within i j h;
-    named = λ j h. (steps j (within i j h)).named i ((turned i j).0 h);
-    numbered = λ u h. (let r = numbers u (name i) h in
+    named = λ j h. (successors j (within i j h)).named i ((transposed i j).0 h);
+    indexed = λ u h. (let r = indices u (name i) h in
         let P : N → Type 0 = λ w. L w (name i) in
-        let s = steps r.0 r.1.0 in
-        let back : E r.0 i = number_of count name order total n (E r.0) (L (name r.0)) s i l (subst P (sym r.1.1) h) in
-        (r.0, ((turned i r.0).1 back, r.1.1)));
+        let s = successors r.0 r.1.0 in
+        let back : E r.0 i = index_of count name order total n (E r.0) (L (name r.0)) s i l (subst P (sym r.1.1) h) in
+        (r.0, ((transposed i r.0).1 back, r.1.1)));
   }

@@ -5,10 +5,11 @@ ghost use Rattle.inverse_deps.specs.{Edges.{HaveSameEdges}, Links.{HaveSameLinks
 use parallel_load::{Loaded, NameLoad};
 use unit_name::UnitName;
 
-/// Whether two loads have the same names, with the same dependencies on them in the same order: then what are all edges of one
-/// are all edges of the other, and so are links. It takes no memory. O(n) and the dependencies, for n names.
+/// Whether two loads have the same names, with the same dependencies on them in the same order. If so, all edges of one
+/// are all edges of the other, and the same holds of their links. Allocates nothing. O(n + m), for n names and m
+/// dependencies.
 ///
-/// What else the units have, and which of them are masked or missing, isn't looked at.
+/// What else the units have, and which of them are masked or missing, isn't compared.
 pub fn are_linked_alike(first: &Loaded, second: &Loaded) -> bool
     ensures edges { IsTrue result → HaveSameEdges first.now second.now }
     ensures links { IsTrue result → HaveSameLinks first.now second.now }
@@ -24,8 +25,8 @@ fn have_same_names(first: &[(UnitName, NameLoad)], second: &[(UnitName, NameLoad
     if first.len() != second.len() {
         return false;
     }
-    for (number, (name, _)) in first.iter().enumerate() {
-        if *name != second[number].0 {
+    for (index, (name, _)) in first.iter().enumerate() {
+        if *name != second[index].0 {
             return false;
         }
     }

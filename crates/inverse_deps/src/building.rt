@@ -1,75 +1,75 @@
-//! The edges of a load are found kind by kind, and listed unit by unit.
+//! The edges of a load, found kind by kind, and listed unit by unit.
 ghost use Rattle.std.specs.Prelude.{◌≡◌, ◌<◌, IfOk};
-ghost use Rattle.inverse_deps.specs.{Edges.{AreEdges}, Numbers.{count_of}, Tables.{AreKept, AreTables, lists_from}};
+ghost use Rattle.inverse_deps.specs.{Edges.{AreEdges}, Indices.{count_of}, Tables.{AreKept, AreTables, lists_from}};
 
-use crate::kind_rows::KindRows;
+use crate::indices::names_at;
+use crate::kind_adjacency::KindAdjacency;
 use crate::lists::Edges;
-use crate::numbers::names_at;
-use crate::steps::dependency_rows;
-use index_rows::{joined, row, turned};
+use crate::successors::dependency_adjacency;
+use index_rows::{joined, neighbors, transposed};
 use parallel_load::Loaded;
 use plain_values::Items;
 use setting_rules::DepKind;
 use std::alloc::{AllocError, Global};
 use unit_name::UnitName;
 
-/// All edges of a load, by names and by numbers. It fails for want of memory alone. O(n) and the dependencies, beside the
-/// logarithm of n, for n names.
+/// Returns all edges of a load, by name and by index. Fails only if memory runs out. O((n + m) log n), for n names and
+/// m dependencies.
 pub fn edges(alloc: Global, loaded: &Loaded) -> Result<Edges, AllocError>
     ensures edges { IfOk result (AreEdges loaded.now) }
 {
-    let rows = edge_rows(alloc, loaded)?;
-    let units = unit_lists(alloc, loaded, &rows)?;
-    Ok(Edges::new(units, rows))
+    let adjacency = edge_adjacency(alloc, loaded)?;
+    let units = unit_lists(alloc, loaded, &adjacency)?;
+    Ok(Edges::new(units, adjacency))
 }
 
-// For each name the edges from it, kind by kind, by names.
+// For each name the edges from it, kind by kind, by name.
 fn unit_lists(
     alloc: Global,
     loaded: &Loaded,
-    rows: &KindRows,
+    adjacency: &KindAdjacency,
 ) -> Result<Vec<(UnitName, Items<Items<UnitName>>)>, AllocError>
-    requires rows { AreTables loaded.now rows.now }
+    requires adjacency { AreTables loaded.now adjacency.now }
     ensures edges { IfOk result (λ units. AreEdges loaded.now units.items) }
-    ensures kept { IfOk result (λ units. AreKept units.items rows.now) }
+    ensures kept { IfOk result (λ units. AreKept units.items adjacency.now) }
 {
     let names = loaded.names();
     let mut units = Vec::with_capacity(alloc, names.len())?;
-    for (number, (name, _)) in names.iter().enumerate() {
+    for (index, (name, _)) in names.iter().enumerate() {
         let name = name.try_clone()?;
-        units.push((name, lists_at(alloc, loaded, rows, number)?))?;
+        units.push((name, lists_at(alloc, loaded, adjacency, index)?))?;
     }
     Ok(units)
 }
 
-// For each kind the rows of its edges: what units name by it, and what names them by its inverse.
-fn edge_rows(alloc: Global, loaded: &Loaded) -> Result<KindRows, AllocError>
-    ensures rows { IfOk result (AreTables loaded.now) }
+// For each kind the adjacency lists of its edges: what units name by it, and what names them by its inverse.
+fn edge_adjacency(alloc: Global, loaded: &Loaded) -> Result<KindAdjacency, AllocError>
+    ensures adjacency { IfOk result (AreTables loaded.now) }
 {
-    let named = dependency_rows(alloc, loaded)?;
-    let mut rows = KindRows::new(alloc);
+    let named = dependency_adjacency(alloc, loaded)?;
+    let mut adjacency = KindAdjacency::new(alloc);
     for kind in DepKind::all() {
-        let naming = turned(alloc, named.of(kind.inverse()))?;
-        rows.push(joined(alloc, named.of(*kind), &naming)?)?;
+        let naming = transposed(alloc, named.of(kind.inverse()))?;
+        adjacency.push(joined(alloc, named.of(*kind), &naming)?)?;
     }
-    Ok(rows)
+    Ok(adjacency)
 }
 
-// The edges from a unit, kind by kind, by names: numbers that rise have names that do.
+// The edges from a unit, kind by kind, by name. Indices in ascending order have names in ascending order.
 fn lists_at(
     alloc: Global,
     loaded: &Loaded,
-    rows: &KindRows,
-    number: usize,
+    adjacency: &KindAdjacency,
+    index: usize,
 ) -> Result<Items<Items<UnitName>>, AllocError>
-    requires rows { AreTables loaded.now rows.now }
-    requires number { number < count_of loaded.now }
-    ensures lists { IfOk result (λ lists. lists ≡ lists_from loaded.now rows.now number) }
+    requires adjacency { AreTables loaded.now adjacency.now }
+    requires index { index < count_of loaded.now }
+    ensures lists { IfOk result (λ lists. lists ≡ lists_from loaded.now adjacency.now index) }
 {
     let kinds = DepKind::all();
     let mut lists = Vec::with_capacity(alloc, kinds.len())?;
     for kind in kinds {
-        let names = names_at(alloc, loaded, row(rows.of(*kind), number))?;
+        let names = names_at(alloc, loaded, neighbors(adjacency.of(*kind), index))?;
         lists.push(Items::from_vec(names))?;
     }
     Ok(Items::from_vec(lists))

@@ -1,13 +1,14 @@
-//! What is true of all edges: laws, each the contract of a function that does nothing.
+//! Laws of edges: each is the contract of a function that does nothing.
 ghost use Rattle.inverse_deps.specs.AskedLaws.{AskingMakesNoEdges};
 ghost use Rattle.inverse_deps.specs.EdgeLaws.{DependenciesAreEdges, EdgesComeFromNames, EdgesJoinUnits, InversesAreOne, ListsAreOfAllEdges, OneListByKind, OneListOfEdges};
-ghost use Rattle.inverse_deps.specs.LinkLaws.{AskingMakesNoLinks, RowsMakeTheLinks};
-ghost use Rattle.inverse_deps.specs.RowLaws.{RowsMakeTheEdges};
+ghost use Rattle.inverse_deps.specs.LinkLaws.{AskingMakesNoLinks, AdjacencyMakesTheLinks};
+ghost use Rattle.inverse_deps.specs.AdjacencyLaws.{AdjacencyMakesTheEdges};
 
-/// An edge and its inverse are one. Edges join units alone. A load has one list of the edges of a kind from a name, and
-/// those of one unit are those that all edges have for it. In a load of a store all dependencies of units are edges, and
-/// between two units there is one just where one of them names the other in the store, by the kind or by its inverse. Which names were
-/// asked for makes none, and loads with the same dependencies by numbers have the same; so it is with links.
+/// Each edge has its inverse, and edges join only units. A load has one list of the edges of a kind from a name, and
+/// the lists of one unit are those that all edges have for it. In a load of a store all dependencies of units are
+/// edges, and there is an edge between two units exactly where one of them names the other in the store, by the kind or
+/// by its inverse. Which names were asked for adds no edge, and loads with the same dependencies by index have the same
+/// edges. The same holds of links.
 pub fn edge_laws()
     ensures inverses { InversesAreOne }
     ensures units { EdgesJoinUnits }
@@ -17,7 +18,7 @@ pub fn edge_laws()
     ensures dependencies { DependenciesAreEdges }
     ensures names { EdgesComeFromNames }
     ensures asked { AskingMakesNoEdges }
-    ensures rows { RowsMakeTheEdges }
+    ensures adjacency { AdjacencyMakesTheEdges }
     ensures links_asked { AskingMakesNoLinks }
-    ensures links { RowsMakeTheLinks }
+    ensures links { AdjacencyMakesTheLinks }
 {}

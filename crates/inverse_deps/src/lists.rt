@@ -1,20 +1,20 @@
-//! The edges of a load, as lists of names and as rows of numbers.
+//! The edges of a load, as lists of names and as adjacency lists.
 ghost use Rattle.std.specs.Prelude.{◌≡◌, Some};
-ghost use Rattle.inverse_deps.specs.{EdgeRows.{AreRowsBy}, Edges.{list_at, names_in}, Tables.{AreKept}};
+ghost use Rattle.inverse_deps.specs.{EdgeAdjacency.{AreAdjacencyBy}, Edges.{list_at, names_in}, Tables.{AreKept}};
 
-use crate::kind_rows::KindRows;
+use crate::kind_adjacency::KindAdjacency;
 use plain_values::Items;
 use setting_rules::DepKind;
 use sorted_pairs::seek;
 use std::marker::Model;
 use unit_name::UnitName;
 
-/// The edges between the units of a load: which unit depends on which, in either direction.
+/// The edges between the units of a load: which unit depends on which, in both directions.
 #[derive(Debug, Drop)]
 pub struct Edges {
     units: Vec<(UnitName, Items<Items<UnitName>>)>,
-    // The same by numbers.
-    rows: KindRows,
+    // The same by index.
+    adjacency: KindAdjacency,
 }
 
 impl Model for Edges {
@@ -24,20 +24,23 @@ impl Model for Edges {
 
     ghost view = { λ e. e.units.items };
 
-    ghost invariant = { λ e. AreKept e.units.items e.rows };
+    ghost invariant = { λ e. AreKept e.units.items e.adjacency };
 }
 
 impl Edges {
-    // These lists, whose names are in byte order, and the same by numbers.
-    pub(crate) fn new(units: Vec<(UnitName, Items<Items<UnitName>>)>, rows: KindRows) -> Edges
-        requires kept { AreKept units.items rows }
+    // Returns the edges with these lists, whose names are in byte order, and with the same by index.
+    pub(crate) fn new(
+        units: Vec<(UnitName, Items<Items<UnitName>>)>,
+        adjacency: KindAdjacency,
+    ) -> Edges
+        requires kept { AreKept units.items adjacency }
         ensures edges { result ≡ units.items }
     {
-        Edges { units, rows }
+        Edges { units, adjacency }
     }
 
-    /// The units to which edges of a kind lead from a unit, by its main name, in byte order. Empty for a name that is of
-    /// no unit. O(log n), without memory.
+    /// Returns the units to which edges of a kind lead from the unit with this main name, in byte order. Empty for a
+    /// name without a unit. O(log n); allocates nothing.
     pub fn of(&self, kind: DepKind, name: &UnitName) -> &[UnitName]
         ensures names { result.now ≡ names_in self.now kind name.now }
     {
@@ -47,12 +50,12 @@ impl Edges {
         }
     }
 
-    /// From each name the edges of a kind, by the numbers of names in byte order: a row for each name, which rises, and is
-    /// empty where the name is of no unit. It takes no memory.
-    pub fn rows(&self, kind: DepKind) -> &[Vec<usize>]
-        ensures rows { AreRowsBy self.now kind result.now }
+    /// Returns the edges of a kind from each name, by the indices of names in byte order: an adjacency list for each
+    /// name, in ascending order, empty for a name without a unit. Allocates nothing.
+    pub fn adjacency(&self, kind: DepKind) -> &[Vec<usize>]
+        ensures adjacency { AreAdjacencyBy self.now kind result.now }
     {
-        self.rows.of(kind)
+        self.adjacency.of(kind)
     }
 }
 

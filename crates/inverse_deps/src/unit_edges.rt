@@ -1,20 +1,21 @@
 //! The edges of one unit: what it names, and what names it by the inverse.
 ghost use Rattle.std.specs.{Prelude.{◌<◌, IfOk}, List.{All}};
-ghost use Rattle.inverse_deps.specs.{Edges.{AreEdgesOf}, Links.{AreLinked, AreLinks, AreLinksOf}, Numbers.{count_of}};
+ghost use Rattle.inverse_deps.specs.{Edges.{AreEdgesOf}, Links.{AreLinked, AreLinks, AreLinksOf}, Indices.{count_of}};
 
-use crate::link_rows::Links;
-use crate::numbers::{names_at, number_of};
-use crate::steps::numbers_by;
+use crate::indices::{index_of, names_at};
+use crate::link_adjacency::Links;
+use crate::successors::indices_by;
 use parallel_load::{Dependency, Loaded};
 use plain_values::Items;
 use setting_rules::{DepKind, DependencyList, in_byte_order};
 use std::alloc::{AllocError, Global};
 use unit_name::UnitName;
 
-/// The edges from a unit, by its main name: for each kind, in the order of the kinds, the units to which edges of it lead, in
-/// byte order. All lists are empty for a name that is of no unit. It fails for want of memory alone.
+/// Returns the edges from the unit with this main name: for each kind, in the order of the kinds, the units to which
+/// edges of it lead, in byte order. All lists are empty for a name without a unit. Fails only if memory runs out.
 ///
-/// It costs a search for the name, a pass over the unit's own links for each kind, and the lists; other units cost nothing.
+/// Costs a search for the name, a pass over the unit's own links for each kind, and the lists; other units cost
+/// nothing.
 pub fn edges_of(
     alloc: Global,
     loaded: &Loaded,
@@ -33,13 +34,13 @@ pub fn edges_of(
     Ok(lists)
 }
 
-// The links of a unit: none of a name that is of no unit.
+// The links of a unit; none for a name without a unit.
 fn links_of<'a>(loaded: &Loaded, links: &'a Links, name: &UnitName) -> &'a [Dependency]
     requires links { AreLinks loaded.now links.now }
     ensures own { AreLinksOf loaded.now name.now result.now }
 {
-    match number_of(loaded, name) {
-        Some(number) => links.at(number),
+    match index_of(loaded, name) {
+        Some(index) => links.at(index),
         None => &[],
     }
 }
@@ -51,9 +52,9 @@ fn linked_by(
     links: &[Dependency],
     kind: DepKind,
 ) -> Result<Items<UnitName>, AllocError>
-    requires links { All (λ one. one.number < count_of loaded.now) links.now }
+    requires links { All (λ one. one.index < count_of loaded.now) links.now }
     ensures names { IfOk result (AreLinked loaded.now links.now kind) }
 {
-    let numbers = numbers_by(alloc, links, kind)?;
-    Ok(in_byte_order(names_at(alloc, loaded, &numbers)?))
+    let indices = indices_by(alloc, links, kind)?;
+    Ok(in_byte_order(names_at(alloc, loaded, &indices)?))
 }

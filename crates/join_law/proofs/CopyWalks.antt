@@ -1,24 +1,17 @@
--- A walk that joins copies of pairs, and one that compares pairs.
-use Rattle.std.specs.Prelude.{◌≡◌, ℕ, zero, suc, ◌<◌, ◌≤◌, ◌+◌, ◌-◌, List, [], ◌∷◌, ◌++◌, Option, Some, None, true, false, cond, refl, length, Result, IsErr}
-use Rattle.std.specs.Bool.{IsTrue}
-use Rattle.std.specs.Cmp.{IsTotalOrder, tied_itself}
-use Rattle.std.specs.Ordering.{eq_by_cmp, is_eq}
-use Rattle.std.proofs.Common.{ap, sym, subst, ◌∙◌, get_or, take, drop, arith}
+-- A loop that joins copies of pairs, and a loop that compares pairs.
+use Rattle.std.proofs.Common.{[], ◌++◌, ◌+◌, ◌-◌, ◌<◌, ◌∙◌, ◌∷◌, ◌≡◌, ◌≤◌, ap, arith, cond, drop, false, get_or, IsTrue, length, List, None, Option, refl, Result, Some, subst, suc, sym, take, true, zero, ℕ}
 use Rattle.std.proofs.lemmas.Bool.{and_parts}
-use Rattle.std.proofs.lemmas.List.{take_more, take-append-drop, length-drop}
+use Rattle.std.proofs.lemmas.List.{length-drop, take-append-drop, take_more}
+use Rattle.std.specs.Cmp.{IsTotalOrder, tied_itself}
+use Rattle.std.specs.FinMap.Entries.{below_all, find, find_tied, is_sorted}
+use Rattle.std.specs.Ordering.{eq_by_cmp, is_eq}
+use Rattle.std.specs.Prelude.{IsErr}
 use Rattle.std.specs.declared.cmp.Ordering.{Ordering}
-use Rattle.std.specs.declared.cmp.Ordering.TheVariants.{Less, Equal}
-use Rattle.std.specs.FinMap.Entries.{find, is_sorted, below_all, find_tied}
-use Rattle.list_laws.specs.Orderings.{is_less, is_equal, turned}
-use Rattle.list_laws.specs.Searches.{below_at}
-use Rattle.join_law.specs.Order.{IsJoin, IsBetween}
-use Rattle.join_law.specs.Maps.{OptionBelow, IsHeld, AllHeld, MapBelow, IsMap, IsSinglePair}
-use Rattle.join_law.specs.MapLaws.{map_itself, map_chain}
-use Rattle.join_law.specs.Outcomes.{AreCopiesJoined}
-use Rattle.join_law.proofs.Ends.{below_end}
-use Rattle.join_law.proofs.Outcomes.{on_err, not_ok, on_ok_weaker, on_err_weaker}
+use Rattle.std.specs.declared.cmp.Ordering.TheVariants.{Equal, Less}
+use Rattle.join_law.proofs.Prelude.{AllHeld, AreCopiesJoined, below_at, is_equal, is_less, IsBetween, IsHeld, IsJoin, IsMap, IsSinglePair, map_chain, map_itself, MapBelow, OptionBelow, turned}
+use Rattle.join_law.proofs.{Ends.below_end, Outcomes.not_ok, Outcomes.on_err, Outcomes.on_err_weaker, Outcomes.on_ok_weaker}
 
--- equal lists
+-- Equality of lists.
 
 pub same_at : {A : Type 0} (xs ys : List A) (i : ℕ) (x y : A) → x ≡ get_or xs i x → y ≡ get_or ys i y → i < length xs → xs ≡ ys → x ≡ y
 same_at {A} xs ys i x y p q lt e = p ∙ get_or_any xs i x y lt ∙ ap (λ zs. get_or zs i y) e ∙ sym q
@@ -36,11 +29,11 @@ pub take_all : {A : Type 0} (es : List A) → take (length es) es ≡ es
 take_all [] = refl
 take_all (e ∷ es) = ap (λ l. e ∷ l) (take_all es)
 
--- all that stands behind a place
+-- everything after an index
 pub take_rest : {A : Type 0} (es : List A) (i : ℕ) → i ≤ length es → take (length es - i) (drop i es) ≡ drop i es
 take_rest es i le = let long : length es - i ≡ length (drop i es) = omega (arith, length-drop i es) in ap (λ n. take n (drop i es)) long ∙ take_all (drop i es)
 
--- joins of copies
+-- Joining copies.
 
 pub held_at : {K V : Type 0} (below : V → V → Type 0) (valid : V → Type 0) (es : List (K × V)) (i : ℕ) (d : K × V) → i < length es → AllHeld below valid es → IsHeld below valid (get_or es i d).1
 held_at below valid [] i d lt h = absurd (omega arith)
@@ -57,7 +50,7 @@ module _ {K V : Type 0} (R : K → K → Ordering) (o : IsTotalOrder R) where
       let less : R e.0 k ≡ Less = below_at R e.0 es i d (and_parts _ _ s).0 (omega arith) in
       ap (λ r. cond (is_eq r) (Some e.1) (find R k (take i es))) (turned R o e.0 k Less less) ∙ find_earlier es i d (and_parts _ _ s).1 (omega arith)
 
-  -- the i-th pair is what is found at its key
+  -- `find` returns the i-th pair's value at its key
   find_there : (es : List (K × V)) (i : ℕ) (d : K × V) → IsTrue (is_sorted R es) → i < length es → find R (get_or es i d).0 es ≡ Some (get_or es i d).1
   find_there [] i d s lt = absurd (omega arith)
   find_there (e ∷ es) zero d s lt = ap (λ r. cond (is_eq r) (Some e.1) (find R e.0 es)) (tied_itself o e.0)
@@ -66,7 +59,7 @@ module _ {K V : Type 0} (R : K → K → Ordering) (o : IsTotalOrder R) where
       let less : R e.0 k ≡ Less = below_at R e.0 es i d (and_parts _ _ s).0 (omega arith) in
       ap (λ r. cond (is_eq r) (Some e.1) (find R k es)) (turned R o e.0 k Less less) ∙ find_there es i d (and_parts _ _ s).1 (omega arith)
 
-  -- the later pairs
+  -- The later pairs.
 
   below_all_drop : (x : K) (es : List (K × V)) (i : ℕ) → IsTrue (below_all R x es) → IsTrue (below_all R x (drop i es))
   below_all_drop x [] zero h = h
@@ -139,11 +132,11 @@ module _ {K V : Type 0} (R : K → K → Ordering) (o : IsTotalOrder R) where
       | false ↦ λ t. parts_at xs ys q w t k
     ] h
 
-    -- what is above the pairs up to a place and above the others is above all
+    -- an upper bound of the pairs before an index and of the others is an upper bound of all
     parts_below : (es : List (K × V)) (i : ℕ) (z : List (K × V)) → MapBelow R below (take i es) z → MapBelow R below (drop i es) z → MapBelow R below es z
     parts_below es i z p q = subst (λ l. MapBelow R below l z) (take-append-drop i es) (record { at = λ k. parts_at (take i es) (drop i es) k (find R k z) (p.at k) (q.at k) })
 
-    -- the pairs so far are joined
+    -- the pairs before index i are joined
     pub record IsCopied (valid : V → Type 0) (first now other : List (K × V)) (i : ℕ) : Type 0 where
       pub map : IsMap R below valid now
       pub joined : IsJoin (MapBelow R below) first (take i other) now
@@ -168,7 +161,7 @@ module _ {K V : Type 0} (R : K → K → Ordering) (o : IsTotalOrder R) where
           first_now : MapBelow R below first now
           first_now = ((u.joined.bounds now).0 now_itself).0
 
-          -- what the first map had it has now
+          -- what the first map had is still in the current one
           pub still_known : MapBelow R below other first → MapBelow R below ((e.0, e.1) ∷ []) now
           still_known h =
               map_chain below itself chain R _ other now (pair_below other i e m.sorted lt is)
@@ -207,7 +200,7 @@ module _ {K V : Type 0} (R : K → K → Ordering) (o : IsTotalOrder R) where
               only (f ∷ []) (suc j) l a t = absurd (omega arith)
               only (f ∷ g ∷ fs) j l a t = absurd t
 
-          -- so the outcome where this pair was refused
+          -- the outcome if this pair fails
           pub stopped_joined : {T E : Type 0} (single : V → Type 0) (r : Result T E) (new : List (K × V)) → IsErr r → IsMap R below valid new → IsBetween (MapBelow R below) now ((e.0, e.1) ∷ []) new → (single e.1 → new ≡ now) → AreCopiesJoined R below valid single r first other new
           stopped_joined single r new refused n between same = record {
             map = n;
@@ -216,7 +209,7 @@ module _ {K V : Type 0} (R : K → K → Ordering) (o : IsTotalOrder R) where
             single = on_err r (copied_single single new same);
           }
 
-          -- the later pairs are joined with what stands now
+          -- the later pairs are joined into the current map
           rest_joined : (new : List (K × V)) → IsJoin (MapBelow R below) now (drop i other) new → IsJoin (MapBelow R below) first other new
           rest_joined new j = record {
             bounds = λ z. (
@@ -254,7 +247,7 @@ module _ {K V : Type 0} (R : K → K → Ordering) (o : IsTotalOrder R) where
               single_place (x ∷ []) (suc j) l t = absurd (omega arith)
               single_place (x ∷ y ∷ xs) j l t = absurd t
 
-          -- so the outcome of joining the later pairs is that of joining all
+          -- joining the later pairs gives the outcome of joining all
           pub rest_copied : {T E : Type 0} (single : V → Type 0) (r : Result T E) (new : List (K × V)) → AreCopiesJoined R below valid single r now (drop i other) new → AreCopiesJoined R below valid single r first other new
           rest_copied single r new j = record {
             map = j.map;
@@ -263,7 +256,7 @@ module _ {K V : Type 0} (R : K → K → Ordering) (o : IsTotalOrder R) where
             single = on_err_weaker r (rest_single single new) j.single;
           }
 
-          -- a key that is not there now was not known
+          -- a key that is absent now was not known before
           pub not_known : find R e.0 now ≡ None → ¬ MapBelow R below other first
           not_known none h =
               let at = (still_known h).at e.0 in

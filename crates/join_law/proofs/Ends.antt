@@ -1,18 +1,14 @@
--- A map without its last pair, and a walk that joins pairs from the end.
-use Rattle.std.specs.Prelude.{◌≡◌, List, [], ◌∷◌, ◌++◌, Option, Some, None, ◌↔◌, ◌⊎◌, Bool, true, false, cond, ◌&&◌, refl}
-use Rattle.std.specs.Bool.{IsTrue}
+-- A map without its last pair, and a loop that joins pairs from the end.
+use Rattle.std.proofs.Common.{[], ◌&&◌, ◌++◌, ◌↔◌, ◌∙◌, ◌∷◌, ◌≡◌, ◌⊎◌, ap, append-nil, Bool, cond, false, inl, inr, IsTrue, List, None, Option, refl, Some, subst, sym, true}
 use Rattle.std.proofs.lemmas.Bool.{and_parts}
 use Rattle.std.specs.Cmp.{IsTotalOrder, tied_itself}
+use Rattle.std.specs.FinMap.Entries.{below_all, find, find-append, find_tied, is_sorted}
+use Rattle.std.specs.Option.{option_to_list}
 use Rattle.std.specs.Ordering.{eq_by_cmp, is_eq, is_lt, ordering_reverse}
-use Rattle.std.proofs.Common.{ap, sym, subst, ◌∙◌, inl, inr, append-nil}
-use Rattle.std.specs.Option.{option_to_list, IfSome}
+use Rattle.std.specs.Prelude.{IfSome}
 use Rattle.std.specs.declared.cmp.Ordering.{Ordering}
-use Rattle.std.specs.declared.cmp.Ordering.TheVariants.{Less, Greater}
-use Rattle.std.specs.FinMap.Entries.{find, is_sorted, below_all, find-append, find_tied}
-use Rattle.list_laws.specs.Orderings.{is_less, is_equal}
-use Rattle.join_law.specs.Order.{IsLeast, IsJoin, IsPartialJoin}
-use Rattle.join_law.specs.Maps.{OptionBelow, IsHeld, AllHeld, MapBelow, IsMap, IsSinglePair}
-use Rattle.join_law.specs.MapLaws.{map_itself, map_chain}
+use Rattle.std.specs.declared.cmp.Ordering.TheVariants.{Greater, Less}
+use Rattle.join_law.proofs.Prelude.{AllHeld, is_equal, is_less, IsHeld, IsJoin, IsLeast, IsMap, IsPartialJoin, IsSinglePair, map_chain, map_itself, MapBelow, OptionBelow}
 
 both : (a b : Bool) → IsTrue a → IsTrue b → IsTrue (a && b)
 both true b p q = q
@@ -52,7 +48,7 @@ module _ {K V : Type 0} (R : K → K → Ordering) (below : V → V → Type 0) 
   pub init_is_map : (valid : V → Type 0) (xs : List (K × V)) (e : K × V) → IsMap R below valid (xs ++ e ∷ []) → IsMap R below valid xs
   init_is_map valid xs e m = record { sorted = sorted_init xs e m.sorted; held = held_init valid xs e m.held }
 
-  -- the last value is put back in part
+  -- part of the last value is put back
   pub back_is_map : (valid : V → Type 0) (xs : List (K × V)) (k : K) (v w : V) → IsMap R below valid (xs ++ (k, v) ∷ []) → IsHeld below valid w → IsMap R below valid (xs ++ (k, w) ∷ [])
   back_is_map valid xs k v w m n = record { sorted = sym (sorted_alike k v w xs) ∙ m.sorted; held = held_push valid xs (k, w) (held_init valid xs (k, v) m.held) n }
 
@@ -68,7 +64,7 @@ module _ {K V : Type 0} (R : K → K → Ordering) (below : V → V → Type 0) 
     end_at true x v w n = (λ h. (subst (λ y. OptionBelow below y w) (sym (n refl)) tt, h), λ p. p.1)
     end_at false x v w n = (λ h. (h, tt), λ p. p.0)
 
-    -- a map is its entries but the last, and the last
+    -- a map is all its entries but the last, and the last
     pub below_end : (xs : List (K × V)) (k : K) (v : V) → find R k xs ≡ None → (z : List (K × V)) → MapBelow R below (xs ++ (k, v) ∷ []) z ↔ (MapBelow R below xs z × MapBelow R below ((k, v) ∷ []) z)
     below_end xs k v none z =
         let at : (q : K) → OptionBelow below (find R q (xs ++ (k, v) ∷ [])) (find R q z) ↔ (OptionBelow below (find R q xs) (find R q z) × OptionBelow below (cond (eq_by_cmp R q k) (Some v) None) (find R q z)) =
@@ -80,7 +76,7 @@ module _ {K V : Type 0} (R : K → K → Ordering) (below : V → V → Type 0) 
     last_not_least xs k v none n least =
         n (subst (λ r. OptionBelow below (cond (is_eq r) (Some v) (find R k xs)) None) (tied_itself o k) (subst (λ x. OptionBelow below x None) (find-append R o xs k v k none) ((least []).at k)))
 
--- how far the entries of `other` have gone into a map: what is there, and what is left
+-- the state of a loop that joins the entries of `other` into a map: the current map, and what is left
 pub record IsUnderWay {K V : Type 0} (R : K → K → Ordering) (valid : V → Type 0) (below : V → V → Type 0) (is_single : V → Type 0) (first other now left : List (K × V)) : Type 0 where
   pub map : IsMap R below valid now
   pub left_map : IsMap R below valid left
@@ -88,7 +84,7 @@ pub record IsUnderWay {K V : Type 0} (R : K → K → Ordering) (valid : V → T
   pub bounds : (z : List (K × V)) → (MapBelow R below now z × MapBelow R below left z) ↔ (MapBelow R below first z × MapBelow R below other z)
   pub single : IsSinglePair is_single other → ((now ≡ first) × (left ≡ other)) ⊎ (left ≡ [])
 
--- Upper bounds behind a stop: where what is left was cut into one thing and others, and a rest is left of the one.
+-- Upper bounds after a failure: what is left was split into one pair and the others, and part of that pair remains.
 pub stopped_bounds : {First Other Now New Left Was Rest LeftWas LeftRest : Type 0} → (Now × LeftWas) ↔ (First × Other) → (New × Rest) ↔ (Now × Was) → LeftWas ↔ (Left × Was) → LeftRest ↔ (Left × Rest) → (New × LeftRest) ↔ (First × Other)
 stopped_bounds so_far here was rest = (
   λ p. let e = rest.0 p.1 in let b = here.0 (p.0, e.1) in so_far.0 (b.0, was.1 (e.0, b.1)),
@@ -152,7 +148,7 @@ module _ {K V : Type 0} (R : K → K → Ordering) (o : IsTotalOrder R) (valid :
         }
 
         pub back_again : valid w → IsMap R below valid (xs ++ (k, w) ∷ [])
-        back_again ok = back_is_map R below valid xs k v w u.left_map (record { not_least = n; lawful = ok })
+        back_again ok = back_is_map R below valid xs k v w u.left_map (record { not_least = n; well_formed = ok })
 
       pub single_stopped : (new : List (K × V)) → (is_single v → new ≡ now) → IsSinglePair is_single other → new ≡ first
       single_stopped new h s = h (single_last s).1.1 ∙ (single_last s).0
@@ -170,7 +166,7 @@ module _ {K V : Type 0} (R : K → K → Ordering) (o : IsTotalOrder R) (valid :
             (back_again new rest.1 (subst (λ e. IsPartialJoin (MapBelow R below) now ((k, v) ∷ []) new (e ∷ [])) (sym whole) j) n ok)
 
 module _ {K V : Type 0} (R : K → K → Ordering) (below : V → V → Type 0) (valid : V → Type 0) where
-  -- a map whose last pair, if there is one, was taken out
+  -- a map whose last pair, if any, was removed
   pub popped_is_map : (es left : List (K × V)) (last : Option (K × V)) → es ≡ left ++ option_to_list last → IsMap R below valid es → IsMap R below valid left
   popped_is_map es left None is m = subst (IsMap R below valid) (is ∙ append-nil left) m
   popped_is_map es left (Some e) is m = init_is_map R below valid left e (subst (IsMap R below valid) is m)

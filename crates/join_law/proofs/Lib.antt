@@ -1,7 +1,8 @@
+pub mod Prelude
 pub mod MapEdits
 pub mod Ends
 pub mod CopyWalks
 pub mod Outcomes
-pub mod Behind
+pub mod After
 pub mod PassEdits
-pub mod FrontWalks
+pub mod PrefixWalks

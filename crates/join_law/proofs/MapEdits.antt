@@ -1,27 +1,22 @@
--- What the edit of one pair makes of a map.
-use Rattle.std.specs.Prelude.{◌≡◌, ◌↔◌, Bool, IsTrue, ℕ, zero, suc, List, [], ◌∷◌, Option, Some, None, cond, refl}
-use Rattle.std.specs.List.{insert}
+-- The map after an edit of one pair.
+use Rattle.std.proofs.Common.{[], ◌↔◌, ◌∙◌, ◌∷◌, ◌≡◌, ap, Bool, cond, get_or, IsTrue, List, None, Option, refl, set, Some, subst, suc, sym, zero, ℕ}
 use Rattle.std.specs.Cmp.{IsTotalOrder, tied_itself}
-use Rattle.std.specs.Ordering.{is_eq}
-use Rattle.std.proofs.Common.{ap, sym, subst, ◌∙◌, set, get_or}
-use Rattle.std.specs.declared.cmp.Ordering.{Ordering}
 use Rattle.std.specs.FinMap.Entries.{find, put}
-use Rattle.sorted_pairs.specs.Places.{IsAt, IsGap}
-use Rattle.sorted_pairs.specs.PlaceLaws.{set_is_put, insert_is_put, find_at, find_gap}
-use Rattle.join_law.specs.Order.{IsLeast, IsJoin, IsPartialJoin, IsBetween}
-use Rattle.join_law.specs.Maps.{OptionBelow, AllHeld, MapBelow, IsMap}
-use Rattle.join_law.specs.MapLaws.{OptionJoin, OptionBounds, option_join, option_bounds, option_new, map_itself, join_at_key, bounds_at_key, below_at_key, between_at_key, is_map-put, entry_not_least, entry_least}
+use Rattle.std.specs.List.{insert}
+use Rattle.std.specs.Ordering.{is_eq}
+use Rattle.std.specs.declared.cmp.Ordering.{Ordering}
+use Rattle.join_law.proofs.Prelude.{AllHeld, below_at_key, between_at_key, bounds_at_key, entry_least, entry_not_least, find_at, find_gap, insert_is_put, is_map-put, IsAt, IsBetween, IsGap, IsJoin, IsLeast, IsMap, IsPartialJoin, join_at_key, map_itself, MapBelow, option_bounds, option_join, option_new, OptionBelow, OptionBounds, OptionJoin, set_is_put}
 
 at_itself : {K V : Type 0} (R : K → K → Ordering) (o : IsTotalOrder R) (below : V → V → Type 0) (k : K) (v : V) (es : List (K × V)) → MapBelow R below ((k, v) ∷ []) es → OptionBelow below (Some v) (find R k es)
 at_itself R o below k v es h = subst (λ r. OptionBelow below (cond (is_eq r) (Some v) None) (find R k es)) (tied_itself o k) (h.at k)
 
--- a write of what was there
+-- writing the old element changes nothing
 pub set_same : {A : Type 0} (es : List A) (i : ℕ) (e : A) → e ≡ get_or es i e → set es i e ≡ es
 set_same [] i e h = refl
 set_same (f ∷ fs) zero e h = ap (λ x. x ∷ fs) h
 set_same (f ∷ fs) (suc i) e h = ap (λ xs. f ∷ xs) (set_same fs i e h)
 
--- a key was added with a pair exactly where it was with its value
+-- a pair adds a key exactly if its value does
 pub added_with : {K V : Type 0} (R : K → K → Ordering) (o : IsTotalOrder R) (below : V → V → Type 0) (k : K) (v : V) (added new : Bool) → IsTrue added ↔ (IsTrue new × ¬ IsLeast below v) → IsTrue added ↔ (IsTrue new × ¬ IsLeast (MapBelow R below) ((k, v) ∷ []))
 added_with R o below k v added new h = (
   λ t. let both = h.0 t in (both.0, entry_not_least R below o k v both.1),
@@ -46,13 +41,13 @@ module _ {K V : Type 0} (R : K → K → Ordering) (o : IsTotalOrder R) (valid :
       not_least_here = subst (λ x. ¬ IsLeast below x.1) (sym here) (none_least_at k es i e a m.held)
 
       pub joined_is_map : (v new : V) → valid new → IsJoin below e.1 v new → IsMap R below valid (set es i (e.0, new))
-      joined_is_map v new ok j = subst (IsMap R below valid) (sym (written new)) (is_map-put R below o k valid es new (record { not_least = λ least. not_least_here (λ z. ((j.bounds z).0 (least z)).0); lawful = ok }) m)
+      joined_is_map v new ok j = subst (IsMap R below valid) (sym (written new)) (is_map-put R below o k valid es new (record { not_least = λ least. not_least_here (λ z. ((j.bounds z).0 (least z)).0); well_formed = ok }) m)
 
       pub joined_is_join : (v new : V) → IsJoin below e.1 v new → IsJoin (MapBelow R below) es ((k, v) ∷ []) (set es i (e.0, new))
       joined_is_join v new j = subst (IsJoin (MapBelow R below) es ((k, v) ∷ [])) (sym (written new)) (join_at_key R below o k es v new (subst (λ x. OptionJoin below x (Some v) (Some new)) (sym found) (option_join below e.1 v new j)))
 
       pub partly_is_map : (v new rest : V) → valid new → IsPartialJoin below e.1 v new rest → IsMap R below valid (set es i (e.0, new))
-      partly_is_map v new rest ok j = subst (IsMap R below valid) (sym (written new)) (is_map-put R below o k valid es new (record { not_least = λ least. not_least_here (λ z. chain e.1 new z j.kept (least z)); lawful = ok }) m)
+      partly_is_map v new rest ok j = subst (IsMap R below valid) (sym (written new)) (is_map-put R below o k valid es new (record { not_least = λ least. not_least_here (λ z. chain e.1 new z j.kept (least z)); well_formed = ok }) m)
 
       pub partly_is_join : (v new rest : V) → IsPartialJoin below e.1 v new rest → IsPartialJoin (MapBelow R below) es ((k, v) ∷ []) (set es i (e.0, new)) ((k, rest) ∷ [])
       partly_is_join v new rest j = subst (λ x. IsPartialJoin (MapBelow R below) es ((k, v) ∷ []) x ((k, rest) ∷ [])) (sym (written new)) (record {
@@ -61,12 +56,12 @@ module _ {K V : Type 0} (R : K → K → Ordering) (o : IsTotalOrder R) (valid :
         left = entry_not_least R below o k rest j.left;
       })
 
-      -- a value that is there already
+      -- a value that is already there
       pub known_here : (v : V) → MapBelow R below ((k, v) ∷ []) es → below v e.1
       known_here v h = subst (λ x. OptionBelow below (Some v) x) found (at_itself R o below k v es h)
 
       pub between_is_map : (v new : V) → valid new → IsBetween below e.1 v new → IsMap R below valid (set es i (e.0, new))
-      between_is_map v new ok j = subst (IsMap R below valid) (sym (written new)) (is_map-put R below o k valid es new (record { not_least = λ least. not_least_here (λ z. chain e.1 new z j.kept (least z)); lawful = ok }) m)
+      between_is_map v new ok j = subst (IsMap R below valid) (sym (written new)) (is_map-put R below o k valid es new (record { not_least = λ least. not_least_here (λ z. chain e.1 new z j.kept (least z)); well_formed = ok }) m)
 
       pub between_is_between : (v new : V) → IsBetween below e.1 v new → IsBetween (MapBelow R below) es ((k, v) ∷ []) (set es i (e.0, new))
       between_is_between v new j = subst (IsBetween (MapBelow R below) es ((k, v) ∷ [])) (sym (written new)) (record {
@@ -94,7 +89,7 @@ module _ {K V : Type 0} (R : K → K → Ordering) (o : IsTotalOrder R) (valid :
         not_known h = n (subst (λ x. OptionBelow below (Some v) x) (find_gap R k o es i m.sorted g) (at_itself R o below k v es h))
 
         pub inserted_is_map : valid v → IsMap R below valid (insert es i (k, v))
-        inserted_is_map ok = subst (IsMap R below valid) (sym (insert_is_put R k es i v g)) (is_map-put R below o k valid es v (record { not_least = n; lawful = ok }) m)
+        inserted_is_map ok = subst (IsMap R below valid) (sym (insert_is_put R k es i v g)) (is_map-put R below o k valid es v (record { not_least = n; well_formed = ok }) m)
 
         pub inserted_is_join : IsJoin (MapBelow R below) es ((k, v) ∷ []) (insert es i (k, v))
         inserted_is_join = subst (IsJoin (MapBelow R below) es ((k, v) ∷ [])) (sym (insert_is_put R k es i v g)) (join_at_key R below o k es v v (subst (λ x. OptionJoin below x (Some v) (Some v)) (sym (find_gap R k o es i m.sorted g)) (option_new below (Some v))))

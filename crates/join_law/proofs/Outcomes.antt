@@ -1,6 +1,7 @@
--- What holds whatever a call answers.
-use Rattle.std.specs.Prelude.{Result, Ok, Err, OnOk, OnErr, IsErr, IfOk, Bool, true, false}
-use Rattle.std.specs.Bool.{OnTrue, OnFalse}
+-- Facts that hold whatever a call returns.
+use Rattle.std.proofs.Common.{Bool, Err, false, IfOk, Ok, OnErr, OnOk, Result, true}
+use Rattle.std.specs.Bool.{OnFalse, OnTrue}
+use Rattle.std.specs.Prelude.{IsErr}
 
 pub on_err : {T E P : Type 0} (r : Result T E) → P → OnErr r P
 on_err (Ok t) p = tt

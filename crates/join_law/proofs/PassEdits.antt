@@ -1,12 +1,10 @@
--- What the edit of one pair makes of a map that a pass has in two parts: what it passed, and what is ahead.
-use Rattle.std.specs.Prelude.{◌≡◌, List, [], ◌∷◌, ◌++◌, length}
+-- The effect of one pair's edit on a map that a pass holds in two parts: the pairs already passed, and those still
+-- ahead.
+use Rattle.std.proofs.Common.{[], ◌++◌, ◌∙◌, ◌∷◌, ◌≡◌, get_or, length, List, set, subst, sym}
 use Rattle.std.specs.Cmp.{IsTotalOrder}
-use Rattle.std.proofs.Common.{sym, subst, ◌∙◌, set, get_or}
 use Rattle.std.specs.declared.cmp.Ordering.{Ordering}
-use Rattle.sorted_pairs.specs.Places.{IsAt, IsGap, AreBelow}
-use Rattle.join_law.specs.Order.{IsLeast, IsJoin, IsPartialJoin, IsBetween}
-use Rattle.join_law.specs.Maps.{MapBelow, IsMap}
-use Rattle.join_law.proofs.Behind.{set_behind, get_behind, insert_behind, at_behind, gap_behind}
+use Rattle.join_law.proofs.Prelude.{AreBelow, IsAt, IsBetween, IsGap, IsJoin, IsLeast, IsMap, IsPartialJoin, MapBelow}
+use Rattle.join_law.proofs.After.{at_after, gap_after, get_after, insert_after, set_after}
 use Rattle.join_law.proofs.MapEdits as whole
 
 module _ {K V : Type 0} (R : K → K → Ordering) (o : IsTotalOrder R) (valid : V → Type 0) (below : V → V → Type 0) (itself : (x : V) → below x x) (chain : (x y z : V) → below x y → below y z → below x z) where
@@ -14,13 +12,13 @@ module _ {K V : Type 0} (R : K → K → Ordering) (o : IsTotalOrder R) (valid :
     -- the first pair ahead has the key
     module _ (e : K × V) (a : IsAt R k ahead 0) (here : e ≡ get_or ahead 0 e) where
       at : IsAt R k (passed ++ ahead) (length passed)
-      at = at_behind R o k passed ahead b a
+      at = at_after R o k passed ahead b a
 
       there : e ≡ get_or (passed ++ ahead) (length passed) e
-      there = here ∙ sym (get_behind passed ahead e)
+      there = here ∙ sym (get_after passed ahead e)
 
       in_parts : (P : List (K × V) → Type 0) (new : V) → P (set (passed ++ ahead) (length passed) (e.0, new)) → P (passed ++ set ahead 0 (e.0, new))
-      in_parts P new = subst P (set_behind passed ahead (e.0, new))
+      in_parts P new = subst P (set_after passed ahead (e.0, new))
 
       pub joined_is_map : (v new : V) → valid new → IsJoin below e.1 v new → IsMap R below valid (passed ++ set ahead 0 (e.0, new))
       joined_is_map v new ok j = in_parts (IsMap R below valid) new (whole.joined_is_map R o valid below itself chain k (passed ++ ahead) (length passed) m e at there v new ok j)
@@ -46,11 +44,11 @@ module _ {K V : Type 0} (R : K → K → Ordering) (o : IsTotalOrder R) (valid :
     -- the key is new
     module _ (v : V) (n : ¬ IsLeast below v) (g : IsGap R k ahead 0) where
       gap : IsGap R k (passed ++ ahead) (length passed)
-      gap = gap_behind R o k passed ahead b g
+      gap = gap_after R o k passed ahead b g
 
       pub added_is_map : valid v → IsMap R below valid ((passed ++ (k, v) ∷ []) ++ ahead)
-      added_is_map ok = subst (IsMap R below valid) (insert_behind passed ahead (k, v)) (whole.inserted_is_map R o valid below itself chain k (passed ++ ahead) (length passed) m v n gap ok)
+      added_is_map ok = subst (IsMap R below valid) (insert_after passed ahead (k, v)) (whole.inserted_is_map R o valid below itself chain k (passed ++ ahead) (length passed) m v n gap ok)
 
       pub added_is_join : IsJoin (MapBelow R below) (passed ++ ahead) ((k, v) ∷ []) ((passed ++ (k, v) ∷ []) ++ ahead)
       added_is_join =
-          subst (IsJoin (MapBelow R below) (passed ++ ahead) ((k, v) ∷ [])) (insert_behind passed ahead (k, v)) (whole.inserted_is_join R o valid below itself chain k (passed ++ ahead) (length passed) m v n gap)
+          subst (IsJoin (MapBelow R below) (passed ++ ahead) ((k, v) ∷ [])) (insert_after passed ahead (k, v)) (whole.inserted_is_join R o valid below itself chain k (passed ++ ahead) (length passed) m v n gap)

@@ -1,14 +1,12 @@
--- The order of entries is total, and the larger of two is their least upper bound.
-use Rattle.std.proofs.Common.{◌≡◌, true, false, cond, Option, Some, None, refl, ap, ◌⊎◌, inl, inr}
+-- The order of entries is total, and the greater of two entries is their least upper bound.
+use Rattle.std.proofs.Common.{◌≡◌, ◌⊎◌, ap, cond, false, inl, inr, None, Option, refl, Some, true}
+use Rattle.std.specs.Cmp.{IsTotalOrder, on_total, then_total, tied_itself, upto}
+use Rattle.std.specs.Ordering.{is_gt, ordering_reverse}
 use Rattle.std.specs.declared.cmp.Ordering.{Ordering}
-use Rattle.std.specs.declared.cmp.Ordering.TheVariants.{Less, Equal, Greater}
-use Rattle.std.specs.Ordering.{ordering_reverse, is_gt}
-use Rattle.std.specs.Cmp.{IsTotalOrder, then_total, on_total, tied_itself, upto}
-use Rattle.join_law.specs.VersionOrder.{entry_cmp, version_cmp, IsBelow, larger}
-use Rattle.join_law.specs.VersionOrderLaws.{both_exact, version_cmp_total, version_cmp-IsAntisymmetric}
-use Rattle.join_law.specs.declared.versions.Entry.{Entry}
+use Rattle.std.specs.declared.cmp.Ordering.TheVariants.{Equal, Greater, Less}
+use Rattle.join_law.specs.{declared.versions.Entry.Entry, VersionOrder.entry_cmp, VersionOrder.IsBelow, VersionOrder.larger, VersionOrder.version_cmp, VersionOrderLaws.both_exact, VersionOrderLaws.version_cmp-IsAntisymmetric, VersionOrderLaws.version_cmp_total}
 
--- an order at most both ways is a tie
+-- if neither of two compares as greater than the other, they tie
 tie : (a b : Ordering) → a ≡ ordering_reverse b → is_gt a ≡ false → is_gt b ≡ false → a ≡ Equal
 tie Less Less e h k = cc
 tie Less Equal e h k = cc
@@ -23,7 +21,7 @@ not_gt_back Greater Less e h = refl
 not_gt_back Greater Equal e h = cc
 not_gt_back Greater Greater e h = cc
 
--- the larger is one of the two
+-- the greater is one of the two
 pub larger_cases : {C : Type 0} (R : C → C → Ordering) (x y : Option (Entry C)) → (larger R x y ≡ x) ⊎ (larger R x y ≡ y)
 larger_cases R None y = inr refl
 larger_cases R (Some x) None = inl refl

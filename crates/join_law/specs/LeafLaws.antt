@@ -1,23 +1,13 @@
--- Maps of entries: what is written at each key of a join, and of what lies between.
-use Rattle.std.specs.Prelude.{◌≡◌, List, Option, Some, None, ◌↔◌}
+-- Maps of entries: which entry is at a key of a join, and of a value between a map and a join.
+use Rattle.std.proofs.Common.{◌↔◌, ◌≡◌, List, None, Option, Some}
 use Rattle.std.specs.Cmp.{IsTotalOrder}
+use Rattle.std.specs.FinMap.Entries.{find}
 use Rattle.std.specs.declared.cmp.Ordering.{Ordering}
 use Rattle.std.specs.declared.cmp.Ordering.TheVariants.{Equal}
-use Rattle.std.specs.FinMap.Entries.{find}
-use Rattle.join_law.specs.declared.versions.Entry.{Entry}
-use Rattle.join_law.specs.declared.versions.Versioned.{Versioned}
-use Rattle.join_law.specs.declared.versions.Versioned.TheVariants.{Never, At}
-use Rattle.join_law.specs.Order.{IsJoin, IsBetween}
-use Rattle.join_law.specs.Maps.{OptionBelow, MapBelow, map_union}
-use Rattle.join_law.specs.MapLaws.{OptionJoin, OptionBounds, map_itself}
-use Rattle.join_law.specs.UnionLaws.{union_joins}
-use Rattle.join_law.specs.LevelLaws.{join_at, bounds_at, between_at, upper_of}
-use Rattle.join_law.specs.VersionOrder.{IsBelow, larger, written_at, versioned_max, IsUpTo}
-use Rattle.join_law.specs.EntryLaws.{below_refl, below_antisym, larger-left, larger-right, larger-least}
-use Rattle.join_law.specs.VersionedLaws.{up_to_itself, up_to_chain, max_joins}
+use Rattle.join_law.specs.{declared.versions.Entry.Entry, declared.versions.Versioned.TheVariants.At, declared.versions.Versioned.TheVariants.Never, declared.versions.Versioned.Versioned, EntryLaws.below_antisym, EntryLaws.below_refl, EntryLaws.larger-least, EntryLaws.larger-left, EntryLaws.larger-right, LevelLaws.between_at, LevelLaws.bounds_at, LevelLaws.join_at, LevelLaws.upper_of, MapLaws.map_itself, MapLaws.OptionBounds, MapLaws.OptionJoin, Maps.map_union, Maps.MapBelow, Maps.OptionBelow, Order.IsBetween, Order.IsJoin, UnionLaws.union_joins, VersionedLaws.max_joins, VersionedLaws.up_to_chain, VersionedLaws.up_to_itself, VersionOrder.IsBelow, VersionOrder.IsUpTo, VersionOrder.larger, VersionOrder.versioned_max, VersionOrder.written_at}
 
 module _ {C : Type 0} (S : C → C → Ordering) where
-  -- an optional entry as what may not be written yet
+  -- an optional entry as a `Versioned`
   abbrev pub versioned : Option (Entry C) → Versioned C
   versioned None = Never
   versioned (Some x) = At x
@@ -74,18 +64,18 @@ module _ {C : Type 0} (S : C → C → Ordering) where
       upper : (x y : List (K × Versioned C)) → (z : List (K × Versioned C)) × (MapBelow R (IsUpTo S) x z × MapBelow R (IsUpTo S) y z)
       upper = upper_of (MapBelow R (IsUpTo S)) (map_itself (IsUpTo S) leaf_itself leaf_chain R) (map_union R (versioned_max S)) (union_joins R o (IsUpTo S) (versioned_max S) (max_joins S total))
 
-      -- a lesser map has lesser entries
+      -- a map below another has entries that aren't greater
       pub leaf_below : (a b : List (K × Versioned C)) → MapBelow R (IsUpTo S) a b → IsBelow S (written_at (find R k a)) (written_at (find R k b))
       leaf_below a b h = written_below (find R k a) (find R k b) (h.at k)
 
-      -- a join has the larger entries
+      -- a join has the greater entry at each key
       pub leaf_join : (a b c : List (K × Versioned C)) → IsJoin (MapBelow R (IsUpTo S)) a b c → written_at (find R k c) ≡ larger S (written_at (find R k a)) (written_at (find R k b))
       leaf_join a b c j = written_join (find R k a) (find R k b) (find R k c) (join_at R o (IsUpTo S) leaf_itself leaf_chain k a b c j)
 
-      -- what lies between has no larger ones
+      -- a value between has no greater entry than the two maps have
       pub leaf_between : (a b v : List (K × Versioned C)) → IsBetween (MapBelow R (IsUpTo S)) a b v → IsBelow S (written_at (find R k v)) (larger S (written_at (find R k a)) (written_at (find R k b)))
       leaf_between a b v j = written_between (find R k a) (find R k b) (find R k v) (between_at R o (IsUpTo S) leaf_itself leaf_chain k upper a b v j)
 
-      -- and with what is left it has the larger ones
+      -- together with the rest it has the greater entry
       pub leaf_bounds : (a b v r : List (K × Versioned C)) → ((z : List (K × Versioned C)) → (MapBelow R (IsUpTo S) v z × MapBelow R (IsUpTo S) r z) ↔ (MapBelow R (IsUpTo S) a z × MapBelow R (IsUpTo S) b z)) → larger S (written_at (find R k v)) (written_at (find R k r)) ≡ larger S (written_at (find R k a)) (written_at (find R k b))
       leaf_bounds a b v r h = written_bounds (find R k a) (find R k b) (find R k v) (find R k r) (bounds_at R o (IsUpTo S) leaf_itself leaf_chain k upper a b v r h)

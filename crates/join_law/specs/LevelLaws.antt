@@ -1,17 +1,14 @@
--- The join of two maps is the join of their values at each key: what a map of maps has at each depth.
-use Rattle.std.specs.Prelude.{◌≡◌, List, [], Option, Some, None, ◌↔◌, Bool, true, false, cond, not, refl}
-use Rattle.std.specs.Cmp.{IsTotalOrder, alike_right, tied_itself, eq_by_cmp_equiv}
+-- Two maps are joined by joining their values at each key, at every depth of maps of maps.
+use Rattle.std.proofs.Common.{[], ◌↔◌, ◌∙◌, ◌≡◌, ap, Bool, cond, false, List, None, not, Option, refl, Some, subst, sym, true}
+use Rattle.std.specs.Cmp.{alike_right, eq_by_cmp_equiv, IsTotalOrder, tied_itself}
+use Rattle.std.specs.FinMap.Entries.{find, find-put, find-where_key, find_tied, where_key}
 use Rattle.std.specs.Ordering.{eq_by_cmp, is_eq}
-use Rattle.std.proofs.Common.{ap, sym, subst, ◌∙◌}
 use Rattle.std.specs.declared.cmp.Ordering.{Ordering}
-use Rattle.std.specs.FinMap.Entries.{find, put, where_key, find-put, find-where_key, find_tied}
-use Rattle.list_laws.specs.Orderings.{is_equal}
-use Rattle.join_law.specs.Order.{IsJoin, IsBetween}
-use Rattle.join_law.specs.Maps.{OptionBelow, MapBelow, or_empty, map_union, is_none_or}
-use Rattle.join_law.specs.MapLaws.{OptionJoin, OptionBounds, option_chain, map_itself, map_chain}
-use Rattle.join_law.specs.UnionLaws.{union_joins}
+use Rattle.join_law.specs.Prelude.{is_equal}
+use Rattle.join_law.specs.{MapLaws.map_chain, MapLaws.map_itself, MapLaws.option_chain, MapLaws.OptionBounds, MapLaws.OptionJoin, Maps.is_none_or, Maps.map_union, Maps.MapBelow, Maps.OptionBelow, Maps.or_empty, Order.IsBetween, Order.IsJoin, UnionLaws.union_joins}
+use Rattle.std.specs.FinMap.Entries.{put}
 
--- a test of what is held at a key of a map that may be absent
+-- a test of the value at a key, if the map itself may be absent
 pub is_none_or-within : {K V : Type 0} (R : K → K → Ordering) (k : K) (test : V → Bool) (m : Option (List (K × V))) → is_none_or (λ n. is_none_or test (find R k n)) m ≡ is_none_or test (find R k (or_empty m))
 is_none_or-within R k test None = refl
 is_none_or-within R k test (Some n) = refl
@@ -46,7 +43,7 @@ module _ {K V : Type 0} (R : K → K → Ordering) (o : IsTotalOrder R) (below :
           ] refl);
     }
 
-    -- at each key the value is the join of the values
+    -- the value at each key is the join of the two values
     pub join_at : (m n r : List (K × V)) → IsJoin (MapBelow R below) m n r → OptionJoin below (find R k m) (find R k n) (find R k r)
     join_at m n r j w =
         let up = (j.bounds r).0 (map_itself below itself chain R r) in (
@@ -56,7 +53,7 @@ module _ {K V : Type 0} (R : K → K → Ordering) (o : IsTotalOrder R) (below :
               subst (λ x. OptionBelow below (find R k r) x) (find-changed r w k ∙ ap (λ o'. cond (is_eq o') w (find R k r)) (tied_itself o k)) at_k,
         )
 
-    -- and of what is left after want of memory
+    -- the same for what is left after memory ran out
     pub bounds_at : ((x y : List (K × V)) → (z : List (K × V)) × (MapBelow R below x z × MapBelow R below y z)) → (a b v r : List (K × V)) → ((z : List (K × V)) → (MapBelow R below v z × MapBelow R below r z) ↔ (MapBelow R below a z × MapBelow R below b z)) → OptionBounds below (find R k a) (find R k b) (find R k v) (find R k r)
     bounds_at upper a b v r h w =
         let at_k : (m u : List (K × V)) → MapBelow R below m (changed u w) → OptionBelow below (find R k m) w = λ m u l.
@@ -71,14 +68,14 @@ module _ {K V : Type 0} (R : K → K → Ordering) (o : IsTotalOrder R) (below :
               (at_k v u.0 both.0, at_k r u.0 both.1),
         )
 
-    -- and of what lies between
+    -- the same for values between
     pub between_at : ((x y : List (K × V)) → (z : List (K × V)) × (MapBelow R below x z × MapBelow R below y z)) → (a b v : List (K × V)) → IsBetween (MapBelow R below) a b v → (w : Option V) → OptionBelow below (find R k a) w → OptionBelow below (find R k b) w → OptionBelow below (find R k v) w
     between_at upper a b v j w p q =
         let u = upper a b in
         let above = j.within (changed u.0 w) (below_changed a u.0 w u.1.0 p) (below_changed b u.0 w u.1.1 q) in
         subst (λ x. OptionBelow below (find R k v) x) (find-changed u.0 w k ∙ ap (λ o'. cond (is_eq o') w (find R k u.0)) (tied_itself o k)) (above.at k)
 
-  -- a map that is absent is an empty one
+  -- an absent map counts as empty
   pub join_or_empty : (a b c : Option (List (K × V))) → OptionJoin (MapBelow R below) a b c → IsJoin (MapBelow R below) (or_empty a) (or_empty b) (or_empty c)
   join_or_empty a b c h = record { bounds = λ z. (λ l. let t = (h (Some z)).0 (there c z l) in (here a z t.0, here b z t.1), λ p. here c z ((h (Some z)).1 (there a z p.0, there b z p.1))) }
     where
@@ -115,7 +112,7 @@ module _ {K V : Type 0} (R : K → K → Ordering) (o : IsTotalOrder R) (below :
   nothing_between : (a b v : Option (List (K × V))) → ((w : Option (List (K × V))) → OptionBelow (MapBelow R below) a w → OptionBelow (MapBelow R below) b w → OptionBelow (MapBelow R below) v w) → (z : List (K × V)) → MapBelow R below (or_empty a) z → MapBelow R below (or_empty b) z → MapBelow R below (or_empty v) z
   nothing_between a b v h z p q = from_option v z (h (Some z) (to_option a z p) (to_option b z q))
 
--- a join is above both
+-- a join is above both values
 pub upper_of : {A : Type 0} (below : A → A → Type 0) (itself : (x : A) → below x x) (join : A → A → A) (joins : (x y : A) → IsJoin below x y (join x y)) (x y : A) → (z : A) × (below x z × below y z)
 upper_of below itself join joins x y = (join x y, ((joins x y).bounds (join x y)).0 (itself (join x y)))
 
@@ -126,11 +123,11 @@ module _ {K L V : Type 0} (R : K → K → Ordering) (o : IsTotalOrder R) (S : L
   inner_chain : (x y z : List (L × V)) → MapBelow S below x y → MapBelow S below y z → MapBelow S below x z
   inner_chain = map_chain below itself chain S
 
-  -- of maps of maps: the inner maps at a key are below each other
+  -- maps of maps: if one is below another, so are their inner maps at a key
   pub level_below : (a b : List (K × List (L × V))) → MapBelow R (MapBelow S below) a b → MapBelow S below (or_empty (find R k a)) (or_empty (find R k b))
   level_below a b h = below_or_empty S t below itself chain _ _ (h.at k)
 
-  -- they are joined
+  -- the inner maps are joined
   pub level_join : (a b c : List (K × List (L × V))) → IsJoin (MapBelow R (MapBelow S below)) a b c → IsJoin (MapBelow S below) (or_empty (find R k a)) (or_empty (find R k b)) (or_empty (find R k c))
   level_join a b c j = join_or_empty S t below itself chain _ _ _ (join_at R o (MapBelow S below) inner_itself inner_chain k a b c j)
 
@@ -138,14 +135,14 @@ module _ {K L V : Type 0} (R : K → K → Ordering) (o : IsTotalOrder R) (S : L
     outer_upper : (x y : List (K × List (L × V))) → (z : List (K × List (L × V))) × (MapBelow R (MapBelow S below) x z × MapBelow R (MapBelow S below) y z)
     outer_upper = upper_of (MapBelow R (MapBelow S below)) (map_itself (MapBelow S below) inner_itself inner_chain R) (map_union R (map_union S join)) (union_joins R o (MapBelow S below) (map_union S join) (union_joins S t below join joins))
 
-    -- they lie between
+    -- the inner maps lie between
     pub level_between : (a b v : List (K × List (L × V))) → IsBetween (MapBelow R (MapBelow S below)) a b v → IsBetween (MapBelow S below) (or_empty (find R k a)) (or_empty (find R k b)) (or_empty (find R k v))
     level_between a b v j = record {
       kept = level_below a v j.kept;
       within = nothing_between S t below itself chain _ _ _ (between_at R o (MapBelow S below) inner_itself inner_chain k outer_upper a b v j);
     }
 
-    -- they have the same upper bounds
+    -- the inner maps have the same upper bounds
     pub level_bounds : (a b v r : List (K × List (L × V))) → ((z : List (K × List (L × V))) → (MapBelow R (MapBelow S below) v z × MapBelow R (MapBelow S below) r z) ↔ (MapBelow R (MapBelow S below) a z × MapBelow R (MapBelow S below) b z))
         → (z : List (L × V)) → (MapBelow S below (or_empty (find R k v)) z × MapBelow S below (or_empty (find R k r)) z) ↔ (MapBelow S below (or_empty (find R k a)) z × MapBelow S below (or_empty (find R k b)) z)
     level_bounds a b v r h = bounds_or_empty S t below itself chain _ _ _ _ (bounds_at R o (MapBelow S below) inner_itself inner_chain k outer_upper a b v r h)

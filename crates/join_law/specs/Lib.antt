@@ -1,3 +1,4 @@
+pub mod Prelude
 pub mod Order
 pub mod VersionOrder
 pub mod VersionOrderLaws

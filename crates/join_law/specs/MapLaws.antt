@@ -1,16 +1,14 @@
--- The order of maps, and what an edit at one key does to it.
-use Rattle.std.specs.Prelude.{◌≡◌, List, [], ◌∷◌, Option, Some, None, ◌↔◌, true, false, cond}
-use Rattle.std.specs.FinMap.{find, put}
+-- The order of maps, and how an edit at one key changes a map.
+use Rattle.std.proofs.Common.{[], ◌↔◌, ◌∷◌, ◌≡◌, cond, false, List, None, Option, refl, Some, subst, sym, true}
 use Rattle.std.specs.Cmp.{IsTotalOrder, tied_itself}
+use Rattle.std.specs.FinMap.{put}
+use Rattle.std.specs.FinMap.Entries.{by_order, find-put, find_tied, is_sorted-put}
 use Rattle.std.specs.Ordering.{eq_by_cmp, is_eq}
-use Rattle.std.proofs.Common.{sym, subst, refl}
 use Rattle.std.specs.declared.cmp.Ordering.{Ordering}
-use Rattle.std.specs.declared.cmp.Ordering.TheVariants.{Less, Equal, Greater}
-use Rattle.std.specs.FinMap.Entries.{by_order, find-put, is_sorted-put, find_tied}
-use Rattle.list_laws.specs.Orderings.{is_equal}
-use Rattle.list_laws.specs.Truths.{to_T, from_T}
-use Rattle.join_law.specs.Order.{IsLeast, IsJoin}
-use Rattle.join_law.specs.Maps.{OptionBelow, IsHeld, AllHeld, MapBelow, IsMap}
+use Rattle.std.specs.declared.cmp.Ordering.TheVariants.{Equal, Greater, Less}
+use Rattle.join_law.specs.Prelude.{from_T, is_equal, to_T}
+use Rattle.join_law.specs.{Maps.AllHeld, Maps.IsHeld, Maps.IsMap, Maps.MapBelow, Maps.OptionBelow, Order.IsJoin, Order.IsLeast}
+use Rattle.std.specs.FinMap.{find}
 
 module _ {V : Type 0} (below : V → V → Type 0) (itself : (x : V) → below x x) (chain : (x y z : V) → below x y → below y z → below x z) where
   pub option_itself : (x : Option V) → OptionBelow below x x
@@ -32,11 +30,11 @@ module _ {V : Type 0} (below : V → V → Type 0) (itself : (x : V) → below x
     map_chain x y z p q = record { at = λ k. option_chain (find R k x) (find R k y) (find R k z) (p.at k) (q.at k) }
 
 module _ {V : Type 0} (below : V → V → Type 0) where
-  -- c is the least upper bound of a and b, where a value may be absent
+  -- c is the least upper bound of a and b; each may be absent
   abbrev pub OptionJoin : Option V → Option V → Option V → Type 0
   OptionJoin a b c = (w : Option V) → OptionBelow below c w ↔ (OptionBelow below a w × OptionBelow below b w)
 
-  -- v and the rest have the upper bounds of a and b
+  -- v and r together have the same upper bounds as a and b
   abbrev pub OptionBounds : Option V → Option V → Option V → Option V → Type 0
   OptionBounds a b v r = (w : Option V) → (OptionBelow below v w × OptionBelow below r w) ↔ (OptionBelow below a w × OptionBelow below b w)
 
@@ -55,7 +53,7 @@ module _ {V : Type 0} (below : V → V → Type 0) where
   option_same a w = (λ h. (h, tt), λ h. h.0)
 
 module _ {K V : Type 0} (R : K → K → Ordering) (below : V → V → Type 0) where
-  -- maps whose values are joined at each key
+  -- maps whose values are joined at each key are joined
   pub map_join : (m n r : List (K × V)) → ((q : K) → OptionJoin below (find R q m) (find R q n) (find R q r)) → IsJoin (MapBelow R below) m n r
   map_join m n r h = record {
     bounds = λ z. (
@@ -71,7 +69,7 @@ module _ {K V : Type 0} (R : K → K → Ordering) (below : V → V → Type 0) 
   )
 
   module _ (o : IsTotalOrder R) (k : K) where
-    -- what a map has after its value at k was joined with v
+    -- the map after its value at k was joined with v
     pub join_at_key : (es : List (K × V)) (v new : V) → OptionJoin below (find R k es) (Some v) (Some new) → IsJoin (MapBelow R below) es ((k, v) ∷ []) (put R k new es)
     join_at_key es v new h = map_join es ((k, v) ∷ []) (put R k new es) (λ q.
         subst (λ x. OptionJoin below (find R q es) (cond (eq_by_cmp R q k) (Some v) None) x) (sym (find-put R o q k new es))
@@ -80,7 +78,7 @@ module _ {K V : Type 0} (R : K → K → Ordering) (below : V → V → Type 0) 
           | false ↦ λ t. option_same below (find R q es)
         ] refl))
 
-    -- what a map has after a part of v was joined at k, and the rest was not
+    -- the map after only part of v was joined at k
     pub bounds_at_key : (es : List (K × V)) (v new rest : V) → OptionBounds below (find R k es) (Some v) (Some new) (Some rest) → (z : List (K × V)) → (MapBelow R below (put R k new es) z × MapBelow R below ((k, rest) ∷ []) z) ↔ (MapBelow R below es z × MapBelow R below ((k, v) ∷ []) z)
     bounds_at_key es v new rest h = map_bounds es ((k, v) ∷ []) (put R k new es) ((k, rest) ∷ []) (λ q.
         subst (λ x. OptionBounds below (find R q es) (cond (eq_by_cmp R q k) (Some v) None) x (cond (eq_by_cmp R q k) (Some rest) None)) (sym (find-put R o q k new es))
@@ -89,7 +87,7 @@ module _ {K V : Type 0} (R : K → K → Ordering) (below : V → V → Type 0) 
           | false ↦ λ t w. (λ p. p, λ p. p)
         ] refl))
 
-    -- a map whose value at k is greater
+    -- a map with a greater value at k is greater
     pub below_at_key : ((x : V) → below x x) → (es : List (K × V)) (new : V) → OptionBelow below (find R k es) (Some new) → MapBelow R below es (put R k new es)
     below_at_key itself es new h = record {
       at = λ q. subst (λ x. OptionBelow below (find R q es) x) (sym (find-put R o q k new es))
@@ -103,7 +101,7 @@ module _ {K V : Type 0} (R : K → K → Ordering) (below : V → V → Type 0) 
         option_refl None = tt
         option_refl (Some v) = itself v
 
-    -- a map whose value at k lies between
+    -- a map whose value at k lies between lies between
     pub between_at_key : (es : List (K × V)) (v new : V) → ((w : Option V) → OptionBelow below (find R k es) w → OptionBelow below (Some v) w → OptionBelow below (Some new) w) → (z : List (K × V)) → MapBelow R below es z → MapBelow R below ((k, v) ∷ []) z → MapBelow R below (put R k new es) z
     between_at_key es v new h z p s = record {
       at = λ q. subst (λ x. OptionBelow below x (find R q z)) (sym (find-put R o q k new es))
@@ -124,11 +122,11 @@ module _ {K V : Type 0} (R : K → K → Ordering) (below : V → V → Type 0) 
     pub is_map-put : (valid : V → Type 0) (es : List (K × V)) (new : V) → IsHeld below valid new → IsMap R below valid es → IsMap R below valid (put R k new es)
     is_map-put valid es new n h = record { sorted = from_T _ (is_sorted-put R o k new es (to_T _ h.sorted)); held = held-put valid es new n h.held }
 
-    -- one entry with a value that isn't a least one
+    -- a map of one entry isn't bottom if its value isn't
     pub entry_not_least : (v : V) → ¬ IsLeast below v → ¬ IsLeast (MapBelow R below) ((k, v) ∷ [])
     entry_not_least v n least = n (subst (λ r. OptionBelow below (cond (is_eq r) (Some v) None) None) (tied_itself o k) ((least []).at k))
 
-    -- and one with a least one
+    -- a map of one entry is bottom if its value is
     pub entry_least : (v : V) → IsLeast below v → IsLeast (MapBelow R below) ((k, v) ∷ [])
     entry_least v least z = record {
       at = λ q. elim (eq_by_cmp R q k) as (λ b. OptionBelow below (cond b (Some v) None) (find R q z)) [
@@ -141,6 +139,6 @@ module _ {K V : Type 0} (R : K → K → Ordering) (below : V → V → Type 0) 
         some None = least
         some (Some w) = least w
 
-    -- one entry as a value that a map of maps may hold
+    -- a map of one entry that an outer map may hold
     pub entry_held : (valid : V → Type 0) (v : V) → IsHeld below valid v → IsHeld (MapBelow R below) (IsMap R below valid) ((k, v) ∷ [])
-    entry_held valid v h = record { not_least = entry_not_least v h.not_least; lawful = record { sorted = refl; held = (h, tt) } }
+    entry_held valid v h = record { not_least = entry_not_least v h.not_least; well_formed = record { sorted = refl; held = (h, tt) } }

@@ -1,23 +1,19 @@
--- Maps that are below each other are one, and the least map is the empty one.
-use Rattle.std.specs.Prelude.{◌≡◌, ℕ, List, [], ◌∷◌, Some, None, ◌↔◌, Bool, true, false, cond, length, ◌==◌, Option}
-use Rattle.std.proofs.Common.{eqb-true, eq-eqb, ap, sym, subst, ◌∙◌, refl, arith}
+-- Maps that are below each other are equal, and the bottom map is the empty map.
+use Rattle.std.proofs.Common.{[], ◌==◌, ◌↔◌, ◌∙◌, ◌∷◌, ◌≡◌, ap, arith, Bool, cond, eq-eqb, eqb-true, false, IsTrue, length, List, None, Option, refl, Some, subst, sym, true, ℕ}
 use Rattle.std.proofs.lemmas.Bool.{and_parts}
-use Rattle.std.specs.Bool.{IsTrue}
-use Rattle.std.specs.Cmp.{IsTotalOrder, tied_itself, alike_right, tied_back}
+use Rattle.std.specs.Cmp.{alike_right, IsTotalOrder, tied_back, tied_itself}
+use Rattle.std.specs.FinMap.Entries.{below_all, find}
 use Rattle.std.specs.Ordering.{eq_by_cmp, is_eq, ordering_reverse}
 use Rattle.std.specs.declared.cmp.Ordering.{Ordering}
-use Rattle.std.specs.declared.cmp.Ordering.TheVariants.{Less, Equal, Greater}
-use Rattle.std.specs.FinMap.Entries.{find, below_all}
-use Rattle.list_laws.specs.Orderings.{is_less, is_equal}
-use Rattle.sorted_pairs.specs.PlaceLaws.{find_before}
-use Rattle.join_law.specs.Order.{IsLeast, IsBelowBoth}
-use Rattle.join_law.specs.Maps.{OptionBelow, MapBelow, IsMap}
+use Rattle.std.specs.declared.cmp.Ordering.TheVariants.{Equal, Greater, Less}
+use Rattle.join_law.specs.Prelude.{find_before, is_equal, is_less}
+use Rattle.join_law.specs.{Maps.IsMap, Maps.MapBelow, Maps.OptionBelow, Order.IsBelowBoth, Order.IsLeast}
 
 module _ {K V : Type 0} (R : K → K → Ordering) (below : V → V → Type 0) (o : IsTotalOrder R) (valid : V → Type 0) where
   find_head : (e : K × V) (es : List (K × V)) → find R e.0 (e ∷ es) ≡ Some e.1
   find_head e es = ap (λ r. cond (is_eq r) (Some e.1) (find R e.0 es)) (tied_itself o e.0)
 
-  -- a key below all of a map isn't in it, and so its value is a least one
+  -- a key below all keys of a map isn't in it, so its value must be bottom
   missed : (e f : K × V) (es fs : List (K × V)) → IsMap R below valid (f ∷ fs) → R e.0 f.0 ≡ Less → ((q : K) → OptionBelow below (find R q (e ∷ es)) (find R q (f ∷ fs))) → IsLeast below e.1
   missed e f es fs m p h =
       let none = ap (λ r. cond (is_eq r) (Some f.1) (find R e.0 fs)) p ∙ find_before R e.0 o f.0 p fs (and_parts _ _ m.sorted).0 in
@@ -43,7 +39,7 @@ module _ {K V : Type 0} (R : K → K → Ordering) (below : V → V → Type 0) 
   rest_is_map : (e : K × V) (es : List (K × V)) → IsMap R below valid (e ∷ es) → IsMap R below valid es
   rest_is_map e es m = record { sorted = (and_parts _ _ m.sorted).1; held = m.held.1 }
 
-  -- the least map is the empty one
+  -- the bottom map is the empty map
   pub least_exactly_empty : (es : List (K × V)) (n : ℕ) → n ≡ length es → IsMap R below valid es → IsTrue (n == 0) ↔ IsLeast (MapBelow R below) es
   least_exactly_empty [] n is m = (λ t z. record { at = λ q. tt }, λ l. eq-eqb n 0 is)
   least_exactly_empty (e ∷ es) n is m = (λ t. absurd (not_zero t), λ l. absurd (m.held.0.not_least (subst (λ x. OptionBelow below x None) (find_head e es) ((l []).at e.0))))
@@ -51,7 +47,7 @@ module _ {K V : Type 0} (R : K → K → Ordering) (below : V → V → Type 0) 
       not_zero : ¬ IsTrue (n == 0)
       not_zero t = let h = eqb-true n 0 t in omega (arith, h)
 
-  -- where keys that tie and values that are below each other are one
+  -- if keys that tie are equal, and so are values that are below each other
   module _ (exact : (x y : K) → R x y ≡ Equal → x ≡ y) (one : (x y : V) → valid x → valid y → IsBelowBoth below x y → x ≡ y) where
     one_from : (es fs : List (K × V)) → IsMap R below valid es → IsMap R below valid fs → ((q : K) → OptionBelow below (find R q es) (find R q fs)) → ((q : K) → OptionBelow below (find R q fs) (find R q es)) → es ≡ fs
     one_from [] [] m n h k = refl
@@ -64,7 +60,7 @@ module _ {K V : Type 0} (R : K → K → Ordering) (below : V → V → Type 0) 
           | Equal ↦ λ p.
               let key = exact e.0 f.0 p in
               let back = tied_back o e.0 f.0 p in
-              let value = one e.1 f.1 m.held.0.lawful n.held.0.lawful (heads e f es fs p h, heads f e fs es back k) in
+              let value = one e.1 f.1 m.held.0.well_formed n.held.0.well_formed (heads e f es fs p h, heads f e fs es back k) in
               let rest = one_from es fs (rest_is_map e es m) (rest_is_map f fs n) (tails e f es fs m p h) (tails f e fs es n back k) in
               λ i. (key i, value i) ∷ rest i
         ] refl

@@ -1,20 +1,19 @@
--- What a joining of many pairs makes of the first ones, by its outcome.
+-- The result of joining many pairs, after success and after failure.
 -- Source: this project's own.
-use Rattle.std.specs.Prelude.{◌≡◌, Bool, List, Result, OnOk, OnErr}
-use Rattle.std.specs.Bool.{OnTrue, OnFalse}
+use Rattle.std.proofs.Common.{◌≡◌, Bool, List, OnErr, OnOk, Result}
+use Rattle.std.specs.Bool.{OnFalse, OnTrue}
 use Rattle.std.specs.declared.cmp.Ordering.{Ordering}
-use Rattle.join_law.specs.Maps.{IsMap, IsSinglePair, MapBelow}
-use Rattle.join_law.specs.Order.{IsBetween, IsJoin, IsPartialJoin}
+use Rattle.join_law.specs.{Maps.IsMap, Maps.IsSinglePair, Maps.MapBelow, Order.IsBetween, Order.IsJoin, Order.IsPartialJoin}
 
 module _ {K V : Type 0} (R : K → K → Ordering) (below : V → V → Type 0) (valid is_single : V → Type 0) where
-  -- Copies of others were joined: all of them, or else what stands lies between; a single pair that was refused changed nothing.
+  -- Copies are joined: all of them, or else the new state lies between; if a single pair failed, nothing changed.
   pub record AreCopiesJoined {T E : Type 0} (outcome : Result T E) (first other now : List (K × V)) : Type 0 where
     pub map : IsMap R below valid now
     pub ok : OnOk outcome (IsJoin (MapBelow R below) first other now)
     pub refused : OnErr outcome (IsBetween (MapBelow R below) first other now)
     pub single : OnErr outcome (IsSinglePair is_single other → now ≡ first)
 
-  -- Others that were given away were joined: all of them, or else the rest gives the join; a single pair that was refused changed nothing.
+  -- Owned pairs are joined: all of them, or else the rest completes the join; if a single pair failed, nothing changed.
   pub record ArePairsJoined (all : Bool) (first other now rest : List (K × V)) : Type 0 where
     pub map : IsMap R below valid now
     pub other_map : IsMap R below valid rest

@@ -1,16 +1,13 @@
--- The join of two maps, as a function: it is their least upper bound, and a map where they are maps.
-use Rattle.std.specs.Prelude.{◌≡◌, List, [], ◌∷◌, Option, Some, None, true, false, cond, refl}
+-- The join of two maps as a function: it is their least upper bound, and the join of two valid maps is valid.
+use Rattle.std.proofs.Common.{[], ◌∙◌, ◌∷◌, ◌≡◌, ap, cond, false, List, None, Option, refl, Some, subst, sym, true}
 use Rattle.std.specs.Cmp.{IsTotalOrder}
-use Rattle.std.specs.Ordering.{eq_by_cmp}
-use Rattle.std.proofs.Common.{ap, sym, subst, ◌∙◌}
-use Rattle.std.specs.declared.cmp.Ordering.{Ordering}
 use Rattle.std.specs.FinMap.Entries.{find, find-put, find_tied}
-use Rattle.list_laws.specs.Orderings.{is_equal}
-use Rattle.join_law.specs.Order.{IsJoin}
-use Rattle.join_law.specs.Maps.{IsHeld, AllHeld, MapBelow, IsMap, joined_value, map_union}
-use Rattle.join_law.specs.MapLaws.{OptionJoin, option_join, option_new, option_same, map_join, is_map-put}
+use Rattle.std.specs.Ordering.{eq_by_cmp}
+use Rattle.std.specs.declared.cmp.Ordering.{Ordering}
+use Rattle.join_law.specs.Prelude.{is_equal}
+use Rattle.join_law.specs.{MapLaws.is_map-put, MapLaws.map_join, MapLaws.option_join, MapLaws.option_new, MapLaws.option_same, MapLaws.OptionJoin, Maps.AllHeld, Maps.IsHeld, Maps.IsMap, Maps.joined_value, Maps.map_union, Maps.MapBelow, Order.IsJoin}
 
--- the join, where either may be absent
+-- the join of two optional values
 abbrev pub option_union : {V : Type 0} → (V → V → V) → Option V → Option V → Option V
 option_union join None y = y
 option_union join (Some x) None = Some x
@@ -54,7 +51,7 @@ module _ {K V : Type 0} (R : K → K → Ordering) (o : IsTotalOrder R) (below :
   held_joined None y h n = n
   held_joined (Some x) y h n = record {
     not_least = λ least. n.not_least (λ z. (((joins x y).bounds z).0 (least z)).1);
-    lawful = keeps x y (h x refl).lawful n.lawful;
+    well_formed = keeps x y (h x refl).well_formed n.well_formed;
   }
 
   -- the join of maps is a map

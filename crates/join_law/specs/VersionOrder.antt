@@ -1,13 +1,11 @@
--- The order of versions, of entries, and of entries that may not be there yet: by counter, then writer, then content.
--- Source (last writer wins by timestamps): Shapiro, Preguica, Baquero, Zawirski 2011; that ties go by content is this project's own.
-use Rattle.std.specs.Prelude.{◌≡◌, Bool, false, not, if◌then◌else◌, Option, Some, None}
-use Rattle.std.specs.Ordering.{nat_cmp, ordering_then, is_eq, is_gt}
+-- The order of versions, entries and optional entries: by counter, then writer, then content.
+-- Source (last writer wins by timestamps): Shapiro, Preguica, Baquero, Zawirski 2011; breaking ties by content is this
+-- project's own.
+use Rattle.std.proofs.Common.{◌≡◌, Bool, false, if◌then◌else◌, None, not, Option, Some}
+use Rattle.std.specs.Ordering.{is_eq, is_gt, nat_cmp, ordering_then}
 use Rattle.std.specs.declared.cmp.Ordering.{Ordering}
-use Rattle.std.specs.declared.cmp.Ordering.TheVariants.{Less, Equal, Greater}
-use Rattle.join_law.specs.declared.versions.Version.{Version}
-use Rattle.join_law.specs.declared.versions.Entry.{Entry}
-use Rattle.join_law.specs.declared.versions.Versioned.{Versioned}
-use Rattle.join_law.specs.declared.versions.Versioned.TheVariants.{Never, At}
+use Rattle.std.specs.declared.cmp.Ordering.TheVariants.{Equal, Greater, Less}
+use Rattle.join_law.specs.{declared.versions.Entry.Entry, declared.versions.Version.Version, declared.versions.Versioned.TheVariants.At, declared.versions.Versioned.TheVariants.Never, declared.versions.Versioned.Versioned}
 
 -- by counter, then by writer
 abbrev pub version_cmp : Version → Version → Ordering
@@ -17,13 +15,13 @@ version_cmp v w = ordering_then (nat_cmp v.counter w.counter) (nat_cmp v.writer 
 abbrev pub entry_cmp : {C : Type 0} → (C → C → Ordering) → Entry C → Entry C → Ordering
 entry_cmp R x y = ordering_then (version_cmp x.version y.version) (R x.content y.content)
 
--- x is at most y; nothing is at most anything
+-- x is at most y; an absent entry is at most every other
 abbrev pub IsBelow : {C : Type 0} → (C → C → Ordering) → Option (Entry C) → Option (Entry C) → Type 0
 IsBelow R None y = Unit {0}
 IsBelow R (Some x) None = ⊥
 IsBelow R (Some x) (Some y) = is_gt (entry_cmp R x y) ≡ false
 
--- the larger of two, where there are two
+-- the greater of two optional entries
 abbrev pub larger : {C : Type 0} → (C → C → Ordering) → Option (Entry C) → Option (Entry C) → Option (Entry C)
 larger R None y = y
 larger R (Some x) None = Some x
@@ -34,23 +32,23 @@ abbrev pub written : {C : Type 0} → Versioned C → Option (Entry C)
 written Never = None
 written (At x) = Some x
 
--- the entry, if a place is there and one was written at it
+-- the entry, if the place exists and an entry was written there
 abbrev pub written_at : {C : Type 0} → Option (Versioned C) → Option (Entry C)
 written_at None = None
 written_at (Some x) = written x
 
--- nothing comes first; the rest goes by version, then by content
+-- `Never` first; then by version, then by content
 abbrev pub versioned_cmp : {C : Type 0} → (C → C → Ordering) → Versioned C → Versioned C → Ordering
 versioned_cmp R Never Never = Equal
 versioned_cmp R Never (At y) = Less
 versioned_cmp R (At x) Never = Greater
 versioned_cmp R (At x) (At y) = entry_cmp R x y
 
--- what x has written is at most what y has
+-- the entry of x is at most the entry of y
 abbrev pub IsUpTo : {C : Type 0} → (C → C → Ordering) → Versioned C → Versioned C → Type 0
 IsUpTo R x y = IsBelow R (written x) (written y)
 
--- the larger of two
+-- the greater of two
 abbrev pub versioned_max : {C : Type 0} → (C → C → Ordering) → Versioned C → Versioned C → Versioned C
 versioned_max R Never y = y
 versioned_max R (At x) Never = At x

@@ -1,23 +1,22 @@
 -- The order of versions is total, and only equal versions tie.
-use Rattle.std.specs.Prelude.{◌≡◌, refl}
-use Rattle.std.specs.Cmp.{IsTotalOrder, then_total, on_total, nat_cmp_total}
+use Rattle.std.proofs.Common.{◌≡◌, refl}
+use Rattle.std.specs.Cmp.{IsTotalOrder, nat_cmp_total, on_total, then_total}
 use Rattle.std.specs.FinMap.{nat_cmp-IsAntisymmetric}
 use Rattle.std.specs.Ordering.{nat_cmp, ordering_then}
 use Rattle.std.specs.declared.cmp.Ordering.{Ordering}
-use Rattle.std.specs.declared.cmp.Ordering.TheVariants.{Less, Equal, Greater}
-use Rattle.join_law.specs.declared.versions.Version.{Version}
-use Rattle.join_law.specs.VersionOrder.{version_cmp}
+use Rattle.std.specs.declared.cmp.Ordering.TheVariants.{Equal, Greater, Less}
+use Rattle.join_law.specs.{declared.versions.Version.Version, VersionOrder.version_cmp}
 
 pub version_cmp_total : IsTotalOrder version_cmp
 version_cmp_total = then_total (on_total (λ v. v.counter) nat_cmp_total) (on_total (λ v. v.writer) nat_cmp_total)
 
--- what ties in two steps ties in each
+-- a lexicographic comparison ties only if both parts tie
 pub tied_parts : (a b : Ordering) → ordering_then a b ≡ Equal → (a ≡ Equal) × (b ≡ Equal)
 tied_parts Less b h = cc (h)
 tied_parts Equal b h = (refl, h)
 tied_parts Greater b h = cc (h)
 
--- two exact orders, one behind the other, are exact in both parts
+-- if two orders are exact, so is their lexicographic product
 pub both_exact : {A B : Type 0} (R : A → A → Ordering) (S : B → B → Ordering) → ((x y : A) → R x y ≡ Equal → x ≡ y) → ((x y : B) → S x y ≡ Equal → x ≡ y)
     → (a b : A) (c d : B) → ordering_then (R a b) (S c d) ≡ Equal → (a ≡ b) × (c ≡ d)
 both_exact R S first second a b c d h = let p = tied_parts (R a b) (S c d) h in (first a b p.0, second c d p.1)

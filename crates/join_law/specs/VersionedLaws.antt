@@ -1,26 +1,20 @@
--- Entries that may not be there yet are ordered as optional entries are, and the larger of two is their least upper bound.
-use Rattle.std.specs.Prelude.{◌≡◌, false, true, cond, refl}
+-- `Versioned` values are ordered like optional entries, and the greater of two is their least upper bound.
+use Rattle.std.proofs.Common.{◌≡◌, ap, cond, false, refl, Some, subst, sym, true}
 use Rattle.std.specs.Cmp.{IsTotalOrder}
 use Rattle.std.specs.Ordering.{is_gt}
-use Rattle.std.proofs.Common.{ap, sym, subst, Some}
 use Rattle.std.specs.declared.cmp.Ordering.{Ordering}
 use Rattle.std.specs.declared.cmp.Ordering.TheVariants.{Equal}
-use Rattle.join_law.specs.declared.versions.Entry.{Entry}
-use Rattle.join_law.specs.declared.versions.Versioned.{Versioned}
-use Rattle.join_law.specs.declared.versions.Versioned.TheVariants.{Never, At}
-use Rattle.join_law.specs.Order.{IsJoin, IsLeast}
-use Rattle.join_law.specs.VersionOrder.{entry_cmp, IsBelow, larger, written, versioned_cmp, versioned_max, IsUpTo}
-use Rattle.join_law.specs.EntryLaws.{entry_cmp-IsAntisymmetric, below_refl, below_trans, below_antisym, larger-left, larger-right, larger-least}
+use Rattle.join_law.specs.{declared.versions.Entry.Entry, declared.versions.Versioned.TheVariants.At, declared.versions.Versioned.TheVariants.Never, declared.versions.Versioned.Versioned, EntryLaws.below_antisym, EntryLaws.below_refl, EntryLaws.below_trans, EntryLaws.entry_cmp-IsAntisymmetric, EntryLaws.larger-least, EntryLaws.larger-left, EntryLaws.larger-right, Order.IsJoin, Order.IsLeast, VersionOrder.entry_cmp, VersionOrder.IsBelow, VersionOrder.IsUpTo, VersionOrder.larger, VersionOrder.versioned_cmp, VersionOrder.versioned_max, VersionOrder.written}
 
--- what is there is not below nothing
+-- an entry isn't bottom
 pub not_least : {C : Type 0} (R : C → C → Ordering) (x : Entry C) → ¬ IsLeast (IsUpTo R) (At x)
 not_least R x least = least Never
 
--- nothing is below everything
+-- `Never` is bottom
 pub never_least : {C : Type 0} (R : C → C → Ordering) (z : Versioned C) → IsUpTo R Never z
 never_least R z = tt
 
--- what has the same written is the same
+-- values with the same entry are equal
 pub written_one : {C : Type 0} (x y : Versioned C) → written x ≡ written y → x ≡ y
 written_one Never Never h = refl
 written_one Never (At y) h = cc (h)
@@ -28,13 +22,13 @@ written_one (At x) Never h = cc (h)
 written_one (At x) (At y) h = let e : x ≡ y = cc (h) in ap At e
 
 module _ {C : Type 0} (R : C → C → Ordering) where
-  -- the larger of two has the larger written
+  -- the greater value has the greater entry
   pub written-max : (x y : Versioned C) → written (versioned_max R x y) ≡ larger R (written x) (written y)
   written-max Never y = refl
   written-max (At x) Never = refl
   written-max (At x) (At y) = elim (is_gt (entry_cmp R x y)) as (λ b. written (cond b (At x) (At y)) ≡ cond b (Some x) (Some y)) [ true ↦ refl | false ↦ refl ]
 
-  -- to be at most is not to be greater
+  -- a value that is at most another doesn't compare as greater
   pub up_to-cmp : (x y : Versioned C) → IsUpTo R x y → is_gt (versioned_cmp R x y) ≡ false
   up_to-cmp Never Never h = refl
   up_to-cmp Never (At y) h = refl
@@ -53,7 +47,7 @@ module _ {C : Type 0} (R : C → C → Ordering) where
     pub up_to_chain : (x y z : Versioned C) → IsUpTo R x y → IsUpTo R y z → IsUpTo R x z
     up_to_chain x y z p q = below_trans R o (written x) (written y) (written z) p q
 
-    -- the larger one is the least upper bound
+    -- the greater value is the least upper bound
     pub max_joins : (x y : Versioned C) → IsJoin (IsUpTo R) x y (versioned_max R x y)
     max_joins x y =
         let is = written-max x y in
@@ -67,18 +61,18 @@ module _ {C : Type 0} (R : C → C → Ordering) where
         }
 
     module _ (exact : (x y : C) → R x y ≡ Equal → x ≡ y) where
-      -- what compares as equal is equal
+      -- values that compare as equal are equal
       pub versioned_exact : (x y : Versioned C) → versioned_cmp R x y ≡ Equal → x ≡ y
       versioned_exact Never Never h = refl
       versioned_exact Never (At y) h = cc (h)
       versioned_exact (At x) Never h = cc (h)
       versioned_exact (At x) (At y) h = ap At (entry_cmp-IsAntisymmetric R o exact x y h)
 
-      -- what is at most each other is equal
+      -- values that are at most each other are equal
       pub both_up : (x y : Versioned C) → IsUpTo R x y → IsUpTo R y x → x ≡ y
       both_up x y p q = written_one x y (below_antisym R o exact (written x) (written y) p q)
 
-      -- the least upper bound is the larger one
+      -- the least upper bound is the greater value
       pub join_is_max : (a b c : Versioned C) → IsJoin (IsUpTo R) a b c → c ≡ versioned_max R a b
       join_is_max a b c j =
           let whole = max_joins a b in

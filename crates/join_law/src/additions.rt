@@ -1,4 +1,4 @@
-//! Joins of one value into maps of maps, of any depth.
+//! Joins of one value into maps of maps, at any depth.
 ghost use Rattle.std.specs.{Prelude.{◌≡◌, ◌↔◌, [], ◌∷◌, Bool, false, IsTrue, IsOk, IfOk, OnOk, OnErr}, Option.{IfNone, IfSome}};
 ghost use Rattle.std.specs.FinMap.{find};
 ghost use Rattle.join_law.specs.{Maps.{IsHeld, IsMap, MapBelow, is_none_or}, Order.{IsBetween, IsJoin, IsLeast}};
@@ -9,24 +9,24 @@ use plain_values::Key;
 use sorted_pairs::seek;
 use std::alloc::{AllocError, Global};
 
-/// What is joined into a value.
+/// Something that can be joined into a value.
 pub trait Addition: Drop {
-    /// The values that it is joined into.
+    /// The type of values that it is joined into.
     type Value: Join;
 
-    // What it joins.
+    // The value that it joins.
     ghost added: { Self → Self.Value };
 
-    // Whether it joins at a key that a value doesn't hold.
+    // Whether it adds a key that the value doesn't hold.
     ghost is_new: { Self → Self.Value → Bool };
 
-    // Holds where joining it at a key that is held takes no memory.
+    // Holds if joining it at a key that is held allocates nothing.
     ghost joins_in_place: { Type 0 };
 
-    /// Joins it, and answers whether a key was added, which a bottom value never does.
+    /// Joins it into `value`, and returns whether a key was added. A bottom value never adds a key.
     ///
-    /// It fails for want of memory alone. The value then lies between what it was and the join; where
-    /// what is joined is single, it is unchanged.
+    /// Fails only if memory runs out. The value then lies between its old state and the join; if the addition is
+    /// single, it is unchanged.
     fn join_to(self, value: &mut Self::Value) -> Result<bool, AllocError>
         ensures ok { OnOk result (IsJoin Self.Value.below value.old (added self) value.new) }
         ensures added { IfOk result (λ is_added. IsTrue is_added ↔
@@ -36,18 +36,17 @@ pub trait Addition: Drop {
         ensures in_place { joins_in_place → is_new self value.old ≡ false → IsOk result }
         ensures valid { Self.Value.is_valid value.new };
 
-    /// What it joins as a value of its own, unless that is a bottom value. It fails for want of memory
-    /// alone.
+    /// Returns the added value on its own, or `None` if it is a bottom value. Fails only if memory runs out.
     fn into_value(self, alloc: Global) -> Result<Option<Self::Value>, AllocError>
         ensures value { IfOk result (λ made. IfSome made (λ value. value ≡ added self)) }
         ensures held { IfOk result (λ made. IfSome made (IsHeld Self.Value.below Self.Value.is_valid)) }
         ensures none { IfOk result (λ made. IfNone made (IsLeast Self.Value.below (added self))) };
 }
 
-/// A value that is joined into a value.
+/// Adds a value by joining it into another value of its type.
 #[derive(Drop)]
 pub struct AddValue<V> {
-    /// What is joined.
+    /// The value to join.
     pub value: V,
 }
 
@@ -75,13 +74,12 @@ impl<V: Join> Addition for AddValue<V> {
     }
 }
 
-/// What is joined into the value at a key of a map. Of maps of maps it is what is joined at a key, at a
-/// key.
+/// Adds something to the value at a key of a map. For maps of maps, nest it: an `AddAt` of an `AddAt`.
 #[derive(Drop)]
 pub struct AddAt<K, A> {
-    /// Where it is joined.
+    /// The key.
     pub key: K,
-    /// What is joined there.
+    /// What to add there.
     pub addition: A,
 }
 
@@ -96,7 +94,7 @@ impl<K: Key, A: Addition> Addition for AddAt<K, A> {
 
     ghost joins_in_place = { A.joins_in_place };
 
-    /// A search and at most one shift of pairs in each map; no map is made but to hold the value.
+    /// Costs a search and at most one shift of the pairs in each map. Creates a map only to hold the value.
     fn join_to(self, map: &mut JoinMap<K, A::Value>) -> Result<bool, AllocError> {
         join_at_key(&mut map.pairs, self.key, self.addition)
     }
@@ -109,7 +107,7 @@ impl<K: Key, A: Addition> Addition for AddAt<K, A> {
     }
 }
 
-// Joins at a key, and answers whether a key was added, there or in the value there.
+// Joins at a key, and returns whether a key was added, here or in the value at the key.
 fn join_at_key<K: Key, A: Addition>(
     pairs: &mut Vec<(K, A::Value)>,
     key: K,

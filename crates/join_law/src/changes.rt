@@ -1,4 +1,4 @@
-//! Changes of a value that a map of maps holds, made in place.
+//! In-place changes of a value that a map of maps holds.
 ghost use Rattle.std.specs.{Prelude.{◌≡◌, [], ◌∷◌, Bool}, Bool.{OnTrue, OnFalse}, FinMap.{find}};
 ghost use Rattle.join_law.specs.{Maps.{IsMap, MapBelow, is_some_and}, Order.{IsJoin}, VersionOrder.{has_other}};
 
@@ -8,18 +8,18 @@ use crate::versions::{Entry, Versioned};
 use plain_values::Key;
 use sorted_pairs::seek;
 
-/// A change of a value: it joins something, or is not made. It takes no memory.
+/// A conditional change of a value: either it joins something into the value, or it does nothing. Allocates nothing.
 pub trait Change: Drop {
-    /// The values that it may change.
+    /// The type of values that it may change.
     type Value: Join;
 
-    // Whether it is made at a value.
+    // Whether it applies to a value.
     ghost is_made: { Self → Self.Value → Bool };
 
-    // What it joins where it is made.
+    // What it joins if it applies.
     ghost added: { Self → Self.Value };
 
-    /// Makes it, and answers whether it was made.
+    /// Applies the change, and returns whether it applied.
     fn make(self, value: &mut Self::Value) -> bool
         ensures made { result ≡ is_made self value.old }
         ensures joined { OnTrue result (IsJoin Self.Value.below value.old (added self) value.new) }
@@ -27,10 +27,10 @@ pub trait Change: Drop {
         ensures valid { Self.Value.is_valid value.new };
 }
 
-/// A write of an entry, which is made where an entry with another content is held.
+/// Writes an entry, if an entry with another content is held.
 #[derive(Drop)]
 pub struct Overwrite<C: Key> {
-    /// What is written.
+    /// The entry to write.
     pub entry: Entry<C>,
 }
 
@@ -50,7 +50,7 @@ impl<C: Key> Change for Overwrite<C> {
     }
 }
 
-// Whether an entry with another content is held.
+// Returns whether an entry with another content is held.
 fn is_other<C: Key>(value: &Versioned<C>, content: &C) -> bool
     ensures other { result ≡ has_other C.cmp content.now value.now }
 {
@@ -60,13 +60,13 @@ fn is_other<C: Key>(value: &Versioned<C>, content: &C) -> bool
     }
 }
 
-/// A change of the value at a key of a map, which is not made where the key is absent. Of maps of maps it is a change at
-/// a key, of a change at a key.
+/// Changes the value at a key of a map; does nothing if the key is absent. For maps of maps, nest it: a `ChangeAt` of a
+/// `ChangeAt`.
 #[derive(Drop)]
 pub struct ChangeAt<'a, K, C> {
-    /// Where it is made.
+    /// The key.
     pub key: &'a K,
-    /// What is made there.
+    /// The change to make there.
     pub change: C,
 }
 
@@ -79,7 +79,7 @@ impl<'a, K: Key, C: Change> Change for ChangeAt<'a, K, C> {
 
     ghost added = { λ a. (a.key.now, C.added a.change) ∷ [] };
 
-    /// A search, and the change of the value that is found.
+    /// Costs a search, and the change of the value found.
     fn make(self, map: &mut JoinMap<K, C::Value>) -> bool {
         let ChangeAt { key, change } = self;
         let pairs = &mut map.pairs;
@@ -87,7 +87,7 @@ impl<'a, K: Key, C: Change> Change for ChangeAt<'a, K, C> {
     }
 }
 
-// Changes the value at a key, and answers whether the change was made.
+// Changes the value at a key, and returns whether the change applied.
 fn change_pair<K: Key, C: Change>(pairs: &mut Vec<(K, C::Value)>, key: &K, change: C) -> bool
     requires { IsMap K.cmp C.Value.below C.Value.is_valid pairs.old.items }
     ensures made { result ≡ is_some_and (C.is_made change) (find K.cmp key.now pairs.old.items) }

@@ -1,4 +1,4 @@
-//! Sorted pairs compared and copied, and copies joined into them.
+//! Comparing and copying sorted pairs, and joining copies into them.
 ghost use Rattle.std.specs.{Prelude.{◌≡◌, ◌↔◌, ◌≤◌, None, [], ◌∷◌, map, vec_len, IsTrue, IsOk, IfOk, OnOk, OnErr}, Bool.{OnTrue, OnFalse}};
 ghost use Rattle.std.specs.{FinMap.{find}, List.{insert}};
 ghost use Rattle.join_law.specs.{Maps.{IsHeld, IsMap, MapBelow}, Order.{IsBetween, IsJoin}, Outcomes.{AreCopiesJoined}};
@@ -9,8 +9,8 @@ use plain_values::Key;
 use sorted_pairs::seek;
 use std::alloc::{AllocError, Global};
 
-// Joins a copy of one pair, the first of so many that are left, and answers whether it did. Where its key is new and many are
-// left, it does nothing: then one pass over all costs less.
+// Joins a copy of one pair, where `left` counts this pair and those after it, and returns whether it did. If the key is
+// new and many pairs are left, it does nothing: one pass over both lists is then cheaper.
 fn join_pair_copy<K: Key, V: Join>(
     pairs: &mut Vec<(K, V)>,
     key: &K,
@@ -45,7 +45,7 @@ fn join_pair_copy<K: Key, V: Join>(
     }
 }
 
-// Inserts a copy of one pair. Where memory is refused, nothing is inserted.
+// Inserts a copy of one pair. If memory runs out, nothing is inserted.
 fn insert_copy<K: Key, V: Join>(
     pairs: &mut Vec<(K, V)>,
     at: usize,
@@ -61,8 +61,8 @@ fn insert_copy<K: Key, V: Join>(
     Ok(())
 }
 
-// Joins copies of what the others have more: a search for each, until a key is new and many are left; then one growth and one
-// pass over both. Up to the first key that is new it moves no pair.
+// Joins copies of what `other` has more. Searches for each key until one is new and many pairs are left; then it
+// allocates once and makes one pass over both lists. Until the first new key it moves no pair.
 pub fn join_copies<K: Key, V: Join>(
     pairs: &mut Vec<(K, V)>,
     other: &[(K, V)],
@@ -82,7 +82,7 @@ pub fn join_copies<K: Key, V: Join>(
     Ok(())
 }
 
-// The keys of the pairs.
+// Borrows the keys of the pairs.
 pub fn keys_of<K, V>(alloc: Global, pairs: &[(K, V)]) -> Result<Vec<&K>, AllocError>
     ensures keys { IfOk result (λ keys. map (λ k. k.now) keys.items ≡ map (λ pair. pair.0) pairs.now) }
 {
@@ -93,7 +93,7 @@ pub fn keys_of<K, V>(alloc: Global, pairs: &[(K, V)]) -> Result<Vec<&K>, AllocEr
     Ok(keys)
 }
 
-// A copy of the pairs.
+// Returns a copy of the pairs.
 pub fn copy_pairs<K: Key, V: Join>(
     alloc: Global,
     pairs: &[(K, V)],
@@ -107,7 +107,7 @@ pub fn copy_pairs<K: Key, V: Join>(
     Ok(copy)
 }
 
-// Whether two lists of pairs are equal.
+// Returns whether two lists of pairs are equal.
 pub fn same_pairs<K: Key, V: Join>(left: &[(K, V)], right: &[(K, V)]) -> bool
     ensures same { IsTrue result ↔ (left.now ≡ right.now) }
 {

@@ -1,4 +1,4 @@
-//! Joins of pairs that are given away into sorted pairs.
+//! Joining owned pairs into sorted pairs.
 ghost use Rattle.std.specs.{Prelude.{◌≡◌, ◌↔◌, [], ◌∷◌, None, IsTrue, IsSome, IsOk, IfOk, OnOk, IfErr}, FinMap.{find}};
 ghost use Rattle.join_law.specs.{Maps.{IsMap, MapBelow}, Order.{IsJoin, IsLeast, IsPartialJoin}, Outcomes.{ArePairsJoined}};
 
@@ -8,7 +8,7 @@ use plain_values::Key;
 use sorted_pairs::seek;
 use std::mem;
 
-// Joins one pair, and answers whether its key was added. A bottom value changes nothing.
+// Joins one pair, and returns whether its key was added. A bottom value changes nothing.
 pub fn join_pair<K: Key, V: Join>(
     pairs: &mut Vec<(K, V)>,
     key: K,
@@ -46,8 +46,8 @@ pub fn join_pair<K: Key, V: Join>(
     }
 }
 
-// Joins all pairs of `other`, and answers whether all went in: a search for each, from its end, where they are few, else one
-// growth and one pass over both.
+// Joins all pairs of `other`, and returns whether all were joined. Few pairs cost a search each, beginning with the
+// last; many cost one allocation and one pass over both lists. An empty `pairs` takes over `other`.
 pub fn join_pairs<K: Key, V: Join>(pairs: &mut Vec<(K, V)>, other: &mut Vec<(K, V)>) -> bool
     requires map { IsMap K.cmp V.below V.is_valid pairs.old.items }
     requires other_map { IsMap K.cmp V.below V.is_valid other.old.items }
@@ -63,7 +63,7 @@ pub fn join_pairs<K: Key, V: Join>(pairs: &mut Vec<(K, V)>, other: &mut Vec<(K, 
     }
     while let Some((key, value)) = other.pop() {
         if let Err(Rest { rest }) = join_pair(pairs, key, value) {
-            // It goes back into the room that it left.
+            // Infallible: `pop` has just freed the room.
             match other.push(rest) {
                 Ok(()) => return false,
                 Err(_) => unreachable!(),

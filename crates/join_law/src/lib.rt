@@ -1,11 +1,17 @@
-//! Values that are joined: the trait of joins with its laws, entries with versions, and maps of
-//! joins. What is joined comes to the same value in whatever order it is heard of.
+//! Values with a join: the trait `Join` with its laws, entries with versions, and maps that join key by key. Joining
+//! the same values gives the same result in whatever order they arrive.
 //!
 //! Promise: merge is the least upper bound; a refused merge lies between.
 //!
-//! A join semilattice is an order in which any two values have a least upper bound, their join. Replicas whose
-//! states form one come to the same state in whatever order they hear of each other (Shapiro, Preguica, Baquero,
+//! A join semilattice is an order in which any two values have a least upper bound, their join. Replicas whose states
+//! form one reach the same state in whatever order they receive each other's state (Shapiro, Preguica, Baquero,
 //! Zawirski, "Conflict-free Replicated Data Types", 2011).
+//!
+//! - `Join`: the trait; `Rest`: what a failed join leaves to do.
+//! - `Version`, `Entry` and `Versioned`: a last-writer-wins register.
+//! - `JoinMap`: a map whose values are joined key by key.
+//! - `Addition` (`AddValue`, `AddAt`): joins one value at a key, at any depth of maps of maps.
+//! - `Change` (`Overwrite`, `ChangeAt`): changes a value that is already held, in place.
 #![tactic(auto)]
 
 mod additions;

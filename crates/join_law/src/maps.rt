@@ -11,13 +11,13 @@ use sorted_pairs::seek;
 use std::alloc::{AllocError, Global};
 use std::marker::Model;
 
-/// A map from keys to values that are joined, itself joined key by key.
+/// A map from keys to values with a join; two maps are joined key by key.
 ///
-/// An absent key stands for the bottom value, and no bottom value is held: in a map of maps a map
-/// that would be empty is absent.
+/// An absent key means the bottom value, and a bottom value is never held: in a map of maps, an empty inner map is
+/// absent.
 #[derive(Debug, Drop)]
 pub struct JoinMap<K: Key, V: Join> {
-    // In the order of the keys.
+    // Sorted by key.
     pub(crate) pairs: Vec<(K, V)>,
 }
 
@@ -35,7 +35,7 @@ impl<K: Key, V: Join> Model for JoinMap<K, V> {
 }
 
 impl<K: Key, V: Join> JoinMap<K, V> {
-    /// A map that holds nothing. It takes no memory.
+    /// Returns an empty map. Allocates nothing.
     pub fn new(alloc: Global) -> Self
         ensures empty { result ≡ [] }
     {
@@ -44,7 +44,7 @@ impl<K: Key, V: Join> JoinMap<K, V> {
         }
     }
 
-    /// The map of these pairs. O(1), without memory.
+    /// Makes a map of sorted pairs. O(1). Allocates nothing.
     pub fn from_pairs(sorted: Vec<(K, V)>) -> Self
         requires map { IsMap K.cmp V.below V.is_valid sorted.items }
         ensures pairs { result ≡ sorted.items }
@@ -52,7 +52,7 @@ impl<K: Key, V: Join> JoinMap<K, V> {
         JoinMap { pairs: sorted }
     }
 
-    /// The map of one pair. It fails for want of memory alone.
+    /// Returns a map of one pair. Fails only if memory runs out.
     pub fn of_pair(alloc: Global, key: K, value: V) -> Result<Self, AllocError>
         requires held { IsHeld V.below V.is_valid value }
         ensures pair { IfOk result (λ map. map ≡ (key, value) ∷ []) }
@@ -62,7 +62,7 @@ impl<K: Key, V: Join> JoinMap<K, V> {
         Ok(JoinMap { pairs })
     }
 
-    /// The pairs, given out in the order of their keys. O(1), without memory.
+    /// Returns the pairs, sorted by key. O(1). Allocates nothing.
     pub fn into_pairs(self) -> Vec<(K, V)>
         ensures pairs { result.items ≡ self }
         ensures map { IsMap K.cmp V.below V.is_valid self }
@@ -71,7 +71,7 @@ impl<K: Key, V: Join> JoinMap<K, V> {
         pairs
     }
 
-    /// The pairs in the order of their keys, without memory.
+    /// Borrows the pairs, sorted by key. Allocates nothing.
     pub fn pairs(&self) -> &[(K, V)]
         ensures pairs { result.now ≡ self.now }
         ensures map { IsMap K.cmp V.below V.is_valid self.now }
@@ -79,19 +79,19 @@ impl<K: Key, V: Join> JoinMap<K, V> {
         self.pairs.as_slice()
     }
 
-    /// The allocator that the map takes its memory from.
+    /// Returns the allocator that the map takes its memory from.
     pub fn allocator(&self) -> Global {
         *self.pairs.allocator()
     }
 
-    /// How many keys there are. It takes no memory.
+    /// Returns the number of keys. Allocates nothing.
     pub fn len(&self) -> usize
         ensures len { result ≡ length self.now }
     {
         self.pairs.len()
     }
 
-    /// The value at a key, if there is one. O(log n), without memory.
+    /// Returns the value at a key, if any. O(log n). Allocates nothing.
     pub fn get(&self, key: &K) -> Option<&V>
         ensures value { option_copied result ≡ find K.cmp key.now self.now }
     {
@@ -101,14 +101,14 @@ impl<K: Key, V: Join> JoinMap<K, V> {
         }
     }
 
-    /// The keys in their order. It fails for want of memory alone.
+    /// Borrows the keys, in order. Fails only if memory runs out.
     pub fn keys(&self) -> Result<Vec<&K>, AllocError>
         ensures keys { IfOk result (λ keys. map (λ k. k.now) keys.items ≡ map (λ pair. pair.0) self.now) }
     {
         keys_of(*self.pairs.allocator(), &self.pairs)
     }
 
-    /// Takes out the pair with the greatest key, if there is one. O(1), without memory.
+    /// Removes and returns the pair with the greatest key, if any. O(1). Allocates nothing.
     pub fn pop_last(&mut self) -> Option<(K, V)>
         ensures pairs { self.old ≡ self.new ++ option_to_list result }
         ensures none { IfNone result (self.old ≡ []) }
@@ -117,12 +117,12 @@ impl<K: Key, V: Join> JoinMap<K, V> {
         self.pairs.pop()
     }
 
-    /// Joins a value into the one at a key, and answers whether the key was added. A search and at
-    /// most one shift of the pairs.
+    /// Joins a value into the one at a key, and returns whether the key was added. Costs a search and at most one shift
+    /// of the pairs.
     ///
-    /// It fails for want of memory alone. The map then lies between what it was and the join, and
-    /// joining the `rest`, which has the same key, gives that join; where the value is single, the
-    /// map is unchanged. Where the key is held, it takes no memory but that of the value's join.
+    /// Fails only if memory runs out. The map then lies between its old state and the join, and joining the `rest`,
+    /// which has the same key, completes the join; if the value is single, the map is unchanged. If the key is held,
+    /// only the join of the value allocates.
     pub fn join_at(&mut self, key: K, value: V) -> Result<bool, Rest<(K, V)>>
         ensures ok { OnOk result (IsJoin (MapBelow K.cmp V.below) self.old ((key, value) ∷ []) self.new) }
         ensures added { IfOk result (λ added. IsTrue added ↔
@@ -168,10 +168,10 @@ impl<K: Key, V: Join> Join for JoinMap<K, V> {
         self.pairs.is_empty()
     }
 
-    /// Joins key by key. Few pairs cost a search each and the shifts of those that are new; many cost
-    /// one growth and one pass over both maps. Into an empty map the other one moves as it stands.
+    /// Joins key by key. Few pairs cost a search each and a shift for each new key; many cost one allocation and one
+    /// pass over both maps. An empty map takes over the other one unchanged.
     ///
-    /// A pair that is refused goes back into the room that it left.
+    /// A pair whose join fails is put back into the room that it came from.
     fn join_from(&mut self, mut other: Self) -> Result<(), Rest<Self>> {
         if join_pairs(&mut self.pairs, &mut other.pairs) {
             return Ok(());
@@ -179,14 +179,13 @@ impl<K: Key, V: Join> Join for JoinMap<K, V> {
         Err(Rest { rest: other })
     }
 
-    /// Joins copies key by key. Up to the first key that is new it costs a search each and moves
-    /// nothing; behind it few pairs cost the same and the shifts, and many one growth and one pass
-    /// over both maps.
+    /// Joins copies key by key. Until the first new key it costs a search for each pair and moves nothing. From there
+    /// on, few pairs cost a search each and the shifts; many cost one allocation and one pass over both maps.
     fn join_copy(&mut self, other: &Self) -> Result<(), AllocError> {
         join_copies(&mut self.pairs, &other.pairs)
     }
 
-    /// An equal map, by one growth and a copy of each pair. It fails for want of memory alone.
+    /// Returns an equal map, with one allocation and a copy of each pair. Fails only if memory runs out.
     fn try_clone(&self) -> Result<Self, AllocError> {
         Ok(JoinMap {
             pairs: copy_pairs(*self.pairs.allocator(), &self.pairs)?,

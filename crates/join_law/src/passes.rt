@@ -1,4 +1,4 @@
-//! One pass over sorted pairs that joins others which are many.
+//! One pass over sorted pairs that joins many other pairs into them.
 ghost use Rattle.std.specs.Prelude.{◌≡◌, ◌+◌, ◌<◌, ◌≤◌, ◌++◌, [], ◌∷◌, length, vec_len, vec_capacity, IsOk, OnOk, OnErr, IfErr};
 ghost use Rattle.std.specs.{VecDeque.{deque_len}, declared.cmp.Ordering.TheVariants.{Less}, Bool.{OnTrue, OnFalse}};
 ghost use Rattle.sorted_pairs.specs.Places.{IsAt, IsGap, AreBelow, IsNotBelow};
@@ -12,14 +12,14 @@ use std::alloc::AllocError;
 use std::collections::VecDeque;
 use std::mem;
 
-// Whether pairs are so few beside those that are held that a search for each costs less than one pass over both.
+// Returns whether a search for each of `pairs` is cheaper than one pass over both lists, where `held` pairs are held.
 pub fn are_few(pairs: usize, held: usize) -> bool
     ensures many { OnFalse result (1 < pairs) }
 {
     pairs <= 1 || pairs < held / 64
 }
 
-// Whether the first pair has this key.
+// Returns whether the first pair ahead has this key.
 fn is_first<K: Key, V>(ahead: &VecDeque<(K, V)>, key: &K) -> bool
     requires next { IsNotBelow K.cmp key.now ahead.now.items }
     ensures at { OnTrue result (IsAt K.cmp key.now ahead.now.items 0) }
@@ -31,7 +31,7 @@ fn is_first<K: Key, V>(ahead: &VecDeque<(K, V)>, key: &K) -> bool
     }
 }
 
-// Joins a copy of one pair, whose key is above all passed ones and not above the others.
+// Joins a copy of one pair, whose key is above all passed keys and not above those ahead.
 fn place_copy<K: Key, V: Join>(
     passed: &mut Vec<(K, V)>,
     ahead: &mut VecDeque<(K, V)>,
@@ -66,7 +66,7 @@ fn place_copy<K: Key, V: Join>(
     }
 }
 
-// Joins one pair, whose key is above all passed ones and not above the others.
+// Joins one pair, whose key is above all passed keys and not above those ahead.
 fn place_pair<K: Key, V: Join>(
     passed: &mut Vec<(K, V)>,
     ahead: &mut VecDeque<(K, V)>,
@@ -106,7 +106,7 @@ fn place_pair<K: Key, V: Join>(
     }
 }
 
-// Joins the others from the first on, and answers whether all went in.
+// Joins the pairs of `other` in order, and returns whether all were joined.
 fn pass_pairs<K: Key, V: Join>(
     passed: &mut Vec<(K, V)>,
     ahead: &mut VecDeque<(K, V)>,
@@ -123,7 +123,7 @@ fn pass_pairs<K: Key, V: Join>(
     while let Some((key, value)) = other.pop_front() {
         pass_below(passed, ahead, &key);
         if let Err(Rest { rest }) = place_pair(passed, ahead, key, value) {
-            // It goes back into the room that it left.
+            // Infallible: `pop_front` has just freed the room.
             match other.push_front(rest) {
                 Ok(()) => return false,
                 Err(_) => unreachable!(),
@@ -133,7 +133,7 @@ fn pass_pairs<K: Key, V: Join>(
     true
 }
 
-// Joins copies of what the others have more.
+// Joins copies of what `other` has more.
 fn pass_copies<K: Key, V: Join>(
     passed: &mut Vec<(K, V)>,
     ahead: &mut VecDeque<(K, V)>,
@@ -154,7 +154,7 @@ fn pass_copies<K: Key, V: Join>(
     Ok(())
 }
 
-// Joins copies of what the others have more, by one growth, then one pass over both. Linear.
+// Joins copies of what `other` has more, with one allocation and one pass over both lists. Linear.
 pub fn join_copies_in_one<K: Key, V: Join>(
     pairs: &mut Vec<(K, V)>,
     other: &[(K, V)],
@@ -173,8 +173,8 @@ pub fn join_copies_in_one<K: Key, V: Join>(
     outcome
 }
 
-// Joins all pairs of `other`, by one growth, then one pass over both, and answers whether all went
-// in. Linear.
+// Joins all pairs of `other`, with one allocation and one pass over both lists, and returns whether all were joined.
+// Linear.
 pub fn join_pairs_in_one<K: Key, V: Join>(pairs: &mut Vec<(K, V)>, other: &mut Vec<(K, V)>) -> bool
     requires maps { IsMap K.cmp V.below V.is_valid pairs.old.items × IsMap K.cmp V.below V.is_valid other.old.items }
     requires some { 0 < vec_len other.old }

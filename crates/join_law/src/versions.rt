@@ -1,4 +1,4 @@
-//! Versions, entries with their versions, and entries that may not be there yet.
+//! Versions, entries with a version, and entries that may not exist yet.
 ghost use Rattle.std.specs.Prelude.{◌≡◌, ◌↔◌, IsTrue, IsOk, OnOk, IfOk, OnErr, IfErr};
 
 use crate::joins::{Join, Rest};
@@ -6,30 +6,30 @@ use plain_values::Key;
 use std::alloc::AllocError;
 use std::cmp::Ordering;
 
-/// The number of an edit, ordered by counter, then by writer.
+/// The version of an edit, ordered by counter, then by writer.
 ///
-/// A node counts its own edits above every counter that it has seen, so of two edits of which one
-/// knew of the other, the later one has the greater version. No two nodes share a writer number.
+/// A node numbers its own edits above every counter that it has seen. So if one edit's writer knew of another edit, the
+/// later edit has the greater version. No two nodes share a writer number.
 #[derive(Clone, Copy, Debug, PartialEq, Eq, PartialOrd, Ord)]
 pub struct Version {
-    /// The place in the writer's count.
+    /// The counter, a Lamport timestamp: above every counter that the writer had seen.
     pub counter: u64,
     /// The number of the node that made the edit.
     pub writer: u32,
 }
 
-/// A content with the version of the write that left it, ordered by version, then by content. Of
-/// two entries at one place the greater one wins.
+/// A content with the version of the edit that wrote it, ordered by version, then by content. Of two entries at one
+/// place the greater one wins.
 #[derive(Debug, PartialEq, Eq, PartialOrd, Ord, Drop)]
 pub struct Entry<C: Key> {
-    /// The version of the write.
+    /// The version of the edit.
     pub version: Version,
-    /// What was written.
+    /// What it wrote.
     pub content: C,
 }
 
 impl<C: Key> Entry<C> {
-    /// An equal entry. It fails for want of memory alone.
+    /// Returns an equal entry. Fails only if memory runs out.
     pub fn try_clone(&self) -> Result<Entry<C>, AllocError>
         ensures copy { IfOk result (λ copy. copy ≡ self.now) }
     {
@@ -40,12 +40,12 @@ impl<C: Key> Entry<C> {
     }
 }
 
-/// An entry, or nothing yet: a register that keeps the greatest write.
+/// An entry, or nothing yet: a last-writer-wins register.
 #[derive(Debug, Drop)]
 pub enum Versioned<C: Key> {
     /// Nothing was written yet.
     Never,
-    /// The greatest entry that was written.
+    /// The greatest entry written so far.
     At(Entry<C>),
 }
 
@@ -53,7 +53,7 @@ impl<C: Key> Versioned<C> {
     ghost use Rattle.std.specs.Option.{option_copied};
     ghost use Rattle.join_law.specs.VersionOrder.{versioned_cmp, written};
 
-    /// The order: nothing first, then by version, then by content.
+    /// Compares: `Never` first, then by version, then by content.
     pub fn rank(&self, other: &Self) -> Ordering
         ensures order { result ≡ versioned_cmp C.cmp self.now other.now }
     {
@@ -69,7 +69,7 @@ impl<C: Key> Versioned<C> {
         }
     }
 
-    /// The entry, if one was written.
+    /// Returns the entry, if one was written.
     pub fn entry(&self) -> Option<&Entry<C>>
         ensures entry { option_copied result ≡ written self.now }
     {
@@ -111,7 +111,7 @@ impl<C: Key> Join for Versioned<C> {
         }
     }
 
-    /// Keeps the greater of the two. It takes no memory and never fails.
+    /// Keeps the greater of the two. Allocates nothing and never fails.
     fn join_from(&mut self, other: Self) -> Result<(), Rest<Self>>
         ensures never_refused { IsOk result }
         ensures greater { self.new ≡ versioned_max C.cmp self.old other }
@@ -129,8 +129,7 @@ impl<C: Key> Join for Versioned<C> {
         Ok(())
     }
 
-    /// Keeps the greater of the two; it copies the other one only where that is greater. A refused
-    /// copy leaves this one unchanged.
+    /// Keeps the greater of the two; copies `other` only if it is greater. If the copy fails, this value is unchanged.
     fn join_copy(&mut self, other: &Self) -> Result<(), AllocError>
         ensures greater { OnOk result (self.new ≡ versioned_max C.cmp self.old other.now) }
         ensures unchanged { OnErr result (self.new ≡ self.old) }

@@ -1,13 +1,13 @@
--- Functions that agree at one key and at all others.
+-- Two functions that agree at one key and at every other key agree everywhere.
 -- Source: this project's own.
-use Rattle.std.proofs.Common.{◌≡◌, ◌≢◌, ap, refl, sym, ◌∙◌}
+use Rattle.std.proofs.Common.{◌∙◌, ◌≡◌, ◌≢◌, ap, refl, sym}
+use Rattle.std.proofs.lemmas.Cmp.{tied_itself}
 use Rattle.std.specs.Cmp.{IsTotalOrder}
 use Rattle.std.specs.FinMap.{IsAntisymmetric}
 use Rattle.std.specs.declared.cmp.Ordering.{Ordering}
-use Rattle.std.specs.declared.cmp.Ordering.TheVariants.{Less, Equal, Greater}
-use Rattle.std.proofs.lemmas.Cmp.{tied_itself}
+use Rattle.std.specs.declared.cmp.Ordering.TheVariants.{Equal, Greater, Less}
 
--- a comparison tells whether a key is the one
+-- a comparison decides whether a key is the given one
 pub agree_everywhere : {K B : Type 0} (cmp : K → K → Ordering) (total : IsTotalOrder cmp) (antisymmetric : IsAntisymmetric cmp) (f g : K → B) (k : K) → f k ≡ g k → ((q : K) → q ≢ k → f q ≡ g q) → (q : K) → f q ≡ g q
 agree_everywhere cmp total antisymmetric f g k there same q = by (cmp q k) refl
   where

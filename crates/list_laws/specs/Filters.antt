@@ -1,8 +1,8 @@
--- What passes tests.
+-- Filters with several tests.
 -- Source: this project's own.
-use Rattle.std.proofs.Common.{◌≡◌, Bool, true, false, cond, List, [], ◌∷◌, filter, refl, ap}
+use Rattle.std.proofs.Common.{[], ◌∷◌, ◌≡◌, ap, Bool, cond, false, filter, List, refl, true}
 
--- two tests one after the other are one
+-- two filters in a row are one filter with both tests
 pub filter_twice : {X : Type 0} (p q : X → Bool) (xs : List X) → filter p (filter q xs) ≡ filter (λ x. cond (q x) (p x) false) xs
 filter_twice p q [] = refl
 filter_twice p q (x ∷ xs) = by (q x) (filter_twice p q xs)

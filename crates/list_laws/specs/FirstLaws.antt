@@ -1,35 +1,35 @@
--- Laws of the first of a list that has something to say, place by place.
+-- Laws of `first_said` (the first answer that a function gives along a list), by index.
 -- Source: this project's own.
-use Rattle.std.proofs.Common.{◌≡◌, ℕ, zero, suc, ◌<◌, ◌≤◌, Option, Some, None, List, [], ◌∷◌, length, get_or, drop, refl, ap, ◌∙◌, arith}
+use Rattle.std.proofs.Common.{[], ◌<◌, ◌∙◌, ◌∷◌, ◌≡◌, ◌≤◌, ap, arith, drop, get_or, length, List, None, Option, refl, Some, suc, zero, ℕ}
 use Rattle.std.specs.Option.{option_or}
 use Rattle.list_laws.specs.FirstSaid.{first_said}
 
--- two that say the same
+-- both options hold the same value
 pub record BothSay {B : Type 0} (o p : Option B) : Type 0 where
   pub word : B
   pub first : o ≡ Some word
   pub second : p ≡ Some word
 
 module _ {A B : Type 0} where
-  -- from a place on: what is said there, then what is said behind it
+  -- the first answer from an index on: the answer there, or else the first one after it
   pub said_from : (f : A → Option B) (xs : List A) (i : ℕ) (d : A) → i < length xs → first_said f (drop i xs) ≡ option_or (f (get_or xs i d)) (first_said f (drop (suc i) xs))
   said_from f [] i d h = absurd (omega (arith, h))
   said_from f (x ∷ xs) zero d h = refl
   said_from f (x ∷ xs) (suc i) d h = said_from f xs i d (omega (arith, h))
 
-  -- where no place says anything, nothing is said
-  pub all_silent : (f : A → Option B) (xs : List A) (d : A) → ((i : ℕ) → i < length xs → f (get_or xs i d) ≡ None) → first_said f xs ≡ None
-  all_silent f [] d none = refl
-  all_silent f (x ∷ xs) d none = ap (λ o. option_or o (first_said f xs)) (none 0 (omega arith)) ∙ all_silent f xs d (λ i h. none (suc i) (omega (arith, h)))
+  -- if there is no answer at any index, there is no first answer
+  pub all_undefined : (f : A → Option B) (xs : List A) (d : A) → ((i : ℕ) → i < length xs → f (get_or xs i d) ≡ None) → first_said f xs ≡ None
+  all_undefined f [] d none = refl
+  all_undefined f (x ∷ xs) d none = ap (λ o. option_or o (first_said f xs)) (none 0 (omega arith)) ∙ all_undefined f xs d (λ i h. none (suc i) (omega (arith, h)))
 
-  -- the first place that says something decides
+  -- the first index with an answer decides
   pub place_decides : (f : A → Option B) (xs : List A) (d : A) (i : ℕ) (c : B) → i < length xs → f (get_or xs i d) ≡ Some c → ((k : ℕ) → k < i → f (get_or xs k d) ≡ None) → first_said f xs ≡ Some c
   place_decides f [] d i c h e none = absurd (omega (arith, h))
   place_decides f (x ∷ xs) d zero c h e none = ap (λ o. option_or o (first_said f xs)) e
   place_decides f (x ∷ xs) d (suc i) c h e none =
       ap (λ o. option_or o (first_said f xs)) (none 0 (omega arith)) ∙ place_decides f xs d i c (omega (arith, h)) e (λ k l. none (suc k) (omega (arith, l)))
 
-  -- two that say the same up to a place that says something, have the same first word
+  -- two functions that agree up to the first index with an answer have the same first answer
   pub both_decide : (f g : A → Option B) (xs : List A) (d : A) (i : ℕ) (c : B) → i < length xs → f (get_or xs i d) ≡ Some c → ((k : ℕ) → k ≤ i → g (get_or xs k d) ≡ f (get_or xs k d)) → BothSay (first_said f xs) (first_said g xs)
   both_decide f g [] d i c h e same = absurd (omega (arith, h))
   both_decide f g (x ∷ xs) d zero c h e same =

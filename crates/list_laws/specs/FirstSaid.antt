@@ -1,11 +1,11 @@
--- The first of a list that has something to say.
+-- The first answer that a function gives along a list.
 -- Source: this project's own.
-use Rattle.std.proofs.Common.{◌≡◌, ℕ, zero, suc, ◌+◌, ◌<◌, Option, Some, None, List, [], ◌∷◌, ◌++◌, length, get_or, take, refl, ap, sym, ◌∙◌, arith}
-use Rattle.std.specs.Option.{option_or}
+use Rattle.std.proofs.Common.{[], ◌++◌, ◌+◌, ◌<◌, ◌∙◌, ◌∷◌, ◌≡◌, ap, arith, get_or, length, List, None, Option, refl, Some, suc, sym, take, zero, ℕ}
 use Rattle.std.proofs.lemmas.List.{take_more}
 use Rattle.std.proofs.lemmas.Option.{none-some}
+use Rattle.std.specs.Option.{option_or}
 
--- the first answer that there is
+-- the first result that is not `None`
 abbrev pub first_said : {A B : Type 0} → (A → Option B) → List A → Option B
 first_said f [] = None
 first_said f (x ∷ xs) = option_or (f x) (first_said f xs)
@@ -19,7 +19,7 @@ module _ {B : Type 0} where
   or_none None = refl
   or_none (Some x) = refl
 
--- the answer is that of one of the list, and those before it have none
+-- `v` is the answer at one index, and there is no answer before it
 pub record IsFirst {A B : Type 0} (g : A → Option B) (xs : List A) (d : A) (v : B) : Type 0 where
   pub place : ℕ
   pub within : place < length xs
@@ -42,7 +42,7 @@ module _ {A B : Type 0} where
       step None e more t = later e (more t)
       step (Some w) e more t = record { place = 0; within = omega arith; says = e ∙ t; before = λ i l. absurd (omega arith) }
 
-  -- without an answer none of the list has one
+  -- if there is no first answer, no element has an answer
   pub none_says : (g : A → Option B) (xs : List A) (d : A) → first_said g xs ≡ None → (i : ℕ) → i < length xs → g (get_or xs i d) ≡ None
   none_says g [] d h i l = absurd (omega arith)
   none_says g (x ∷ xs) d h i l = step (g x) refl (none_says g xs d) h i l
@@ -52,7 +52,7 @@ module _ {A B : Type 0} where
       step None e more t (suc j) m = more t j (omega arith)
       step (Some w) e more t j m = absurd (none-some _ (sym t))
 
-  -- answers that agree for each of the list have the same first
+  -- functions that agree on every element have the same first answer
   pub first_same : (f g : A → Option B) → ((x : A) → f x ≡ g x) → (xs : List A) → first_said f xs ≡ first_said g xs
   first_same f g same [] = refl
   first_same f g same (x ∷ xs) = ap (λ o. option_or o (first_said f xs)) (same x) ∙ ap (option_or (g x)) (first_same f g same xs)
@@ -61,7 +61,7 @@ module _ {A B : Type 0} where
   said_push g [] x = or_none (g x)
   said_push g (y ∷ ys) x = ap (option_or (g y)) (said_push g ys x) ∙ sym (or_assoc (g y) (first_said g ys) (g x))
 
-  -- one more of a list, behind what was said before it
+  -- one more element: its answer counts only if there was none before it
   pub said_more : (g : A → Option B) (xs : List A) (i : ℕ) (x : A) → i < length xs → x ≡ get_or xs i x → (new cur init : Option B) → new ≡ option_or cur (g x) → cur ≡ option_or init (first_said g (take i xs)) → new ≡ option_or init (first_said g (take (i + 1) xs))
   said_more g xs i x h e new cur init n c =
       n ∙ ap (λ o. option_or o (g x)) c ∙ or_assoc init (first_said g (take i xs)) (g x)

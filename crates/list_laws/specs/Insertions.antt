@@ -1,13 +1,13 @@
--- What stands in a list of keys in order when one is put in.
-use Rattle.std.proofs.Common.{◌≡◌, ◌⊎◌, inl, inr, List, [], ◌∷◌, refl, sym}
+-- The members of a sorted list of keys after an insertion.
+use Rattle.std.proofs.Common.{[], ◌∷◌, ◌≡◌, ◌⊎◌, inl, inr, List, refl, sym}
 use Rattle.std.specs.BTreeSet.{insert_key}
 use Rattle.std.specs.Ordering.{match_ordering}
 use Rattle.std.specs.declared.cmp.Ordering.{Ordering}
-use Rattle.std.specs.declared.cmp.Ordering.TheVariants.{Less, Equal, Greater}
+use Rattle.std.specs.declared.cmp.Ordering.TheVariants.{Equal, Greater, Less}
 use Rattle.list_laws.specs.Members.{IsAmong}
 
 module _ {N : Type 0} (order : N → N → Ordering) where
-  -- all that stood there
+  -- every old member is still a member
   pub put_kept : (k : N) (ks : List N) (n : N) → IsAmong n ks → IsAmong n (insert_key order ks k)
   put_kept k [] n h = absurd h
   put_kept k (x ∷ xs) n h = by (order k x) h (put_kept k xs n)
@@ -19,15 +19,15 @@ module _ {N : Type 0} (order : N → N → Ordering) where
       by Greater (inl a) more = inl a
       by Greater (inr a) more = inr (more a)
 
-  -- and nothing but that and the key
+  -- the only new member is the inserted key
   pub put_sound : (k : N) (ks : List N) (n : N) → IsAmong n (insert_key order ks k) → IsAmong n ks ⊎ (k ≡ n)
   put_sound k [] n (inl h) = inr h
   put_sound k [] n (inr h) = absurd h
   put_sound k (x ∷ xs) n h = by (order k x) h (put_sound k xs n)
     where
-      behind : IsAmong n xs ⊎ (k ≡ n) → IsAmong n (x ∷ xs) ⊎ (k ≡ n)
-      behind (inl a) = inl (inr a)
-      behind (inr a) = inr a
+      after : IsAmong n xs ⊎ (k ≡ n) → IsAmong n (x ∷ xs) ⊎ (k ≡ n)
+      after (inl a) = inl (inr a)
+      after (inr a) = inr a
 
       by : (r : Ordering) → IsAmong n (match_ordering r (k ∷ x ∷ xs) (x ∷ xs) (x ∷ insert_key order xs k))
           → (IsAmong n (insert_key order xs k) → IsAmong n xs ⊎ (k ≡ n)) → IsAmong n (x ∷ xs) ⊎ (k ≡ n)
@@ -35,9 +35,9 @@ module _ {N : Type 0} (order : N → N → Ordering) where
       by Less (inr a) more = inl a
       by Equal a more = inl a
       by Greater (inl a) more = inl (inl a)
-      by Greater (inr a) more = behind (more a)
+      by Greater (inr a) more = after (more a)
 
-  -- the key itself, where the order finds no other key equal to it
+  -- the inserted key is a member, if the order calls no other key equal to it
   pub put_there : ((x y : N) → order x y ≡ Equal → x ≡ y) → (k : N) (ks : List N) → IsAmong k (insert_key order ks k)
   put_there exact k [] = inl refl
   put_there exact k (x ∷ xs) = by (order k x) refl (put_there exact k xs)

@@ -7,6 +7,6 @@ pub mod Insertions
 pub mod Lines
 pub mod Members
 pub mod Orderings
-pub mod Rising
+pub mod Ascending
 pub mod Searches
 pub mod Truths

@@ -1,25 +1,26 @@
--- Which lines a text has, said by how texts are put together from lines. A line ends at a line feed, and one carriage return directly before that is dropped.
--- The last line needs no line feed: then a carriage return at its end belongs to it.
+-- The lines of a text, described by how a text is built from lines. A line ends at a line feed; one carriage return
+-- directly before the line feed is dropped. The last line needs no line feed, and a carriage return at its end is kept.
 -- Source: this project's own.
-use Rattle.std.proofs.Common.{◌≡◌, ◌≢◌, ◌<◌, ◌+◌, ◌-◌, ◌==◌, ℕ, zero, suc, List, [], ◌∷◌, ◌++◌, length, take, drop, get_or, refl, ap, ◌∙◌, append_assoc, length-append, add-zero, arith}
-use Rattle.std.specs.List.{All, AllByRecursion, flat_map, slice_split}
-use Rattle.std.specs.Str.Lines.{lines, lines_of_parts, strip_carriage_return}
-use Rattle.std.proofs.lemmas.Bool.{cond-true, cond-false, eq-eqb, ne_eqb}
-use Rattle.std.proofs.lemmas.List.Splits.{slice_split_at, slice_split_none, length-slice_split}
-use Rattle.std.proofs.lemmas.List.Elements.{All-weaker, All-push, All-from_get_or}
-use Rattle.std.proofs.lemmas.List.Prefix.{end_from_reads}
+use Rattle.std.proofs.Common.{[], ◌++◌, ◌+◌, ◌-◌, ◌<◌, ◌==◌, ◌∙◌, ◌∷◌, ◌≡◌, ◌≢◌, add-zero, All, ap, append_assoc, arith, drop, get_or, length, length-append, List, refl, suc, take, zero, ℕ}
+use Rattle.std.proofs.lemmas.Bool.{cond-false, cond-true, eq-eqb, ne_eqb}
 use Rattle.std.proofs.lemmas.List.{get_or_push, take_at}
+use Rattle.std.proofs.lemmas.List.Elements.{All-from_get_or, All-push, All-weaker}
+use Rattle.std.proofs.lemmas.List.Prefix.{end_from_reads}
+use Rattle.std.proofs.lemmas.List.Splits.{length-slice_split, slice_split_at, slice_split_none}
+use Rattle.std.specs.List.{AllByRecursion, flat_map, slice_split}
+use Rattle.std.specs.Str.Lines.{lines, lines_of_parts, strip_carriage_return}
 use Rattle.list_laws.specs.Cuts.{All-take_before, cut_around}
 
--- no byte of the line is a line feed
+-- the line contains no line feed
 abbrev pub HasNoLineFeed : List ℕ → Type 0
 HasNoLineFeed line = All (λ b. b ≢ 10) line
 
--- the line's last byte is a carriage return
+-- the last byte of the line is a carriage return
 abbrev pub EndsInReturn : List ℕ → Type 0
-EndsInReturn line = (front : List ℕ) × (line ≡ front ++ 13 ∷ [])
+EndsInReturn line = (prefix : List ℕ) × (line ≡ prefix ++ 13 ∷ [])
 
--- The line may stand in a text as it is: it has no line feed, and no carriage return at its end, which would be dropped.
+-- The line can be in a text unchanged: it contains no line feed, and doesn't end in a carriage return, which would be
+-- dropped.
 abbrev pub IsPlainLine : List ℕ → Type 0
 IsPlainLine line = HasNoLineFeed line × ¬ (EndsInReturn line)
 
@@ -27,7 +28,7 @@ line_then_parts : (line : List ℕ) (parts : List (List ℕ)) → 0 < length par
 line_then_parts line [] some = absurd (omega arith)
 line_then_parts line (next ∷ parts) some = refl
 
--- what stands before the first line feed is the first line, but for a carriage return at its end
+-- the bytes before the first line feed are the first line, without a carriage return at the end
 pub lines-line_feed : (line rest : List ℕ) → HasNoLineFeed line → lines (line ++ 10 ∷ rest) ≡ strip_carriage_return line ∷ lines rest
 lines-line_feed line rest none =
     let parts = slice_split (λ b. b == 10) rest in
@@ -42,7 +43,7 @@ pub lines-last : (line : List ℕ) → 0 < length line → HasNoLineFeed line �
 lines-last line some none =
     ap lines_of_parts (slice_split_none (λ b. b == 10) line (All-weaker _ _ (λ b. ne_eqb b 10) line none)) ∙ one_part line some
 
--- a line that doesn't end in a carriage return stays
+-- a line that doesn't end in a carriage return is unchanged
 strip_carriage_return-plain : (line : List ℕ) → ¬ (EndsInReturn line) → strip_carriage_return line ≡ line
 strip_carriage_return-plain [] plain = refl
 strip_carriage_return-plain (b ∷ rest) plain =
@@ -55,7 +56,7 @@ strip_carriage_return-plain (b ∷ rest) plain =
     at_last is zero lt = rw add-zero is
     at_last is (suc i) lt = absurd (omega arith)
 
--- Lines that are each followed by a line feed are the first lines of that text.
+-- Lines that are each followed by a line feed are the first lines of the text.
 pub lines-line_feeds : (texts : List (List ℕ)) (rest : List ℕ) → AllByRecursion IsPlainLine texts → lines (flat_map (λ line. line ++ 10 ∷ []) texts ++ rest) ≡ texts ++ lines rest
 lines-line_feeds [] rest plain = refl
 lines-line_feeds (line ∷ texts) rest plain =
@@ -66,14 +67,14 @@ lines-line_feeds (line ∷ texts) rest plain =
     ∙ ap (λ v. v ∷ lines later) (strip_carriage_return-plain line plain.0.1)
     ∙ ap (λ v. line ∷ v) (lines-line_feeds texts rest plain.1)
 
--- a carriage return before the line feed is dropped, and no other
+-- only the carriage return directly before the line feed is dropped
 strip_carriage_return-return : (line : List ℕ) → strip_carriage_return (line ++ 13 ∷ []) ≡ line
 strip_carriage_return-return line =
     let long : length (line ++ 13 ∷ []) - 1 ≡ length line = omega (arith, length-append line (13 ∷ [])) in
     cond-true _ _ _ (eq-eqb _ 13 (ap (λ k. get_or (line ++ 13 ∷ []) k 0) long ∙ get_or_push line 13 0 (length line) refl))
     ∙ ap (λ k. take k (line ++ 13 ∷ [])) long ∙ take_at line (13 ∷ []) (length line) refl
 
--- Lines that are each followed by a carriage return and a line feed are the first lines of that text.
+-- Lines that are each followed by a carriage return and a line feed are the first lines of the text.
 pub lines-returns : (texts : List (List ℕ)) (rest : List ℕ) → AllByRecursion HasNoLineFeed texts → lines (flat_map (λ line. line ++ 13 ∷ 10 ∷ []) texts ++ rest) ≡ texts ++ lines rest
 lines-returns [] rest none = refl
 lines-returns (line ∷ texts) rest none =
@@ -84,11 +85,11 @@ lines-returns (line ∷ texts) rest none =
     ∙ ap (λ v. v ∷ lines later) (strip_carriage_return-return line)
     ∙ ap (λ v. line ∷ v) (lines-returns texts rest none.1)
 
--- a text in which a search finds no line feed is one line
+-- if a search finds no line feed, the text is one line
 pub lines-cut_nowhere : (bytes : List ℕ) → 0 < length bytes → ((k : ℕ) → k < length bytes → get_or bytes k 0 ≢ 10) → lines bytes ≡ bytes ∷ lines []
 lines-cut_nowhere bytes some none = lines-last bytes some (All-from_get_or (λ b. b ≢ 10) bytes 0 none)
 
--- a text that is cut where a search finds the first line feed
+-- a text split at the first line feed that a search finds
 pub lines-cut_at : (bytes : List ℕ) (end : ℕ) → end < length bytes → get_or bytes end 0 ≡ 10 → ((k : ℕ) → k < end → get_or bytes k 0 ≢ 10)
     → lines bytes ≡ strip_carriage_return (take end bytes) ∷ lines (drop (end + 1) bytes)
 lines-cut_at bytes end lt is before =

@@ -1,11 +1,10 @@
--- What stands in a list.
+-- Membership in a list.
 -- Source: this project's own.
-use Rattle.std.proofs.Common.{◌≡◌, subst, List, [], ◌∷◌, ◌++◌, inl, inr, arith}
-use Rattle.std.specs.Prelude.{◌⊎◌}
-use Rattle.std.specs.List.{Contains}
+use Rattle.std.proofs.Common.{[], ◌++◌, ◌∷◌, ◌≡◌, ◌⊎◌, arith, inl, inr, List, subst}
 use Rattle.std.proofs.lemmas.List.Elements.{Contains-append_cases, Contains-append_left, Contains-append_right, Contains-push, Contains-push_cases}
+use Rattle.std.specs.List.{Contains}
 
--- nothing stands in the empty list
+-- the empty list has no members
 pub none_there : {X C : Type 0} (x : X) → Contains [] x → C
 none_there x c = absurd (omega (arith, c.1))
 
@@ -15,7 +14,7 @@ first_there x xs = Contains-append_left (x ∷ []) xs x (Contains-push [] x)
 pub later_there : {X : Type 0} (x y : X) (xs : List X) → Contains xs y → Contains (x ∷ xs) y
 later_there x y xs c = Contains-append_right (x ∷ []) xs y c
 
--- what stands in a list of one is that
+-- the only member of a one-element list is that element
 pub only_one : {X : Type 0} (x y : X) → Contains (x ∷ []) y → x ≡ y
 only_one x y c = pick (Contains-push_cases [] x y c)
   where
@@ -23,7 +22,7 @@ only_one x y c = pick (Contains-push_cases [] x y c)
     pick (inl n) = none_there y n
     pick (inr e) = e
 
--- what stands in a list is its first, or stands behind it
+-- a member of a list is its first element or a member of the rest
 pub first_or_later : {X : Type 0} (x y : X) (xs : List X) → Contains (x ∷ xs) y → (x ≡ y) ⊎ Contains xs y
 first_or_later x y xs c = pick (Contains-append_cases (x ∷ []) xs y c)
   where
@@ -31,7 +30,7 @@ first_or_later x y xs c = pick (Contains-append_cases (x ∷ []) xs y c)
     pick (inl o) = inl (only_one x y o)
     pick (inr o) = inr o
 
--- the same by recursion: x is the first of the list, or one behind it
+-- membership by recursion: x is the first element or a member of the rest
 abbrev pub IsAmong : {X : Type 0} → X → List X → Type 0
 IsAmong x [] = ⊥
 IsAmong x (y ∷ ys) = (y ≡ x) ⊎ IsAmong x ys

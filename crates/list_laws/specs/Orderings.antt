@@ -1,10 +1,10 @@
--- What a comparison answers.
+-- Results of comparisons.
 -- Source: this project's own.
-use Rattle.std.proofs.Common.{◌≡◌, ◌≢◌, true, false, IsTrue, refl, ap, ◌∙◌}
+use Rattle.std.proofs.Common.{◌∙◌, ◌≡◌, ◌≢◌, ap, false, IsTrue, refl, true}
 use Rattle.std.specs.Cmp.{IsTotalOrder}
 use Rattle.std.specs.Ordering.{is_eq, is_lt, ordering_reverse}
 use Rattle.std.specs.declared.cmp.Ordering.{Ordering}
-use Rattle.std.specs.declared.cmp.Ordering.TheVariants.{Less, Equal, Greater}
+use Rattle.std.specs.declared.cmp.Ordering.TheVariants.{Equal, Greater, Less}
 
 pub is_less : (r : Ordering) → IsTrue (is_lt r) → r ≡ Less
 is_less Less h = refl
@@ -21,6 +21,6 @@ is_greater Less n h = absurd (n refl)
 is_greater Equal n h = cc (h)
 is_greater Greater n h = refl
 
--- the same two compared the other way round
+-- swapping the operands reverses the result
 pub turned : {K : Type 0} (R : K → K → Ordering) (o : IsTotalOrder R) (x y : K) (r : Ordering) → R x y ≡ r → R y x ≡ ordering_reverse r
 turned R o x y r h = o.antisymm y x ∙ ap ordering_reverse h

@@ -1,23 +1,23 @@
--- Pairs in the order of their keys, compared with one key: what a binary search among them rests on.
+-- Pairs sorted by key, compared with one key: the facts that a binary search rests on.
 -- Source: this project's own.
-use Rattle.std.proofs.Common.{◌≡◌, ℕ, zero, suc, ◌<◌, ◌≤◌, List, [], ◌∷◌, length, get_or, IsTrue, refl, sym, ap, ◌∙◌, arith}
+use Rattle.std.proofs.Common.{[], ◌<◌, ◌∙◌, ◌∷◌, ◌≡◌, ◌≤◌, ap, arith, get_or, IsTrue, length, List, refl, suc, sym, zero, ℕ}
 use Rattle.std.proofs.lemmas.Bool.{and_parts}
 use Rattle.std.specs.Cmp.{IsTotalOrder}
+use Rattle.std.specs.FinMap.Entries.{below_all, is_sorted}
 use Rattle.std.specs.List.Sorted.{IsNonDecreasingBy}
 use Rattle.std.specs.Ordering.{ordering_index, ordering_reverse}
 use Rattle.std.specs.declared.cmp.Ordering.{Ordering}
-use Rattle.std.specs.declared.cmp.Ordering.TheVariants.{Less, Equal, Greater}
-use Rattle.std.specs.FinMap.Entries.{is_sorted, below_all}
+use Rattle.std.specs.declared.cmp.Ordering.TheVariants.{Equal, Greater, Less}
 use Rattle.list_laws.specs.Orderings.{is_less, turned}
 
--- what is below all keys is below each
+-- a key below all pairs is below each of them
 pub below_at : {K V : Type 0} (R : K → K → Ordering) (x : K) (es : List (K × V)) (j : ℕ) (d : K × V) → IsTrue (below_all R x es) → j < length es → R x (get_or es j d).0 ≡ Less
 below_at R x [] j d h lt = absurd (omega arith)
 below_at R x (e ∷ es) zero d h lt = is_less _ (and_parts _ _ h).0
 below_at R x (e ∷ es) (suc j) d h lt = below_at R x es j d (and_parts _ _ h).1 (omega arith)
 
 module _ {K : Type 0} (R : K → K → Ordering) (o : IsTotalOrder R) (k : K) where
-  -- what is below the key's equal is below the key
+  -- a key below one that equals k is below k
   pub above_lesser : (x y : K) → R x y ≡ Less → R y k ≡ Equal → R k x ≡ Greater
   above_lesser x y h e = sym (o.congr y k x e) ∙ turned R o x y Less h
 
@@ -33,11 +33,11 @@ module _ {K : Type 0} (R : K → K → Ordering) (o : IsTotalOrder R) (k : K) wh
       index_small Equal = omega arith
       index_small Greater = omega arith
 
--- the comparisons with a key rise along sorted pairs
-pub comparisons_rise : {K V : Type 0} (R : K → K → Ordering) (o : IsTotalOrder R) (k : K) (es : List (K × V)) → IsTrue (is_sorted R es) → IsNonDecreasingBy (λ (e : K × V). ordering_index (R e.0 k)) es
-comparisons_rise R o k [] s i j d le lt = absurd (omega arith)
-comparisons_rise R o k (e ∷ es) s zero zero d le lt = omega arith
-comparisons_rise R o k (e ∷ es) s zero (suc j) d le lt =
+-- along sorted pairs, the results of comparing with one key never decrease
+pub comparisons_ascend : {K V : Type 0} (R : K → K → Ordering) (o : IsTotalOrder R) (k : K) (es : List (K × V)) → IsTrue (is_sorted R es) → IsNonDecreasingBy (λ (e : K × V). ordering_index (R e.0 k)) es
+comparisons_ascend R o k [] s i j d le lt = absurd (omega arith)
+comparisons_ascend R o k (e ∷ es) s zero zero d le lt = omega arith
+comparisons_ascend R o k (e ∷ es) s zero (suc j) d le lt =
     index_by R o k e.0 (get_or es j d).0 (below_at R e.0 es j d (and_parts _ _ s).0 (omega arith)) _ refl
-comparisons_rise R o k (e ∷ es) s (suc i) zero d le lt = absurd (omega arith)
-comparisons_rise R o k (e ∷ es) s (suc i) (suc j) d le lt = comparisons_rise R o k es (and_parts _ _ s).1 i j d (omega arith) (omega arith)
+comparisons_ascend R o k (e ∷ es) s (suc i) zero d le lt = absurd (omega arith)
+comparisons_ascend R o k (e ∷ es) s (suc i) (suc j) d le lt = comparisons_ascend R o k es (and_parts _ _ s).1 i j d (omega arith) (omega arith)

@@ -1,7 +1,6 @@
--- Tests that hold, in the two forms in which facts name them.
+-- Conversions between the two ways in which facts state that a test holds.
 -- Source: this project's own.
-use Rattle.std.proofs.Common.{Bool, true, false, IsTrue, refl, sym, subst}
-use Rattle.std.specs.Prelude.{T, ◌&&◌}
+use Rattle.std.proofs.Common.{◌&&◌, Bool, false, IsTrue, refl, subst, sym, T, true}
 
 pub to_T : (b : Bool) → IsTrue b → T b
 to_T b h = subst T (sym h) tt
@@ -10,7 +9,7 @@ pub from_T : (b : Bool) → T b → IsTrue b
 from_T true t = refl
 from_T false t = absurd t
 
--- the parts of a conjunction
+-- both parts of a conjunction
 pub T-both : (a b : Bool) → T (a && b) → T a × T b
 T-both true b h = (tt, h)
 T-both false b h = absurd h

@@ -1,3 +1,4 @@
+pub mod Prelude
 pub mod Paths
 pub mod PathLaws
 pub mod TextLaws

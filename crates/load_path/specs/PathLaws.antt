@@ -1,13 +1,13 @@
--- Laws of paths: their order is total and exact, and they are stored as their parts.
-use Rattle.std.specs.Prelude.{◌≡◌, ℕ, List, refl}
+-- Laws of paths: their order is total and exact, and a path can be encoded as its parts.
+use Rattle.std.proofs.Common.{◌≡◌, List, refl, ℕ}
+use Rattle.std.specs.Cmp.{IsTotalOrder, nat_cmp_total, on_total, then_total}
+use Rattle.std.specs.Cmp.Lexicographic.{nat_list_cmp_total, slice_cmp}
+use Rattle.std.specs.Coded.{code_by, Coded, coded_list, coded_ℕ, coded×}
+use Rattle.std.specs.FinMap.{nat_cmp-IsAntisymmetric, slice_cmp-IsAntisymmetric}
 use Rattle.std.specs.Ordering.{nat_cmp}
-use Rattle.std.specs.Cmp.{IsTotalOrder, then_total, on_total, nat_cmp_total}
-use Rattle.std.specs.Cmp.Lexicographic.{slice_cmp, nat_list_cmp_total}
-use Rattle.std.specs.FinMap.{slice_cmp-IsAntisymmetric, nat_cmp-IsAntisymmetric}
-use Rattle.std.specs.Coded.{Coded, code_by, coded×, coded_ℕ, coded_list}
 use Rattle.std.specs.declared.cmp.Ordering.TheVariants.{Equal}
-use Rattle.join_law.specs.VersionOrderLaws.{tied_parts}
-use Rattle.load_path.specs.Paths.{PathParts, path_cmp}
+use Rattle.load_path.specs.Prelude.{tied_parts}
+use Rattle.load_path.specs.Paths.{path_cmp, PathParts}
 
 pub path_cmp_total : IsTotalOrder path_cmp
 path_cmp_total = then_total (on_total (λ p. p.rank) nat_cmp_total) (then_total (on_total (λ p. p.folder) nat_list_cmp_total) (on_total (λ p. p.name) nat_list_cmp_total))
@@ -25,6 +25,6 @@ path_cmp-IsAntisymmetric x y h =
     let name = bytes_exact x.name y.name q.1 in
     λ i. record { rank = rank i; folder = folder i; name = name i }
 
--- a path as a number and two lists
+-- a path encoded as a number and two lists
 abbrev pub coded_path : Coded PathParts
 coded_path = code_by (ℕ × (List ℕ × List ℕ)) (coded× coded_ℕ (coded× (coded_list coded_ℕ) (coded_list coded_ℕ))) (λ p. (p.rank, (p.folder, p.name))) (λ t. record { rank = t.0; folder = t.1.0; name = t.1.1 }) (λ _. refl)

@@ -1,16 +1,17 @@
 -- Paths of the unit load path, their texts and their order.
--- Source (directories and their order): systemd.unit(5), "Unit File Load Path", four of its directories. Limits, faults and the order of paths are this project's own.
-use Rattle.std.specs.Prelude.{ℕ, ◌+◌, ◌==◌, ◌<◌, ◌≡◌, Bool, not, ◌&&◌, ◌||◌, nat_lt, nat_le, nat_eq, if◌then◌else◌, List, [], ◌∷◌, ◌++◌, length, drop, codes, Option, Some, None, unwrap_or, slice_get, Result, Ok, Err, IsTrue}
-use Rattle.std.specs.List.{slice_split, starts_with, list_all}
-use Rattle.std.specs.Option.{option_map_or}
-use Rattle.std.specs.Str.{bytes_eq}
-use Rattle.std.specs.Ordering.{nat_cmp, ordering_then}
+-- Source (directories and their order): systemd.unit(5), "Unit File Load Path", four of its directories. Limits, faults
+-- and the order of paths are this project's own.
+use Rattle.std.proofs.Common.{[], ◌&&◌, ◌++◌, ◌+◌, ◌<◌, ◌==◌, ◌||◌, ◌∷◌, ◌≡◌, Bool, codes, drop, Err, if◌then◌else◌, IsTrue, length, List, nat_le, nat_lt, None, not, Ok, Option, Result, slice_get, Some, unwrap_or, ℕ}
 use Rattle.std.specs.Cmp.Lexicographic.{slice_cmp}
+use Rattle.std.specs.List.{list_all, slice_split, starts_with}
+use Rattle.std.specs.Option.{option_map_or}
+use Rattle.std.specs.Ordering.{nat_cmp, ordering_then}
+use Rattle.std.specs.Prelude.{nat_eq}
+use Rattle.std.specs.Str.{bytes_eq}
 use Rattle.std.specs.declared.cmp.Ordering.{Ordering}
-use Rattle.load_path.specs.declared.paths.PathFault.{PathFault}
-use Rattle.load_path.specs.declared.paths.PathFault.TheVariants.{Directory, Depth, Component}
+use Rattle.load_path.specs.{declared.paths.PathFault.PathFault, declared.paths.PathFault.TheVariants.Component, declared.paths.PathFault.TheVariants.Depth, declared.paths.PathFault.TheVariants.Directory}
 
--- the rank of its directory, its folder (empty where it has one component alone), and its name
+-- the rank of the directory, the folder (empty if the path has only one component), and the name
 pub record PathParts : Type 0 where
   pub rank : ℕ
   pub folder : List ℕ
@@ -28,44 +29,44 @@ directory_of rank = unwrap_or (slice_get directories rank) []
 abbrev pub has_folder : PathParts → Bool
 has_folder path = nat_lt 0 (length path.folder)
 
--- how a path is written
+-- the text of a path
 unfoldable pub text_of : PathParts → List ℕ
 text_of path = directory_of path.rank ++ 47 ∷ ((if has_folder path then path.folder ++ 47 ∷ [] else []) ++ path.name)
 
--- printable ASCII but the slash, which separates components
+-- printable ASCII other than the slash, which separates components
 abbrev pub is_component_byte : ℕ → Bool
 is_component_byte b = nat_le 33 b && nat_le b 126 && not (b == 47)
 
--- one or two dots alone
+-- exactly one or two dots
 abbrev pub is_dots : List ℕ → Bool
 is_dots bytes = bytes_eq bytes (codes ".") || bytes_eq bytes (codes "..")
 
--- one component of a path: 1 to 255 such bytes that aren't one or two dots alone
+-- one component of a path: 1 to 255 such bytes, but not exactly one or two dots
 abbrev pub is_component : List ℕ → Bool
 is_component bytes = nat_lt 0 (length bytes) && nat_le (length bytes) 255 && list_all is_component_byte bytes && not (is_dots bytes)
 
--- the parts of a path: a directory of the load path, a component or no folder, and a component
+-- valid parts of a path: a directory of the load path, a component or no folder, and a component
 pub record IsPath (path : PathParts) : Type 0 where
   pub directory : path.rank < 4
   pub folder : IsTrue (not (has_folder path) || is_component path.folder)
   pub name : IsTrue (is_component path.name)
 
--- what stands behind a directory and a slash, where a text begins with these
+-- the text after a directory and a slash, if the text begins with these
 unfoldable pub below_directory : List ℕ → List ℕ → Option (List ℕ)
 below_directory directory text =
     if starts_with nat_eq text (directory ++ 47 ∷ []) then Some (drop (length directory + 1) text) else None
 
--- the rank of the first of these directories that a text begins with, and what stands below it
+-- the rank of the first of these directories that the text begins with, and the text below it
 abbrev pub located_from : ℕ → List (List ℕ) → List ℕ → Option (ℕ × List ℕ)
 located_from rank [] text = None
 located_from rank (directory ∷ rest) text =
     option_map_or (λ below. Some (rank, below)) (below_directory directory text) (located_from (rank + 1) rest text)
 
--- the rank of the directory that a text begins with, and what stands below it
+-- the rank of the directory that the text begins with, and the text below it
 unfoldable pub located : List ℕ → Option (ℕ × List ℕ)
 located text = located_from 0 directories text
 
--- the path of one or two components, or what is wrong with them
+-- the path with one or two components, or the fault in them
 abbrev pub path_below : ℕ → List (List ℕ) → Result PathParts PathFault
 path_below rank [] = Err Depth
 path_below rank (name ∷ []) =
@@ -74,24 +75,24 @@ path_below rank (folder ∷ name ∷ []) =
     if is_component folder && is_component name then Ok (record { rank = rank; folder = folder; name = name }) else Err Component
 path_below rank (first ∷ second ∷ third ∷ rest) = Err Depth
 
--- where components are cut
+-- where a text is split into components
 abbrev pub is_slash : ℕ → Bool
 is_slash b = b == 47
 
--- the path of what was located
+-- the path of a text whose directory is known
 abbrev pub path_within : Option (ℕ × List ℕ) → Result PathParts PathFault
 path_within None = Err Directory
 path_within (Some (rank, rest)) = path_below rank (slice_split is_slash rest)
 
--- the path that a text writes, or the first thing wrong with it
+-- the path that a text spells, or the first fault in it
 unfoldable pub path_of : List ℕ → Result PathParts PathFault
 path_of text = path_within (located text)
 
--- by rank, then by folder with none first, then by name
+-- by rank, then by folder with no folder first, then by name
 abbrev pub path_cmp : PathParts → PathParts → Ordering
 path_cmp x y = ordering_then (nat_cmp x.rank y.rank) (ordering_then (slice_cmp nat_cmp x.folder y.folder) (slice_cmp nat_cmp x.name y.name))
 
--- whatever lawful path is written is read back, and what is read is what was written
+-- parsing the text of a valid path gives that path, and the text of a parsed path is the text that was parsed
 pub record AreTheirTexts : Type 0 where
   pub read_back : (path : PathParts) → IsPath path → path_of (text_of path) ≡ Ok path
   pub written_back : (text : List ℕ) (path : PathParts) → path_of text ≡ Ok path → (text_of path ≡ text) × IsPath path

@@ -1,22 +1,22 @@
--- Laws of the texts of paths: where a text is cut, and that each path and its text give each other.
-use Rattle.std.specs.Prelude.{◌≡◌, ◌≢◌, ℕ, zero, suc, ◌+◌, ◌<◌, true, false, not, ◌&&◌, ◌||◌, nat_eq, nat_lt, nat_le, if◌then◌else◌, List, [], ◌∷◌, ◌++◌, length, drop, Option, Some, None, unwrap_or, slice_get, Ok, refl}
-use Rattle.std.specs.List.{slice_split, onto_first, starts_with, list_all, join_with_byte}
-use Rattle.std.specs.Option.{option_map_or}
-use Rattle.std.proofs.Common.{sym, ap, subst, ◌∙◌, ⊎_elim, arith, append_assoc}
-use Rattle.std.proofs.lemmas.Bool.{cases_Bool, cond-true, cond-false, not-true, and_parts, and_from, or_right, or_cases, both_ways, lt-ltb}
+-- Laws of the texts of paths: where a text is split, and that paths and texts determine each other.
+use Rattle.std.proofs.Common.{[], ◌&&◌, ◌++◌, ◌+◌, ◌<◌, ◌||◌, ◌∙◌, ◌∷◌, ◌≡◌, ◌≢◌, ap, append_assoc, arith, drop, false, if◌then◌else◌, length, List, nat_le, nat_lt, None, not, Ok, Option, refl, slice_get, Some, subst, suc, sym, true, unwrap_or, zero, ℕ, ⊎_elim}
+use Rattle.std.proofs.lemmas.Bool.{and_from, and_parts, both_ways, cases_Bool, cond-false, cond-true, lt-ltb, not-true, or_cases, or_right}
 use Rattle.std.proofs.lemmas.Bool.Decides.{Decides-eqb}
 use Rattle.std.proofs.lemmas.List.{drop_at, length_push}
-use Rattle.std.proofs.lemmas.List.Splits.{slice_split-cons_no, join_with_byte-slice_split}
+use Rattle.std.proofs.lemmas.List.Splits.{join_with_byte-slice_split, slice_split-cons_no}
 use Rattle.std.proofs.lemmas.Slice.Eq.{starts_is}
-use Rattle.load_path.specs.Paths.{PathParts, IsPath, AreTheirTexts, below_directory, directories, directory_of, is_component, is_component_byte, is_slash, located, located_from, path_below, path_of, path_within, text_of}
+use Rattle.std.specs.List.{join_with_byte, list_all, onto_first, slice_split, starts_with}
+use Rattle.std.specs.Option.{option_map_or}
+use Rattle.std.specs.Prelude.{nat_eq}
+use Rattle.load_path.specs.Paths.{AreTheirTexts, below_directory, directories, directory_of, is_component, is_component_byte, is_slash, IsPath, located, located_from, path_below, path_of, path_within, PathParts, text_of}
 
--- what stands behind a directory and a slash
+-- the text after a directory and a slash
 pub below_at : (directory text rest : List ℕ) → text ≡ directory ++ 47 ∷ rest → below_directory directory text ≡ Some rest
 unfolding below_directory
 below_at directory text rest e =
-    let front = e ∙ sym (append_assoc directory (47 ∷ []) rest) in
-    let begins = (starts_is Decides-eqb text (directory ++ 47 ∷ []) (starts_with nat_eq text (directory ++ 47 ∷ [])) refl).1 rest front in
-    cond-true _ _ _ begins ∙ ap (λ t. Some (drop (length directory + 1) t)) front ∙ ap Some (drop_at (directory ++ 47 ∷ []) rest _ (length_push directory 47))
+    let prefix = e ∙ sym (append_assoc directory (47 ∷ []) rest) in
+    let begins = (starts_is Decides-eqb text (directory ++ 47 ∷ []) (starts_with nat_eq text (directory ++ 47 ∷ [])) refl).1 rest prefix in
+    cond-true _ _ _ begins ∙ ap (λ t. Some (drop (length directory + 1) t)) prefix ∙ ap Some (drop_at (directory ++ 47 ∷ []) rest _ (length_push directory 47))
 
 pub below_none : (directory text : List ℕ) → ((rest : List ℕ) → text ≢ directory ++ 47 ∷ rest) → below_directory directory text ≡ None
 unfolding below_directory
@@ -29,16 +29,16 @@ below_none directory text apart =
 below_sound : (directory text rest : List ℕ) → below_directory directory text ≡ Some rest → text ≡ directory ++ 47 ∷ rest
 unfolding below_directory
 below_sound directory text rest e =
-    let front = starts_is Decides-eqb text (directory ++ 47 ∷ []) (starts_with nat_eq text (directory ++ 47 ∷ [])) refl in
+    let prefix = starts_is Decides-eqb text (directory ++ 47 ∷ []) (starts_with nat_eq text (directory ++ 47 ∷ [])) refl in
     ⊎_elim
     (λ begins.
     let same : Some (drop (length directory + 1) text) ≡ Some rest = sym (cond-true _ _ _ begins) ∙ e in
     let rest_is : drop (length directory + 1) text ≡ rest = cc in
-    front.0 begins ∙ append_assoc directory (47 ∷ []) _ ∙ ap (λ t. directory ++ 47 ∷ t) (ap (λ n. drop n text) (length_push directory 47) ∙ rest_is))
+    prefix.0 begins ∙ append_assoc directory (47 ∷ []) _ ∙ ap (λ t. directory ++ 47 ∷ t) (ap (λ n. drop n text) (length_push directory 47) ∙ rest_is))
     (λ other. let same : None ≡ Some rest = sym (cond-false _ _ _ other) ∙ e in cc)
     (cases_Bool (starts_with nat_eq text (directory ++ 47 ∷ [])))
 
--- one directory after another
+-- the directories are tried one after the other
 pub located-start : (text : List ℕ) → located_from 0 directories text ≡ located text
 unfolding located
 located-start text = refl
@@ -62,7 +62,7 @@ located_later rank text lt e =
     located_from-at rank text lt
     ∙ ap (λ o. option_map_or (λ b. Some (rank, b)) o (located_from (rank + 1) (drop (rank + 1) directories) text)) e
 
--- each text below a directory is located there
+-- every text below a directory is located there
 pub located_at : (rank : ℕ) (rest : List ℕ) → rank < 4 → located (directory_of rank ++ 47 ∷ rest) ≡ Some (rank, rest)
 unfolding located below_directory
 located_at zero rest lt = refl
@@ -89,7 +89,7 @@ found_in from [] text rank below e = cc (e)
 found_in from (directory ∷ rest) text rank below e =
     found_first from rest directory text rank below (below_directory directory text) refl (λ h. found_in (from + 1) rest text rank below h) e
 
--- what is located is the text
+-- the located directory and the text below it are the whole text
 pub located_sound : (text : List ℕ) (rank : ℕ) (below : List ℕ) → located text ≡ Some (rank, below) → (rank < 4) × (text ≡ directory_of rank ++ 47 ∷ below)
 unfolding located
 located_sound text rank below e =
@@ -97,7 +97,7 @@ located_sound text rank below e =
     let rank_is : rank ≡ found.0 = omega (arith, found.2) in
     (omega (arith, found.1), found.3 ∙ ap (λ n. directory_of n ++ 47 ∷ below) (sym rank_is))
 
--- a component is nowhere cut
+-- a component contains no slash
 clean_byte : (b : ℕ) → is_component_byte b ≡ true → is_slash b ≡ false
 clean_byte b h = not-true (is_slash b) (and_parts (nat_le 33 b && nat_le b 126) (not (is_slash b)) h).1
 
@@ -116,7 +116,7 @@ cut_once (b ∷ folder) rest h =
 clean : (bytes : List ℕ) → is_component bytes ≡ true → list_all is_component_byte bytes ≡ true
 clean bytes h = (and_parts _ _ (and_parts _ _ h).0).1
 
--- what a path's text has below its directory
+-- the part of a path's text below its directory
 abbrev below_of : List ℕ → List ℕ → List ℕ
 below_of folder name = (if nat_lt 0 (length folder) then folder ++ 47 ∷ [] else []) ++ name
 
@@ -135,7 +135,7 @@ read_back : (path : PathParts) → IsPath path → path_of (text_of path) ≡ Ok
 unfolding path_of text_of
 read_back path h = ap path_within (located_at path.rank (below_of path.folder path.name) h.directory) ∙ read_below path.rank path.folder path.name h.folder h.name
 
--- the one or two components are what stands below the directory
+-- one or two components joined are the text below the directory
 abbrev IsWritten : ℕ → List ℕ → PathParts → Type 0
 IsWritten rank below path = (below_of path.folder path.name ≡ below) × (path.rank ≡ rank) × (rank < 4 → IsPath path)
 
@@ -181,6 +181,6 @@ written_back : (text : List ℕ) (path : PathParts) → path_of text ≡ Ok path
 unfolding path_of
 written_back text path h = written_within text path (located text) refl h
 
--- each path and its text give each other
+-- paths and texts determine each other
 pub are_their_texts : AreTheirTexts
 are_their_texts = record { read_back = read_back; written_back = written_back }

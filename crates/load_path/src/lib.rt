@@ -1,7 +1,10 @@
-//! Paths of the unit load path, in a directory and perhaps a folder (systemd.unit(5), "Unit File Load Path"). They are
-//! read from their texts or refused by name, and stand in order.
+//! Paths of the systemd unit load path (systemd.unit(5), "Unit File Load Path"): a directory, an optional folder, and a
+//! name. A text is parsed into a path or refused with a named fault, and paths have a total order.
 //!
 //! Promise: refusals are named.
+//!
+//! `Path` is a parsed path, with `Path::parse` and access to its parts; `PathFault` says why a text was refused.
+//! `paths_are_their_texts` is the law that parsing and printing are inverses of each other.
 #![tactic(auto)]
 
 mod laws;

@@ -1,4 +1,4 @@
-//! Where a content stands.
+//! Paths and their parts.
 ghost use Rattle.std.specs.Prelude.{◌≡◌, ◌<◌, ◌⊎◌, ◌||◌, ◌++◌, not, length, Err, IsErr, IsTrue, IfOk, OnOk, OnErr};
 ghost use Rattle.load_path.specs.Paths.{directory_of, has_folder, is_component, path_of, text_of, IsPath};
 
@@ -8,31 +8,31 @@ use std::alloc::{AllocError, Global};
 use std::marker::Model;
 use thiserror::Error;
 
-/// The most bytes of one component of a path.
+/// The most bytes in one component of a path.
 pub const COMPONENT_LIMIT: usize = 255;
 
-/// Why a text is no path. A text that is refused leaves nothing behind.
+/// Why a text isn't a path. A refused text leaves nothing behind.
 #[derive(Clone, Copy, Debug, PartialEq, Eq, Error)]
 pub enum PathFault {
-    /// F1: it does not begin with a directory of the load path and a slash.
+    /// F1: the text doesn't begin with a directory of the load path and a slash.
     #[error("F1 Directory")]
     Directory,
-    /// F2: over two components stand behind the directory.
+    /// F2: more than two components follow the directory.
     #[error("F2 Depth")]
     Depth,
-    /// F3: a component is `.`, `..` or empty, has over 255 bytes, or has one outside 33 to 126.
+    /// F3: a component is empty, `.` or `..`, has more than 255 bytes, or has a byte outside 33 to 126.
     #[error("F3 Component")]
     Component,
-    /// Memory was refused.
+    /// Memory ran out.
     #[error("out of memory")]
     Memory,
 }
 
-/// A path of the unit load path (systemd.unit(5), "Unit File Load Path"): a directory and one or
-/// two components, as `/etc/systemd/system/x.service.d/10.conf`.
+/// A path of the unit load path (systemd.unit(5), "Unit File Load Path"): a directory and one or two components, as
+/// `/etc/systemd/system/x.service.d/10.conf`.
 ///
-/// Paths are ordered by the rank of their directory, those of one component before those of two,
-/// then by folder and name.
+/// Paths are ordered by the rank of their directory; then those with one component come before those with two; then by
+/// folder and name.
 #[derive(Debug, PartialEq, Eq, PartialOrd, Ord, Drop)]
 pub struct Path {
     rank: u8,
@@ -53,8 +53,8 @@ impl Model for Path {
 }
 
 impl Path {
-    /// Reads a path. A text is refused as `Directory`, `Depth` or `Component`, in this order, and
-    /// as `Memory` only where it is a path. Linear in the text.
+    /// Parses a path. The faults are `Directory`, `Depth` and `Component`, checked in this order, and `Memory` if
+    /// memory runs out, which happens only for a valid path. Linear in the text.
     pub fn parse(alloc: Global, text: &[u8]) -> Result<Path, PathFault>
         ensures parsed { (result ≡ Err PathFault.Memory) ⊎ (result ≡ path_of text.now) }
         ensures faults { IsErr (path_of text.now) → result ≡ path_of text.now }
@@ -63,7 +63,7 @@ impl Path {
         Path::of(alloc, &parts).map_err(|_| PathFault::Memory)
     }
 
-    /// The path of these parts, in bytes of its own.
+    // Makes a path of these parts, with its own copy of the bytes.
     fn of(alloc: Global, parts: &Parts) -> Result<Path, AllocError>
         ensures path { IfOk result (λ path. path ≡ parts.now) }
     {
@@ -74,8 +74,8 @@ impl Path {
         })
     }
 
-    /// The rank of its directory: 0 for `/etc`, 1 for `/run`, 2 for `/usr/local/lib`, 3 for
-    /// `/usr/lib`. A lesser rank overrides a greater one. It takes no memory.
+    /// Returns the rank of the directory: 0 for `/etc`, 1 for `/run`, 2 for `/usr/local/lib`, 3 for `/usr/lib`. A
+    /// lesser rank overrides a greater one. Allocates nothing.
     pub fn rank(&self) -> u8
         ensures rank { result ≡ self.now.rank }
         ensures within { result < 4 }
@@ -83,14 +83,14 @@ impl Path {
         self.rank
     }
 
-    /// The bytes of its directory, without a slash at the end. It takes no memory.
+    /// Returns the path of the directory, without a trailing slash. Allocates nothing.
     pub fn dir(&self) -> &'static [u8]
         ensures directory { result.now ≡ directory_of self.now.rank }
     {
         directory(self.rank)
     }
 
-    /// The folder below its directory, empty where it has one component alone. It takes no memory.
+    /// Returns the folder below the directory, or an empty slice if the path has only one component. Allocates nothing.
     pub fn folder(&self) -> &[u8]
         ensures folder { result.now ≡ self.now.folder }
         ensures component { IsTrue (not (has_folder self.now) || is_component self.now.folder) }
@@ -98,7 +98,7 @@ impl Path {
         self.folder.as_slice()
     }
 
-    /// The last component. It takes no memory.
+    /// Returns the last component. Allocates nothing.
     pub fn name(&self) -> &[u8]
         ensures name { result.now ≡ self.now.name }
         ensures component { IsTrue (is_component self.now.name) }
@@ -106,7 +106,7 @@ impl Path {
         self.name.as_slice()
     }
 
-    /// The rank of its directory, its folder and its name, lent. It takes no memory.
+    /// Returns the rank of the directory, and borrows the folder and the name. Allocates nothing.
     pub fn parts(&self) -> (u8, &Bytes, &Bytes)
         ensures rank { result.0 ≡ self.now.rank }
         ensures folder { result.1.now ≡ self.now.folder }
@@ -115,24 +115,24 @@ impl Path {
         (self.rank, &self.folder, &self.name)
     }
 
-    /// The rank of its directory, its folder and its name, given out. It takes no memory.
+    /// Returns the rank of the directory, and the folder and the name by value. Allocates nothing.
     pub fn into_parts(self) -> (u8, Bytes, Bytes)
         ensures parts { record { rank = result.0; folder = result.1; name = result.2 } ≡ self }
-        ensures lawful { IsPath self }
+        ensures well_formed { IsPath self }
     {
         let Path { rank, folder, name } = self;
         (rank, folder, name)
     }
 
-    /// The path of these parts. It takes no memory.
+    /// Makes a path of these parts. Allocates nothing.
     pub fn from_parts(rank: u8, folder: Bytes, name: Bytes) -> Path
-        requires lawful { IsPath (record { rank = rank; folder = folder; name = name }) }
+        requires well_formed { IsPath (record { rank = rank; folder = folder; name = name }) }
         ensures path { result ≡ record { rank = rank; folder = folder; name = name } }
     {
         Path { rank, folder, name }
     }
 
-    /// Appends the text of the path. Where memory is refused, nothing is appended.
+    /// Appends the text of the path to `out`. If memory runs out, nothing is appended.
     #[tactic(auto, unfolding(crate::specs::Paths::text_of))]
     pub fn append_to(&self, out: &mut Vec<u8>) -> Result<(), AllocError>
         ensures ok { OnOk result (out.new.items ≡ out.old.items ++ text_of self.now) }
@@ -152,7 +152,7 @@ impl Path {
         out.extend_from_slice(name)
     }
 
-    /// An equal path, which shares its bytes. It fails for want of memory alone.
+    /// Returns an equal path that shares its bytes. Fails only if memory runs out.
     pub fn try_clone(&self) -> Result<Path, AllocError>
         ensures copy { IfOk result (λ copy. copy ≡ self.now) }
     {

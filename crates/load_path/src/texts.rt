@@ -1,4 +1,4 @@
-//! The parts of a path where they stand in its text.
+//! The parts of a path within its text.
 ghost use Rattle.std.specs.{Prelude.{◌≡◌, ◌<◌, [], ◌∷◌, option_map, position}, List.{list_all, slice_split}};
 ghost use Rattle.std.specs.Option.{option_map_or, option_copied};
 ghost use Rattle.load_path.specs.Paths.{directory_of, below_directory, is_component, is_component_byte, is_dots, is_slash, located, path_below, path_of};
@@ -6,7 +6,7 @@ ghost use Rattle.load_path.specs.Paths.{directory_of, below_directory, is_compon
 use crate::paths::{COMPONENT_LIMIT, PathFault};
 use std::marker::Model;
 
-/// The parts of a path, lent by its text.
+/// The parts of a path, borrowed from its text.
 #[derive(Drop)]
 pub(crate) struct Parts<'a> {
     pub(crate) rank: u8,
@@ -25,7 +25,7 @@ impl<'a> Model for Parts<'a> {
 }
 
 impl<'a> Parts<'a> {
-    /// The parts of a text, or the first thing wrong with it.
+    /// Returns the parts of a text, or the first fault in it.
     pub(crate) fn of(text: &'a [u8]) -> Result<Parts<'a>, PathFault>
         ensures parts { result ≡ path_of text.now }
     {
@@ -35,23 +35,23 @@ impl<'a> Parts<'a> {
         }
     }
 
-    /// The parts of what stands below a directory.
+    // Returns the parts of a path, given the text below its directory.
     fn below(rank: u8, below: &'a [u8]) -> Result<Parts<'a>, PathFault>
         requires within { rank < 4 }
         ensures parts { result ≡ path_below rank (slice_split is_slash below.now) }
     {
-        let (first, behind) = cut(below);
-        let Some(behind) = behind else {
+        let (first, after) = cut(below);
+        let Some(after) = after else {
             return Parts::of_one(rank, first);
         };
-        let (second, further) = cut(behind);
+        let (second, further) = cut(after);
         if further.is_some() {
             return Err(PathFault::Depth);
         }
         Parts::of_two(rank, first, second)
     }
 
-    /// The parts of a path of one component.
+    // Returns the parts of a path with one component.
     fn of_one(rank: u8, name: &'a [u8]) -> Result<Parts<'a>, PathFault>
         requires within { rank < 4 }
         ensures parts { result ≡ path_below rank (name.now ∷ []) }
@@ -66,7 +66,7 @@ impl<'a> Parts<'a> {
         })
     }
 
-    /// The parts of a path of two components.
+    // Returns the parts of a path with two components.
     fn of_two(rank: u8, folder: &'a [u8], name: &'a [u8]) -> Result<Parts<'a>, PathFault>
         requires within { rank < 4 }
         ensures parts { result ≡ path_below rank (folder.now ∷ name.now ∷ []) }
@@ -78,7 +78,7 @@ impl<'a> Parts<'a> {
     }
 }
 
-/// The directory of a rank.
+/// Returns the directory of a rank.
 pub(crate) fn directory(rank: u8) -> &'static [u8]
     requires within { rank < 4 }
     ensures directory { result.now ≡ directory_of rank }
@@ -91,26 +91,26 @@ pub(crate) fn directory(rank: u8) -> &'static [u8]
     }
 }
 
-/// The rank of the directory that a text begins with, and what stands behind it and a slash.
+// Returns the rank of the directory that a text begins with, and the text after that directory and a slash.
 fn located_in(text: &[u8]) -> Option<(u8, &[u8])>
     ensures located { option_map (λ found. (found.0, found.1.now)) result ≡ located text.now }
 {
     for rank in 0..4 {
-        if let Some(below) = behind_directory(text, directory(rank)) {
+        if let Some(below) = after_directory(text, directory(rank)) {
             return Some((rank, below));
         }
     }
     None
 }
 
-/// What stands behind a directory and a slash, where a text begins with these.
-fn behind_directory<'a>(text: &'a [u8], directory: &[u8]) -> Option<&'a [u8]>
+// Returns the text after `directory` and a slash, if the text begins with these.
+fn after_directory<'a>(text: &'a [u8], directory: &[u8]) -> Option<&'a [u8]>
     ensures below { option_copied result ≡ below_directory directory.now text.now }
 {
     text.strip_prefix(directory)?.strip_prefix(b"/")
 }
 
-/// What stands before the first slash, and what stands behind it.
+// Splits bytes at the first slash, which is dropped.
 fn cut(bytes: &[u8]) -> (&[u8], Option<&[u8]>)
     ensures parts { slice_split is_slash bytes.now
         ≡ result.0.now ∷ option_map_or (λ rest. slice_split is_slash rest.now) result.1 [] }
@@ -121,14 +121,14 @@ fn cut(bytes: &[u8]) -> (&[u8], Option<&[u8]>)
     }
 }
 
-/// Where the first slash stands.
+// Returns the index of the first slash.
 fn first_slash(bytes: &[u8]) -> Option<usize>
     ensures position { result ≡ position is_slash bytes.now }
 {
     bytes.iter().position(|b| *b == b'/')
 }
 
-/// Whether bytes are a component of a path.
+// Returns whether bytes are a component of a path.
 fn is_a_component(bytes: &[u8]) -> bool
     ensures component { result ≡ is_component bytes.now }
 {
@@ -138,14 +138,14 @@ fn is_a_component(bytes: &[u8]) -> bool
         && !is_one_or_two_dots(bytes)
 }
 
-/// Whether each byte may stand in a component.
+// Returns whether every byte is allowed in a component.
 fn has_component_bytes(bytes: &[u8]) -> bool
     ensures all { result ≡ list_all is_component_byte bytes.now }
 {
     bytes.iter().all(|&b| matches!(b, 33..=126) && b != b'/')
 }
 
-/// Whether bytes are one or two dots alone.
+// Returns whether bytes are exactly one or two dots.
 fn is_one_or_two_dots(bytes: &[u8]) -> bool
     ensures dots { result ≡ is_dots bytes.now }
 {

@@ -1,10 +1,11 @@
--- Laws of levels: lesser ones come first.
-use Rattle.std.proofs.Common.{◌≡◌, ℕ, zero, suc, ◌<◌, ◌≤◌, Option, Some, None, drop, get_or, refl, ap, sym, ◌∙◌, arith}
-use Rattle.std.specs.Prelude.{◌↔◌}
+-- Laws of levels: lesser ones come first, and which places have the lesser ones.
+use Rattle.std.proofs.Common.{◌+◌, ◌<◌, ◌↔◌, ◌∙◌, ◌≡◌, ◌≤◌, ◌⊎◌, ap, arith, Bool, cond, drop, false, get_or, inl, inr, IsSome, List, None, Option, refl, Some, subst, suc, sym, true, zero, ℕ}
+use Rattle.std.proofs.lemmas.Option.{same_Some}
+use Rattle.std.proofs.lemmas.Slice.Eq.{bytes_eq-Decides}
 use Rattle.std.specs.Option.{option_or}
-use Rattle.list_laws.specs.FirstSaid.{first_said, first_is, none_says}
-use Rattle.list_laws.specs.FirstLaws.{BothSay, said_from, all_silent, place_decides, both_decide}
-use Rattle.load_places.specs.Levels.{IsLevel, levels, first_level}
+use Rattle.std.specs.Str.{bytes_eq}
+use Rattle.load_places.specs.Prelude.{all_undefined, both_decide, BothSay, first_is, first_said, none_says, place_decides, said_from}
+use Rattle.load_places.specs.{declared.places.Scope.Scope, declared.places.Scope.TheVariants.Fleet, declared.places.Scope.TheVariants.Host, Levels.first_level, Levels.IsLevel, Levels.level_for, Levels.level_in, Levels.levels, Levels.Viewer, Places.PlaceParts}
 
 -- each level stands at its own place in the list
 abbrev pub LevelsAreNumbered : Type 0
@@ -15,8 +16,39 @@ abbrev pub LeastLevelDecides : Type 0 → Type 0
 LeastLevelDecides B = (f : ℕ → Option B) (l : ℕ) (c : B) → IsLevel l → f l ≡ Some c → ((k : ℕ) → k < l → f k ≡ None) → first_level f ≡ Some c
 
 -- nothing is said just where no level says anything
-abbrev pub SilenceIsEverywhere : Type 0 → Type 0
-SilenceIsEverywhere B = (f : ℕ → Option B) → (first_level f ≡ None) ↔ ((l : ℕ) → IsLevel l → f l ≡ None)
+abbrev pub UndefinedEverywhere : Type 0 → Type 0
+UndefinedEverywhere B = (f : ℕ → Option B) → (first_level f ≡ None) ↔ ((l : ℕ) → IsLevel l → f l ≡ None)
+
+-- ---- which places come first
+
+-- what is in a scope is looked at: the fleet's always, and a host's where that very host looks
+abbrev pub IsLookedAt : Viewer → Scope → Type 0
+IsLookedAt host scope = (scope ≡ Fleet) ⊎ ((name : List ℕ) × (host ≡ Some name) × (scope ≡ Host name))
+
+-- those places have a level, and no others: none of another host's has one, nor any host's where no host looks
+abbrev pub PlacesLookedAtHaveLevels : Type 0
+PlacesLookedAtHaveLevels = (host : Viewer) (place : PlaceParts) → IsSome (level_for host place) ↔ IsLookedAt host place.scope
+
+-- in the directories of the load path it is one of the levels
+abbrev pub LevelsOfDirectories : Type 0
+LevelsOfDirectories = (host : Viewer) (place : PlaceParts) (level : ℕ) → place.path.rank < 4 → level_for host place ≡ Some level
+    → IsLevel level
+
+-- a place in a directory of a lesser rank goes before each of a greater rank, so the fleet's too before a host's own
+abbrev pub LesserRanksGoFirst : Type 0
+LesserRanksGoFirst = (host : Viewer) (p q : PlaceParts) (a b : ℕ) → p.path.rank < q.path.rank
+    → level_for host p ≡ Some a → level_for host q ≡ Some b → a < b
+
+-- a host's own place goes before the fleet's in the directory of the same rank
+abbrev pub OwnPlacesGoFirst : Type 0
+OwnPlacesGoFirst =
+    (host : Viewer) (own fleets : PlaceParts) (name : List ℕ) (a b : ℕ) → own.scope ≡ Host name → fleets.scope ≡ Fleet
+    → own.path.rank ≡ fleets.path.rank → level_for host own ≡ Some a → level_for host fleets ≡ Some b → a < b
+
+-- what stands in a scope in one directory has one level, whatever its folder and name
+abbrev pub DirectoriesHaveOneLevel : Type 0
+DirectoriesHaveOneLevel = (host : Viewer) (p q : PlaceParts) → p.scope ≡ q.scope → p.path.rank ≡ q.path.rank
+    → level_for host p ≡ level_for host q
 
 pub level_is : LevelsAreNumbered
 level_is zero other h = refl
@@ -38,10 +70,10 @@ pub none_said : {B : Type 0} (f : ℕ → Option B) → first_level f ≡ None �
 none_said f h l within = ap f (sym (level_is l 0 within)) ∙ none_says f levels 0 h l within
 
 pub all_none : {B : Type 0} (f : ℕ → Option B) → ((l : ℕ) → IsLevel l → f l ≡ None) → first_level f ≡ None
-all_none f none = all_silent f levels 0 (λ l within. ap f (level_is l 0 within) ∙ none l within)
+all_none f none = all_undefined f levels 0 (λ l within. ap f (level_is l 0 within) ∙ none l within)
 
-pub silence_is_everywhere : (B : Type 0) → SilenceIsEverywhere B
-silence_is_everywhere B f = (none_said f, all_none f)
+pub undefined_everywhere : (B : Type 0) → UndefinedEverywhere B
+undefined_everywhere B f = (none_said f, all_none f)
 
 -- an answer comes from one of the levels
 pub said_by : {B : Type 0} (f : ℕ → Option B) (c : B) → first_level f ≡ Some c → (l : ℕ) × IsLevel l × (f l ≡ Some c)
@@ -69,3 +101,67 @@ said_there f l x w h e i = sym (next_level f l h ∙ ap (λ o. option_or o (firs
 -- where a level says nothing, what is found is found from the next one on
 pub passed_over : {B : Type 0} (f : ℕ → Option B) (l m : ℕ) (w : Option B) → IsLevel l → m ≡ suc l → f l ≡ None → first_said f (drop l levels) ≡ w → first_said f (drop m levels) ≡ w
 passed_over f l m w h t e i = ap (λ k. first_said f (drop k levels)) t ∙ sym (next_level f l h ∙ ap (λ o. option_or o (first_said f (drop (suc l) levels))) e) ∙ i
+
+-- ---- places
+
+-- a host's places have a level where their host looks
+own_level : (looks name : List ℕ) (rank a : ℕ) → level_in (Some looks) (Host name) rank ≡ Some a → (name ≡ looks) × (rank + rank ≡ a)
+own_level looks name rank a = by (bytes_eq name looks) refl
+  where
+    by : (b : Bool) → bytes_eq name looks ≡ b → cond b (Some (rank + rank)) None ≡ Some a → (name ≡ looks) × (rank + rank ≡ a)
+    by true t e = ((bytes_eq-Decides name looks).0 t, same_Some _ _ e)
+    by false t e = cc (e)
+
+-- a level is twice the rank, or one more
+near_rank : (host : Viewer) (scope : Scope) (rank a : ℕ) → level_in host scope rank ≡ Some a → (rank + rank ≤ a) × (a ≤ rank + rank + 1)
+near_rank host Fleet rank a e = let is = same_Some _ _ e in (omega (arith, is), omega (arith, is))
+near_rank None (Host name) rank a e = cc (e)
+near_rank (Some looks) (Host name) rank a e = let is = (own_level looks name rank a e).1 in (omega (arith, is), omega (arith, is))
+
+pub places_looked_at_have_levels : PlacesLookedAtHaveLevels
+places_looked_at_have_levels host place = by host place.scope
+  where
+    named : (looks name : List ℕ) → IsSome (level_in (Some looks) (Host name) place.path.rank) → name ≡ looks
+    named looks name = at (bytes_eq name looks) refl
+      where
+        at : (b : Bool) → bytes_eq name looks ≡ b → IsSome (cond b (Some (place.path.rank + place.path.rank)) None) → name ≡ looks
+        at true t is = (bytes_eq-Decides name looks).0 t
+        at false t is = cc (is)
+
+    by : (host : Viewer) (scope : Scope) → IsSome (level_in host scope place.path.rank) ↔ IsLookedAt host scope
+    by host Fleet = (λ _. inl refl, λ _. refl)
+    by None (Host name) = (λ is. cc (is), λ at. absurd (nobodys name at))
+      where
+        nobodys : (name : List ℕ) → IsLookedAt None (Host name) → ⊥
+        nobodys name (inl e) = cc (e)
+        nobodys name (inr (own, e, is)) = cc (e)
+    by (Some looks) (Host name) = (λ is. inr (looks, refl, ap Host (named looks name is)), λ at. own looks name at)
+      where
+        own : (looks name : List ℕ) → IsLookedAt (Some looks) (Host name) → IsSome (level_in (Some looks) (Host name) place.path.rank)
+        own looks name (inl e) = cc (e)
+        own looks name (inr (same, looked, is)) =
+            let e : name ≡ looks = cc (looked, is) in
+            subst (λ b. IsSome (cond b (Some (place.path.rank + place.path.rank)) None)) (sym ((bytes_eq-Decides name looks).1 e)) refl
+
+pub levels_of_directories : LevelsOfDirectories
+levels_of_directories host place level within is = let near = near_rank host place.scope place.path.rank level is in omega (arith, near.1)
+
+pub lesser_ranks_go_first : LesserRanksGoFirst
+lesser_ranks_go_first host p q a b lesser first second =
+    let near = near_rank host p.scope p.path.rank a first in
+    let far = near_rank host q.scope q.path.rank b second in
+    omega (arith, near.1, far.0)
+
+pub own_places_go_first : OwnPlacesGoFirst
+own_places_go_first host own fleets name a b its fleet same first second =
+    by host (sym (ap (λ (s : Scope). level_in host s own.path.rank) its) ∙ first)
+  where
+    after : b ≡ fleets.path.rank + fleets.path.rank + 1
+    after = sym (same_Some _ _ (sym (ap (λ (s : Scope). level_in host s fleets.path.rank) fleet) ∙ second))
+
+    by : (host : Viewer) → level_in host (Host name) own.path.rank ≡ Some a → a < b
+    by None e = cc (e)
+    by (Some looks) e = let is = (own_level looks name own.path.rank a e).1 in omega (arith, is, after, same)
+
+pub directories_have_one_level : DirectoriesHaveOneLevel
+directories_have_one_level host p q scope rank = (λ i. level_in host (scope i) (rank i))

@@ -1,34 +1,34 @@
--- The levels of places, and the first of them that says something.
--- Source: systemd.unit(5), "Unit File Load Path"; the word level, and that a host's directory goes before the fleet's of the same rank, is this project's own.
-use Rattle.std.specs.Prelude.{ℕ, ◌+◌, ◌<◌, List, [], ◌∷◌, Option, Some, None, if◌then◌else◌}
+-- The levels of places, and the first level that says something.
+-- Source: systemd.unit(5), "Unit File Load Path"; the word level, and that a host's directory comes before the fleet's
+-- of the same rank, is this project's own.
+use Rattle.std.proofs.Common.{[], ◌+◌, ◌<◌, ◌∷◌, if◌then◌else◌, List, None, Option, Some, ℕ}
 use Rattle.std.specs.Str.{bytes_eq}
-use Rattle.list_laws.specs.FirstSaid.{first_said}
-use Rattle.load_places.specs.Places.{PlaceParts}
-use Rattle.load_places.specs.declared.places.Scope.{Scope}
-use Rattle.load_places.specs.declared.places.Scope.TheVariants.{Fleet, Host}
+use Rattle.load_places.specs.Prelude.{first_said}
+use Rattle.load_places.specs.{declared.places.Scope.Scope, declared.places.Scope.TheVariants.Fleet, declared.places.Scope.TheVariants.Host, Places.PlaceParts}
 
--- the levels; each overrides those after it: for each rank a host's own directory, and then the fleet's
+-- The levels: for each rank a host's own directory, and then the fleet's. Each level overrides those after it.
 abbrev pub levels : List ℕ
 levels = 0 ∷ 1 ∷ 2 ∷ 3 ∷ 4 ∷ 5 ∷ 6 ∷ 7 ∷ []
 
--- a number that is one of them
+-- The number is one of the levels.
 abbrev pub IsLevel : ℕ → Type 0
 IsLevel level = level < 8
 
--- the name of the host that looks, if one does
-abbrev pub Looker : Type 0
-Looker = Option (List ℕ)
+-- The name of the host whose view it is, if it is for a host.
+abbrev pub Viewer : Type 0
+Viewer = Option (List ℕ)
 
--- the level of a scope's directory of a rank: without a host only the fleet's have one, and a host looks at its own too
-abbrev pub level_in : Looker → Scope → ℕ → Option ℕ
+-- The level of a scope's directory of a rank. Without a host only the fleet's directories have a level; with a host its
+-- own have one too.
+abbrev pub level_in : Viewer → Scope → ℕ → Option ℕ
 level_in host Fleet rank = Some (rank + rank + 1)
 level_in None (Host k) rank = None
 level_in (Some h) (Host k) rank = if bytes_eq k h then Some (rank + rank) else None
 
--- the level of a place, if it is looked at
-abbrev pub level_for : Looker → PlaceParts → Option ℕ
+-- The level of a place, if it is seen.
+abbrev pub level_for : Viewer → PlaceParts → Option ℕ
 level_for host place = level_in host place.scope place.path.rank
 
--- what the first level says that says anything
+-- What the first level says that says anything.
 abbrev pub first_level : {B : Type 0} → (ℕ → Option B) → Option B
 first_level says = first_said says levels

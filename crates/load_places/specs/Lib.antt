@@ -1,3 +1,4 @@
+pub mod Prelude
 pub mod Hosts
 pub mod Places
 pub mod PlaceLaws

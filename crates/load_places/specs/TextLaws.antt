@@ -1,19 +1,35 @@
--- Each place and its text give each other.
-use Rattle.std.specs.Prelude.{◌≡◌, ℕ, zero, suc, ◌+◌, ◌<◌, ◌==◌, true, false, nat_lt, List, [], ◌∷◌, ◌++◌, length, take, drop, position, Option, Some, None, Result, Ok, Err, refl}
-use Rattle.std.specs.List.{list_all, position_from}
-use Rattle.std.proofs.Common.{sym, ap, subst, ◌∙◌, ⊎_elim, arith, append_assoc, add-one}
-use Rattle.std.proofs.Math.Seq.{take-append_seam, drop-append-add}
-use Rattle.std.proofs.lemmas.Bool.{cases_Bool, cond-true, cond-false, and_parts}
+-- Each place and its text give each other; of a text that is no place, what is wrong with its host is told first.
+use Rattle.std.proofs.Common.{[], ◌++◌, ◌+◌, ◌<◌, ◌==◌, ◌∙◌, ◌∷◌, ◌≡◌, ◌≢◌, ◌⊎◌, add-one, ap, append_assoc, arith, Bool, drop, Err, false, inl, inr, is_err, IsTrue, length, List, nat_lt, None, Ok, Option, position, refl, Result, Some, subst, suc, sym, take, true, zero, ℕ, ⊎_elim}
+use Rattle.std.proofs.Math.Seq.{drop-append-add, take-append_seam}
+use Rattle.std.proofs.lemmas.Bool.{and_parts, cases_Bool, cond-false, cond-true, eqb-true, or_parts}
 use Rattle.std.proofs.lemmas.Bool.Decides.{nat_tests}
 use Rattle.std.proofs.lemmas.Iterator.Adapters.{position_from-zero}
-use Rattle.load_path.specs.Paths.{PathParts, IsPath, path_of, text_of}
-use Rattle.load_path.specs.TextLaws.{are_their_texts}
-use Rattle.load_path.specs.declared.paths.PathFault.{PathFault}
-use Rattle.load_places.specs.Hosts.{host_of, is_host, is_host_byte}
-use Rattle.load_places.specs.Places.{PlaceParts}
-use Rattle.load_places.specs.declared.places.Scope.{Scope}
-use Rattle.load_places.specs.declared.places.Scope.TheVariants.{Fleet, Host}
-use Rattle.load_places.specs.Texts.{AreTheirTexts, IsScope, host_end, in_scope_of, is_colon, of_host, place_cut, place_of, place_text}
+use Rattle.std.specs.List.{list_all, list_any, position_from}
+use Rattle.std.specs.Prelude.{IsErr}
+use Rattle.load_places.specs.Prelude.{are_their_texts, IsPath, path_of, PathFault, PathParts}
+use Rattle.load_places.specs.{declared.places.Scope.Scope, declared.places.Scope.TheVariants.Fleet, declared.places.Scope.TheVariants.Host, declared.texts.PlaceFault.TheVariants.HostName, Hosts.host_of, Hosts.is_host, Hosts.is_host_byte, Places.PlaceParts, Texts.AreTheirTexts, Texts.fault_of_path, Texts.host_end, Texts.in_scope_of, Texts.is_colon, Texts.IsScope, Texts.of_host, Texts.place_cut, Texts.place_of, Texts.place_text}
+use Rattle.load_path.specs.Paths.{text_of}
+
+-- what stands before the first colon of a text that doesn't begin with a slash
+pub record IsBeforeColon (prefix : List ℕ) : Type 0 where
+  pub no_colon : list_any is_colon prefix ≡ false
+  pub no_slash : (rest : List ℕ) → prefix ≢ 47 ∷ rest
+
+-- where that names no host, the text is refused for it, whatever stands behind the colon: a good path, or a bad one
+abbrev pub BadHostsAreRefusedFirst : Type 0
+BadHostsAreRefusedFirst = (prefix path : List ℕ) → IsBeforeColon prefix → IsErr (host_of prefix)
+    → place_of (prefix ++ 58 ∷ path) ≡ Err HostName
+
+-- behind a host's name and a colon, a bad path is refused as paths are
+abbrev pub BadPathsAreRefusedNext : Type 0
+BadPathsAreRefusedNext = (host path : List ℕ) (fault : PathFault) → IsTrue (is_host host) → path_of path ≡ Err fault
+    → place_of (host ++ 58 ∷ path) ≡ Err (fault_of_path fault)
+
+-- and so is a text that begins with a slash, or has no colon
+abbrev pub TextsWithoutHostsAreRefusedAsPaths : Type 0
+TextsWithoutHostsAreRefusedAsPaths = (text : List ℕ) (fault : PathFault)
+    → ((rest : List ℕ) × (text ≡ 47 ∷ rest)) ⊎ (list_any is_colon text ≡ false)
+    → path_of text ≡ Err fault → place_of text ≡ Err (fault_of_path fault)
 
 -- a byte of a host's name is no colon and no slash
 plain_byte : (b : ℕ) → is_host_byte b ≡ true → (is_colon b ≡ false) × ((b == 47) ≡ false)
@@ -26,8 +42,8 @@ colon_from i (b ∷ h) rest all =
     let parts = and_parts _ _ all in
     cond-false _ _ _ (plain_byte b parts.0).0 ∙ colon_from (i + 1) h rest parts.1 ∙ ap Some (omega arith)
 
-colon_behind : (h rest : List ℕ) → list_all is_host_byte h ≡ true → position is_colon (h ++ 58 ∷ rest) ≡ Some (length h)
-colon_behind h rest all = position_from-zero is_colon (h ++ 58 ∷ rest) ∙ colon_from 0 h rest all ∙ ap Some (omega arith)
+colon_follows : (h rest : List ℕ) → list_all is_host_byte h ≡ true → position is_colon (h ++ 58 ∷ rest) ≡ Some (length h)
+colon_follows h rest all = position_from-zero is_colon (h ++ 58 ∷ rest) ∙ colon_from 0 h rest all ∙ ap Some (omega arith)
 
 host_bytes : (h : List ℕ) → is_host h ≡ true → (list_all is_host_byte h ≡ true) × (nat_lt 0 (length h) ≡ true)
 host_bytes h is = let outer = and_parts _ _ is in (outer.1, (and_parts _ _ outer.0).0)
@@ -36,7 +52,7 @@ ends_host : (h rest : List ℕ) → is_host h ≡ true → host_end (h ++ 58 ∷
 ends_host [] rest is = let some = (host_bytes [] is).1 in cc (some)
 ends_host (b ∷ h) rest is =
     let all = (host_bytes (b ∷ h) is).0 in
-    cond-false _ _ _ (plain_byte b (and_parts _ _ all).0).1 ∙ colon_behind (b ∷ h) rest all
+    cond-false _ _ _ (plain_byte b (and_parts _ _ all).0).1 ∙ colon_follows (b ∷ h) rest all
 
 -- the text of a path begins with a slash
 no_host : (path : PathParts) → path.rank < 4 → host_end (text_of path) ≡ None
@@ -114,9 +130,9 @@ written_back text place e = by (host_end text) refl e
         )
     by (Some n) at h = ⊎_elim
         (λ good.
-        let front = take n text in
-        let written = written_in (Host front) (drop (n + 1) text) place (sym (ap (λ r. of_host r (path_of (drop (n + 1) text))) (cond-true _ _ _ good)) ∙ h) in (
-          ap (λ (s : Scope). place_text (record { scope = s; path = place.path })) written.0 ∙ append_assoc front (58 ∷ []) (text_of place.path) ∙ ap (λ (t : List ℕ). front ++ 58 ∷ t) written.1 ∙ end_cuts text n at,
+        let prefix = take n text in
+        let written = written_in (Host prefix) (drop (n + 1) text) place (sym (ap (λ r. of_host r (path_of (drop (n + 1) text))) (cond-true _ _ _ good)) ∙ h) in (
+          ap (λ (s : Scope). place_text (record { scope = s; path = place.path })) written.0 ∙ append_assoc prefix (58 ∷ []) (text_of place.path) ∙ ap (λ (t : List ℕ). prefix ++ 58 ∷ t) written.1 ∙ end_cuts text n at,
           subst IsScope (sym written.0) good,
           written.2,
         ))
@@ -126,3 +142,64 @@ written_back text place e = by (host_end text) refl e
 -- each place and its text give each other
 pub places_their_texts : AreTheirTexts
 places_their_texts = record { read_back = read_back; written_back = written_back }
+
+-- ---- texts that are refused
+
+-- the first colon stands behind what has none
+colon_after : (i : ℕ) (prefix rest : List ℕ) → list_any is_colon prefix ≡ false
+    → position_from is_colon i (prefix ++ 58 ∷ rest) ≡ Some (i + length prefix)
+colon_after i [] rest none = ap Some (omega arith)
+colon_after i (b ∷ prefix) rest none =
+    let parts = or_parts (is_colon b) (list_any is_colon prefix) none in
+    cond-false _ _ _ parts.0 ∙ colon_after (i + 1) prefix rest parts.1 ∙ ap Some (omega arith)
+
+first_colon : (prefix rest : List ℕ) → list_any is_colon prefix ≡ false → position is_colon (prefix ++ 58 ∷ rest) ≡ Some (length prefix)
+first_colon prefix rest none = position_from-zero is_colon (prefix ++ 58 ∷ rest) ∙ colon_after 0 prefix rest none ∙ ap Some (omega arith)
+
+ends_there : (prefix rest : List ℕ) → IsBeforeColon prefix → host_end (prefix ++ 58 ∷ rest) ≡ Some (length prefix)
+ends_there [] rest is = first_colon [] rest is.no_colon
+ends_there (b ∷ prefix) rest is = ⊎_elim
+    (λ slash. absurd (is.no_slash prefix (ap (λ (c : ℕ). c ∷ prefix) (eqb-true b 47 slash))))
+    (λ other. cond-false _ _ _ other ∙ first_colon (b ∷ prefix) rest is.no_colon)
+    (cases_Bool (b == 47))
+
+-- what is cut there is read as a host and a path
+read_apart : (prefix path : List ℕ) → host_end (prefix ++ 58 ∷ path) ≡ Some (length prefix)
+    → place_of (prefix ++ 58 ∷ path) ≡ of_host (host_of prefix) (path_of path)
+read_apart prefix path ends =
+    ap (λ o. place_cut o (prefix ++ 58 ∷ path)) ends
+    ∙ ap (λ (t : List ℕ). of_host (host_of t) (path_of (drop (length prefix + 1) (prefix ++ 58 ∷ path)))) (take-append_seam prefix (58 ∷ path))
+    ∙ ap (λ (t : List ℕ). of_host (host_of prefix) (path_of t)) (drop-append-add prefix (58 ∷ path) 1)
+
+pub bad_hosts_are_refused_first : BadHostsAreRefusedFirst
+bad_hosts_are_refused_first prefix path is bad = read_apart prefix path (ends_there prefix path is) ∙ by (is_host prefix) refl
+  where
+    by : (b : Bool) → is_host prefix ≡ b → of_host (host_of prefix) (path_of path) ≡ Err HostName
+    by true good = let wrong = ap is_err (sym (cond-true _ _ _ good)) ∙ bad in cc (wrong)
+    by false refused = ap (λ r. of_host r (path_of path)) (cond-false _ _ _ refused)
+
+pub bad_paths_are_refused_next : BadPathsAreRefusedNext
+bad_paths_are_refused_next host path fault good bad =
+    read_apart host path (ends_host host path good)
+    ∙ ap (λ r. of_host r (path_of path)) (cond-true _ _ _ good)
+    ∙ ap (in_scope_of (Host host)) bad
+
+no_colon : (i : ℕ) (text : List ℕ) → list_any is_colon text ≡ false → position_from is_colon i text ≡ None
+no_colon i [] none = refl
+no_colon i (b ∷ text) none =
+    let parts = or_parts (is_colon b) (list_any is_colon text) none in
+    cond-false _ _ _ parts.0 ∙ no_colon (i + 1) text parts.1
+
+no_end : (text : List ℕ) → list_any is_colon text ≡ false → host_end text ≡ None
+no_end [] none = refl
+no_end (b ∷ text) none = ⊎_elim
+    (λ slash. cond-true _ _ _ slash)
+    (λ other. cond-false _ _ _ other ∙ position_from-zero is_colon (b ∷ text) ∙ no_colon 0 (b ∷ text) none)
+    (cases_Bool (b == 47))
+
+pub texts_without_hosts_are_refused_as_paths : TextsWithoutHostsAreRefusedAsPaths
+texts_without_hosts_are_refused_as_paths text fault without bad = ap (λ o. place_cut o text) (by without) ∙ ap (in_scope_of Fleet) bad
+  where
+    by : ((rest : List ℕ) × (text ≡ 47 ∷ rest)) ⊎ (list_any is_colon text ≡ false) → host_end text ≡ None
+    by (inl (rest, is)) = ap host_end is
+    by (inr none) = no_end text none

@@ -7,21 +7,21 @@ use std::alloc::{AllocError, Global};
 use std::marker::Model;
 use thiserror::Error;
 
-/// The most bytes of a host's name.
+/// The maximum length of a host's name, in bytes.
 pub const HOST_LIMIT: usize = 64;
 
-/// Why bytes name no host.
+/// Why some bytes are no host name.
 #[derive(Clone, Copy, Debug, PartialEq, Eq, Error)]
 pub enum HostFault {
     /// H1: not 1 to 64 bytes, each an ASCII letter, a digit, `-` or `.`.
     #[error("H1 HostName")]
     HostName,
-    /// Memory was refused.
+    /// Memory ran out.
     #[error("out of memory")]
     Memory,
 }
 
-/// The name of a host, ordered by its bytes.
+/// The name of a host. Names are ordered by their bytes.
 #[derive(Debug, PartialEq, Eq, PartialOrd, Ord, Drop)]
 pub struct HostName {
     bytes: Bytes,
@@ -41,7 +41,8 @@ impl Model for HostName {
 }
 
 impl HostName {
-    /// The host of this name, or `HostName`; `Memory` only where it is a name.
+    /// Parses the name of a host. Fails with `HostName` if it is no host name, and with `Memory` if it is one and
+    /// memory runs out.
     pub fn parse(alloc: Global, name: &[u8]) -> Result<HostName, HostFault>
         ensures parsed { (result ≡ Err HostFault.Memory) ⊎ (result ≡ host_of name.now) }
         ensures faults { IsErr (host_of name.now) → result ≡ host_of name.now }
@@ -55,15 +56,15 @@ impl HostName {
         }
     }
 
-    /// The bytes of the name. It takes no memory.
+    /// Returns the bytes of the name. Allocates nothing.
     pub fn bytes(&self) -> &[u8]
         ensures bytes { result.now ≡ self.now }
-        ensures lawful { IsTrue (is_host result.now) }
+        ensures well_formed { IsTrue (is_host result.now) }
     {
         self.bytes.as_slice()
     }
 
-    /// An equal name, which shares its bytes. It fails for want of memory alone.
+    /// Returns an equal name that shares the bytes. Fails only if memory runs out.
     pub fn try_clone(&self) -> Result<HostName, AllocError>
         ensures copy { IfOk result (λ copy. copy ≡ self.now) }
     {
@@ -85,14 +86,14 @@ impl Key for HostName {
     ghost exact = { slice_cmp-IsAntisymmetric nat_cmp-IsAntisymmetric };
 }
 
-// Whether bytes name a host.
+// Returns whether these bytes are a host name.
 pub(crate) fn is_host_name(name: &[u8]) -> bool
     ensures host { result ≡ is_host name.now }
 {
     !name.is_empty() && name.len() <= HOST_LIMIT && has_host_bytes(name)
 }
 
-// Whether each byte may stand in the name of a host.
+// Returns whether each byte is allowed in the name of a host.
 fn has_host_bytes(name: &[u8]) -> bool
     ensures all { result ≡ list_all is_host_byte name.now }
 {

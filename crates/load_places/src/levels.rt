@@ -1,6 +1,7 @@
-//! Levels of the load path: of all that stands for a name, the first level that says something counts (systemd.unit(5),
-//! "Unit File Load Path"). Choice and drop-ins go by levels alone, so what makes a level is settled here.
+//! Levels of the load path: of everything that is visible for a name, the first level that says something decides
+//! (systemd.unit(5), "Unit File Load Path"). The choice of main files and the order of drop-ins use only levels, so
+//! what makes up a level is defined here.
 
-/// How many levels there are. They are the numbers below this one, and a lesser one goes before a greater one: twice a
-/// rank is that of a host's own directory, and twice a rank and one that of the fleet's.
+/// The number of levels. Levels are the numbers below it, and a smaller one comes before a greater one. The level of a
+/// host's own directory is twice the rank; the level of the fleet's directory is twice the rank plus one.
 pub const LEVELS: u8 = 8;

@@ -1,4 +1,4 @@
-//! Places: where a content stands, and for whom.
+//! Places: where a content is stored, and for whom.
 ghost use Rattle.std.specs.Prelude.{◌≡◌, IfOk};
 ghost use Rattle.load_places.specs.Places.{scope_cmp};
 
@@ -8,7 +8,7 @@ use plain_values::{Key, TryClone};
 use std::alloc::AllocError;
 use std::cmp::Ordering;
 
-/// For whom an edit is: the whole fleet, or one host. The fleet goes first, then hosts in byte order.
+/// For whom an edit is: the whole fleet, or one host. The fleet comes first, then hosts in byte order.
 #[derive(Debug, Drop)]
 pub enum Scope {
     /// The whole fleet.
@@ -18,7 +18,7 @@ pub enum Scope {
 }
 
 impl Scope {
-    /// Where the scope stands: before the scope of a host, at it, or behind it. It takes no memory.
+    /// Compares the scope with the scope of a host. Allocates nothing.
     pub fn cmp_host(&self, host: &HostName) -> Ordering
         ensures order { result ≡ scope_cmp self.now (Scope.Host host.now) }
     {
@@ -28,7 +28,7 @@ impl Scope {
         }
     }
 
-    /// An equal scope. It fails for want of memory alone.
+    /// Returns an equal scope. Fails only if memory runs out.
     pub fn try_clone(&self) -> Result<Scope, AllocError>
         ensures copy { IfOk result (λ copy. copy ≡ self.now) }
     {
@@ -106,17 +106,17 @@ impl Key for Scope {
     ghost exact = { scope_cmp-IsAntisymmetric };
 }
 
-/// A path, for the whole fleet or for one host. Places are ordered by scope, then path.
+/// A path, for the whole fleet or for one host. Places are ordered by scope, then by path.
 #[derive(Debug, PartialEq, Eq, PartialOrd, Ord, Drop)]
 pub struct Place {
-    /// For whom it is.
+    /// For whom the place is.
     pub scope: Scope,
-    /// Where it is.
+    /// The path of the place.
     pub path: Path,
 }
 
 impl Place {
-    /// An equal place, which shares its bytes. It fails for want of memory alone.
+    /// Returns an equal place that shares the bytes. Fails only if memory runs out.
     pub fn try_clone(&self) -> Result<Place, AllocError>
         ensures copy { IfOk result (λ copy. copy ≡ self.now) }
     {

@@ -8,22 +8,22 @@ use load_path::{Path, PathFault};
 use std::alloc::{AllocError, Global};
 use thiserror::Error;
 
-/// Why a text is no place. A text that is refused leaves nothing behind.
+/// Why a text is no place.
 #[derive(Clone, Copy, Debug, PartialEq, Eq, Error)]
 pub enum PlaceFault {
-    /// H1: what stands before its first colon names no host.
+    /// H1: what precedes its first colon is no host name.
     #[error("H1 HostName")]
     HostName,
-    /// F1: its path does not begin with a directory of the load path and a slash.
+    /// F1: its path doesn't begin with a directory of the load path and a slash.
     #[error("F1 Directory")]
     Directory,
-    /// F2: over two components stand behind the directory.
+    /// F2: more than two components follow the directory.
     #[error("F2 Depth")]
     Depth,
-    /// F3: a component is `.`, `..` or empty, has over 255 bytes, or has one outside 33 to 126.
+    /// F3: a component is `.`, `..` or empty, has more than 255 bytes, or has a byte outside 33 to 126.
     #[error("F3 Component")]
     Component,
-    /// Memory was refused.
+    /// Memory ran out.
     #[error("out of memory")]
     Memory,
 }
@@ -53,9 +53,11 @@ impl From<PathFault> for PlaceFault {
 }
 
 impl Place {
-    /// Reads a place: a path for the whole fleet, or a host, a colon and a path for one host. A text that doesn't begin with
-    /// a slash is cut at its first colon, if it has one. It is refused as `HostName`, or else as its path is, and as
-    /// `Memory` only where it is a place. Linear in the text.
+    /// Parses a place: a path for the whole fleet, or a host, a colon and a path for one host. A text that doesn't
+    /// begin with a slash is split at its first colon, if it has one.
+    ///
+    /// Fails with `HostName` if the host is no host name, else with the fault of its path, and with `Memory` if the
+    /// text is a place and memory runs out. Linear in the text. A text that is refused leaves nothing allocated.
     pub fn parse(alloc: Global, text: &[u8]) -> Result<Place, PlaceFault>
         ensures parsed { (result ≡ Err PlaceFault.Memory) ⊎ (result ≡ place_of text.now) }
         ensures faults { IsErr (place_of text.now) → result ≡ place_of text.now }
@@ -79,7 +81,7 @@ impl Place {
         })
     }
 
-    /// Appends the text of the place. Where memory is refused, nothing is appended.
+    /// Appends the text of the place. Fails only if memory runs out, and then appends nothing.
     pub fn append_to(&self, out: &mut Vec<u8>) -> Result<(), AllocError>
         ensures ok { OnOk result (out.new.items ≡ out.old.items ++ place_text self.now) }
         ensures err { OnErr result (out.new.items ≡ out.old.items) }
@@ -96,7 +98,7 @@ impl Place {
     }
 }
 
-// Appends what stands before a path. Where memory is refused, nothing is appended.
+// Appends what precedes the path in the text. Fails only if memory runs out, and then appends nothing.
 fn append_scope(out: &mut Vec<u8>, scope: &Scope) -> Result<(), AllocError>
     ensures ok { OnOk result (out.new.items ≡ out.old.items ++ scope_text scope.now) }
     ensures err { OnErr result (out.new.items ≡ out.old.items) }
@@ -113,7 +115,7 @@ fn append_scope(out: &mut Vec<u8>, scope: &Scope) -> Result<(), AllocError>
     }
 }
 
-// Where the name of a host ends, if a text names one.
+// Returns the index where the name of a host ends, if the text names a host.
 fn host_end(text: &[u8]) -> Option<usize>
     ensures end { result ≡ host_end text.now }
 {
@@ -123,7 +125,7 @@ fn host_end(text: &[u8]) -> Option<usize>
     first_colon(text)
 }
 
-// Where the first colon stands.
+// Returns the index of the first colon.
 fn first_colon(text: &[u8]) -> Option<usize>
     ensures position { result ≡ position is_colon text.now }
 {

@@ -1,26 +1,22 @@
--- What a tree has once the pairs of a list were made a tree and put in.
-use Rattle.std.specs.Prelude.{◌≡◌, ◌⊎◌, ◌||◌, Bool, true, false, cond, is_some, Option, Some, None, List, [], ◌∷◌}
-use Rattle.std.specs.BTreeMap.{is_at}
-use Rattle.std.specs.Cmp.{IsTotalOrder}
-use Rattle.std.specs.List.{All, list_any}
-use Rattle.std.specs.List.Sorted.{IsStrictlySortedBy}
-use Rattle.std.specs.Map.{keys_of, lookup, update_all}
-use Rattle.std.specs.Option.{IfSome}
-use Rattle.std.specs.Ordering.{eq_by_cmp}
-use Rattle.std.specs.declared.cmp.Ordering.{Ordering}
-use Rattle.std.specs.declared.cmp.Ordering.TheVariants.{Equal}
-use Rattle.std.proofs.Common.{inl, inr, refl, sym, ap, subst, ◌∙◌, get_or}
+-- What a tree holds once the pairs of a list were made a tree and appended to it.
+use Rattle.std.proofs.Common.{[], ◌||◌, ◌∙◌, ◌∷◌, ◌≡◌, ◌⊎◌, All, ap, Bool, cond, false, get_or, inl, inr, is_some, List, None, Option, refl, Some, subst, sym, true}
 use Rattle.std.proofs.lemmas.Bool.{true≢false}
 use Rattle.std.proofs.lemmas.Cmp.{eq_by_cmp_equiv}
 use Rattle.std.proofs.lemmas.List.Elements.{All-head, All-tail, All-weaker}
 use Rattle.std.proofs.lemmas.Map.Entries.{lookup_from_place}
 use Rattle.std.proofs.lemmas.Map.Keys.{IsDistinct-from_sorted}
-use Rattle.std.proofs.lemmas.Map.Made.{is_some-lookup, is_some-update_all, IfSome-update_all}
+use Rattle.std.proofs.lemmas.Map.Made.{IfSome-update_all, is_some-lookup, is_some-update_all}
 use Rattle.std.proofs.lemmas.Option.{slice_get-get_or}
-use Rattle.list_laws.specs.Members.{IsAmong}
-use Rattle.list_laws.specs.Orderings.{is_equal}
-use Rattle.name_closure.specs.Growth.{AreJoined}
-use Rattle.name_closure.specs.Loading.{AreLoaded}
+use Rattle.std.specs.BTreeMap.{is_at}
+use Rattle.std.specs.Cmp.{IsTotalOrder}
+use Rattle.std.specs.List.{list_any}
+use Rattle.std.specs.List.Sorted.{IsStrictlySortedBy}
+use Rattle.std.specs.Map.{keys_of, lookup, update_all}
+use Rattle.std.specs.Ordering.{eq_by_cmp}
+use Rattle.std.specs.Prelude.{IfSome}
+use Rattle.std.specs.declared.cmp.Ordering.{Ordering}
+use Rattle.std.specs.declared.cmp.Ordering.TheVariants.{Equal}
+use Rattle.name_closure.proofs.Prelude.{AreJoined, AreLoaded, is_equal, IsAmong}
 use Rattle.name_closure.proofs.News.{found_by, found_there}
 
 or_cases : (a b : Bool) → (a || b) ≡ true → (a ≡ true) ⊎ (b ≡ true)
@@ -36,7 +32,7 @@ or_right true b h = refl
 or_right false b h = h
 
 module _ {N U : Type 0} (order : N → N → Ordering) (total : IsTotalOrder order) (exact : (x y : N) → order x y ≡ Equal → x ≡ y) where
-  -- what entries have at a key
+  -- the value of the entries at a key
   abbrev at : List (N × U) → N → Option U
   at es q = lookup (is_at (order q)) es
 
@@ -46,7 +42,7 @@ module _ {N U : Type 0} (order : N → N → Ordering) (total : IsTotalOrder ord
   some_at : (es : List (N × U)) (q : N) → IsAmong q (keys_of es) → is_some (at es q) ≡ true
   some_at es q h = is_some-lookup (is_at (order q)) es ∙ found_there order total exact q (keys_of es) h
 
-  -- entries have what pairs gave them, put over what was there
+  -- the entries are those of `f`, overwritten by the pairs
   module _ (f : N → Option U) (xs es : List (N × U)) (put : (q : N) → at es q ≡ update_all (eq_by_cmp order) f xs q) where
     put_key : (q : N) → IsAmong q (keys_of es) → (is_some (f q) ≡ true) ⊎ IsAmong q (keys_of xs)
     put_key q h = elim (or_cases _ _ (sym (is_some-update_all (eq_by_cmp_equiv total) q f xs) ∙ ap is_some (sym (put q)) ∙ some_at es q h)) [
@@ -80,7 +76,7 @@ module _ {N U : Type 0} (order : N → N → Ordering) (total : IsTotalOrder ord
       let p = get_or es i d in
       subst (λ o. IfSome o (P p.0)) (lookup_from_place (eq_by_cmp_equiv total) es i p.0 p.1 (IsDistinct-from_sorted order (keys_of es) s) (slice_get-get_or es i d l)) (h p.0))
 
-  -- pairs were made entries, and those were put over others
+  -- the pairs were made a tree, and its entries were put over the others
   module _ (pairs more found found' : List (N × U)) (made : (q : N) → at more q ≡ update_all (eq_by_cmp order) (λ _. None) pairs q)
       (put : (q : N) → at found' q ≡ update_all (eq_by_cmp order) (at found) more q) where
     pub added_joins : AreJoined (keys_of found) (keys_of pairs) (keys_of found')

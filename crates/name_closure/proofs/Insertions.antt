@@ -1,22 +1,18 @@
--- One more key among keys in order, and the keys of two lists together.
-use Rattle.std.specs.Prelude.{◌≡◌, ◌+◌, suc, List, [], ◌∷◌, length}
+-- A key is inserted among keys in order; the keys of two lists are united.
+use Rattle.std.proofs.Common.{[], ◌+◌, ◌∙◌, ◌∷◌, ◌≡◌, All, ap, arith, inl, inr, length, List, refl, subst, suc, sym}
+use Rattle.std.proofs.lemmas.List.Elements.{All-head}
 use Rattle.std.specs.BTreeSet.{insert_key}
 use Rattle.std.specs.Cmp.{IsTotalOrder}
-use Rattle.std.specs.List.{All, AllByRecursion}
-use Rattle.std.specs.List.Sorted.{IsStrictlySortedBy}
+use Rattle.std.specs.List.{AllByRecursion}
 use Rattle.std.specs.Ordering.{match_ordering, ordering_reverse}
 use Rattle.std.specs.declared.cmp.Ordering.{Ordering}
-use Rattle.std.specs.declared.cmp.Ordering.TheVariants.{Less, Equal, Greater}
-use Rattle.std.proofs.Common.{inl, inr, refl, sym, arith, ap, ◌∙◌, subst}
-use Rattle.std.proofs.lemmas.List.Elements.{All-head}
-use Rattle.list_laws.specs.Insertions.{put_kept, put_sound, put_there}
-use Rattle.list_laws.specs.Members.{IsAmong}
-use Rattle.name_closure.specs.Growth.{AreJoined}
-use Rattle.name_closure.specs.LimitLaws.{not_in_tail}
+use Rattle.std.specs.declared.cmp.Ordering.TheVariants.{Equal, Greater, Less}
+use Rattle.name_closure.proofs.Prelude.{AreJoined, IsAmong, not_in_tail, put_kept, put_sound, put_there}
+use Rattle.std.specs.List.Sorted.{IsStrictlySortedBy}
 
 module _ {N : Type 0} (order : N → N → Ordering) where
   module _ (exact : (x y : N) → order x y ≡ Equal → x ≡ y) where
-    -- a key is put among keys that lack it
+    -- a key is inserted among keys that lack it
     put_length : (k : N) (ks : List N) → ¬ IsAmong k ks → length (insert_key order ks k) ≡ suc (length ks)
     put_length k [] d = refl
     put_length k (x ∷ xs) d = by (order k x) refl (put_length k xs (λ h. d (inr h)))
@@ -26,7 +22,7 @@ module _ {N : Type 0} (order : N → N → Ordering) where
         by Equal e more = absurd (d (inl (sym (exact k x e))))
         by Greater e more = ap suc more
 
-    -- the keys with one more are those of both
+    -- the keys with one more are the union of both
     pub put_joins : (k : N) (ks : List N) → AreJoined ks (k ∷ []) (insert_key order ks k)
     put_joins k ks n = (
       λ h. elim (put_sound order k ks n h) [ inl a ↦ inl a | inr e ↦ inr (inl e) ],
@@ -50,10 +46,10 @@ module _ {N : Type 0} (order : N → N → Ordering) where
     all_above k x [] e a = tt
     all_above k x (y ∷ ys) e a = (total.trans k x y e a.0, all_above k x ys e a.1)
 
-    put_rising : (k : N) (ks : List N) → IsStrictlySortedBy order ks → IsStrictlySortedBy order (insert_key order ks k)
+    put_ascending : (k : N) (ks : List N) → IsStrictlySortedBy order ks → IsStrictlySortedBy order (insert_key order ks k)
     unfolding IsStrictlySortedBy
-    put_rising k [] s = (tt, tt)
-    put_rising k (x ∷ xs) s = by (order k x) refl (put_rising k xs s.1)
+    put_ascending k [] s = (tt, tt)
+    put_ascending k (x ∷ xs) s = by (order k x) refl (put_ascending k xs s.1)
       where
         by : (r : Ordering) → order k x ≡ r → IsStrictlySortedBy order (insert_key order xs k) → IsStrictlySortedBy order (match_ordering r (k ∷ x ∷ xs) (x ∷ xs) (x ∷ insert_key order xs k))
         by Less e more = ((e, all_above k x xs e s.0), s)
@@ -66,10 +62,10 @@ module _ {N : Type 0} (order : N → N → Ordering) where
       together [] ys = ys
       together (x ∷ xs) ys = insert_key order (together xs ys) x
 
-      pub together_rises : (xs ys : List N) → IsStrictlySortedBy order ys → IsStrictlySortedBy order (together xs ys)
+      pub together_ascends : (xs ys : List N) → IsStrictlySortedBy order ys → IsStrictlySortedBy order (together xs ys)
       unfolding together
-      together_rises [] ys s = s
-      together_rises (x ∷ xs) ys s = put_rising x (together xs ys) (together_rises xs ys s)
+      together_ascends [] ys s = s
+      together_ascends (x ∷ xs) ys s = put_ascending x (together xs ys) (together_ascends xs ys s)
 
       pub together_joins : (xs ys : List N) → AreJoined xs ys (together xs ys)
       unfolding together
@@ -98,6 +94,6 @@ module _ {N : Type 0} (order : N → N → Ordering) where
           absent h = elim ((together_joins xs ys x).0 h) [ inl a ↦ not_in_tail order total x xs s a | inr b ↦ d x (inl refl) b ]
 
 module _ {X : Type 0} where
-  -- what holds of all that are left holds of the one that is taken
+  -- what holds of all remaining elements holds of the one that is taken
   pub holds_next : (P : X → Type 0) (x : X) (left left' : List X) → left ≡ x ∷ left' → All P left → P x
   holds_next P x left left' e a = All-head P x left' (subst (All P) e a)

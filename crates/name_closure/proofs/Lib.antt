@@ -1,3 +1,4 @@
+pub mod Prelude
 mod Adding
 mod Insertions
 mod News

@@ -1,30 +1,28 @@
--- Nodes that are freed of those that are found, sorted, and freed of repeats.
-use Rattle.std.specs.Prelude.{◌≡◌, ◌↔◌, ◌⊎◌, Bool, true, false, not, ◌||◌, List, [], ◌∷◌, IsPermutation, IsSorted}
-use Rattle.std.specs.BTreeMap.{is_at}
-use Rattle.std.specs.Cmp.{IsTotalOrder, IsEquivalence}
-use Rattle.std.specs.List.{list_any, dedup, filter}
-use Rattle.std.specs.List.Sorted.{IsStrictlySortedBy}
-use Rattle.std.specs.Ordering.{is_eq}
-use Rattle.std.specs.declared.cmp.Ordering.{Ordering}
-use Rattle.std.specs.declared.cmp.Ordering.TheVariants.{Equal}
-use Rattle.std.proofs.Common.{◌≤◌, length, arith, cond, inl, inr, refl, sym, ap, ◌∙◌, subst}
+-- Nodes without those that are found, sorted, without repeats.
+use Rattle.std.proofs.Common.{[], ◌||◌, ◌↔◌, ◌∙◌, ◌∷◌, ◌≡◌, ◌≤◌, ◌⊎◌, ap, arith, Bool, cond, false, filter, inl, inr, length, List, not, refl, subst, sym, true}
 use Rattle.std.proofs.lemmas.Bool.{true≢false}
 use Rattle.std.proofs.lemmas.Cmp.{tied_itself}
-use Rattle.std.proofs.lemmas.List.Kept.{IsStrictlySortedBy-dedup, Contains-dedup, Contains-from_dedup}
+use Rattle.std.proofs.lemmas.List.Kept.{Contains-dedup, Contains-from_dedup, IsStrictlySortedBy-dedup}
 use Rattle.std.proofs.lemmas.List.Sorted.{Contains-permutation, IsPermutation-sym}
-use Rattle.list_laws.specs.Members.{IsAmong, among_from_contains, contains_from_among}
-use Rattle.list_laws.specs.Orderings.{is_equal}
-use Rattle.name_closure.specs.Growth.{AreNew}
+use Rattle.std.specs.BTreeMap.{is_at}
+use Rattle.std.specs.Cmp.{IsEquivalence, IsTotalOrder}
+use Rattle.std.specs.List.{dedup, list_any}
+use Rattle.std.specs.Ordering.{is_eq}
+use Rattle.std.specs.Prelude.{IsPermutation, IsSorted}
+use Rattle.std.specs.declared.cmp.Ordering.{Ordering}
+use Rattle.std.specs.declared.cmp.Ordering.TheVariants.{Equal}
+use Rattle.name_closure.proofs.Prelude.{among_from_contains, AreNew, contains_from_among, is_equal, IsAmong}
+use Rattle.std.specs.List.Sorted.{IsStrictlySortedBy}
 
--- one node or none rises
-pub few_rise : {N : Type 0} (order : N → N → Ordering) (nodes : List N) → length nodes ≤ 1 → IsStrictlySortedBy order nodes
+-- a list of at most one node is strictly ascending
+pub few_ascend : {N : Type 0} (order : N → N → Ordering) (nodes : List N) → length nodes ≤ 1 → IsStrictlySortedBy order nodes
 unfolding IsStrictlySortedBy
-few_rise order [] few = tt
-few_rise order (n ∷ []) few = (tt, tt)
-few_rise order (n ∷ m ∷ nodes) few = absurd (omega arith)
+few_ascend order [] few = tt
+few_ascend order (n ∷ []) few = (tt, tt)
+few_ascend order (n ∷ m ∷ nodes) few = absurd (omega arith)
 
 module _ {N : Type 0} (order : N → N → Ordering) (total : IsTotalOrder order) (exact : (x y : N) → order x y ≡ Equal → x ≡ y) where
-  -- a test by comparisons finds the members, and nothing else
+  -- a search by comparison finds exactly the members
   pub found_by : (k : N) (ks : List N) → list_any (is_at (order k)) ks ≡ true → IsAmong k ks
   found_by k [] h = cc (h)
   found_by k (x ∷ xs) h = by (is_at (order k) x) refl h (found_by k xs)
@@ -72,25 +70,25 @@ module _ {N : Type 0} (order : N → N → Ordering) (total : IsTotalOrder order
   unknown_took found [] n h = absurd h
   unknown_took found (x ∷ xs) n h = by (list_any (is_at (order x)) found) refl h (unknown_took found xs n)
     where
-      behind : (b : Bool) → IsAmong n found ⊎ IsAmong n (unknown found xs) → IsAmong n found ⊎ IsAmong n (cond (not b) (x ∷ unknown found xs) (unknown found xs))
-      behind b (inl a) = inl a
-      behind true (inr a) = inr a
-      behind false (inr a) = inr (inr a)
+      after : (b : Bool) → IsAmong n found ⊎ IsAmong n (unknown found xs) → IsAmong n found ⊎ IsAmong n (cond (not b) (x ∷ unknown found xs) (unknown found xs))
+      after b (inl a) = inl a
+      after true (inr a) = inr a
+      after false (inr a) = inr (inr a)
 
       by : (b : Bool) → list_any (is_at (order x)) found ≡ b → IsAmong n (x ∷ xs) → (IsAmong n xs → IsAmong n found ⊎ IsAmong n (unknown found xs))
           → IsAmong n found ⊎ IsAmong n (cond (not b) (x ∷ unknown found xs) (unknown found xs))
       by true e (inl is) more = inl (subst (λ v. IsAmong v found) is (found_by x found e))
       by false e (inl is) more = inr (inl is)
-      by b e (inr o) more = behind b (more o)
+      by b e (inr o) more = after b (more o)
 
-  -- nodes that were sorted, and freed of repeats
+  -- nodes that were sorted, and then rid of repeats
   module _ (E : N → N → Bool) (same : IsEquivalence E) (ties : (x y : N) → E x y ≡ is_eq (order x y)) (nodes sorted once : List N)
-      (permutation : IsPermutation nodes sorted) (rising : IsSorted order sorted) (is : once ≡ dedup E sorted) where
+      (permutation : IsPermutation nodes sorted) (ascending : IsSorted order sorted) (is : once ≡ dedup E sorted) where
     moved : (xs ys : List N) (n : N) → IsPermutation xs ys → IsAmong n xs → IsAmong n ys
     moved xs ys n p h = among_from_contains n ys (Contains-permutation xs ys n p (contains_from_among n xs h))
 
-    pub once_rises : IsStrictlySortedBy order once
-    once_rises = subst (IsStrictlySortedBy order) (sym is) (IsStrictlySortedBy-dedup total ties sorted rising)
+    pub once_ascends : IsStrictlySortedBy order once
+    once_ascends = subst (IsStrictlySortedBy order) (sym is) (IsStrictlySortedBy-dedup total ties sorted ascending)
 
     pub once_back : (n : N) → IsAmong n once → IsAmong n nodes
     once_back n h =
@@ -102,10 +100,10 @@ module _ {N : Type 0} (order : N → N → Ordering) (total : IsTotalOrder order
         let kept = moved nodes sorted n permutation h in
         subst (IsAmong n) (sym is) (among_from_contains n (dedup E sorted) (Contains-dedup same (λ x y e. exact x y (is_equal _ (sym (ties x y) ∙ e))) sorted n (contains_from_among n sorted kept)))
 
-  -- nodes that were freed of those that are found, and then stand each once, in order
+  -- the nodes that aren't found, each once, in ascending order
   pub news_are : (found nodes left fresh : List N) → left ≡ unknown found nodes → IsStrictlySortedBy order fresh → ((n : N) → IsAmong n fresh ↔ IsAmong n left) → AreNew order found nodes fresh
-  news_are found nodes left fresh unfound rising members = record {
-    rising = rising;
+  news_are found nodes left fresh unfound ascending members = record {
+    ascending = ascending;
     apart = λ n h. unknown_apart found nodes n (back n h);
     origin = λ n h. unknown_origin found nodes n (back n h);
     took = λ n h. elim (unknown_took found nodes n h) [ inl a ↦ inl a | inr b ↦ inr ((members n).1 (subst (IsAmong n) (sym unfound) b)) ];

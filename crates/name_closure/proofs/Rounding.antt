@@ -1,23 +1,15 @@
 -- What the rounds of a closure keep true.
-use Rattle.std.specs.Prelude.{◌≡◌, ◌⊎◌, ◌<◌, ◌+◌, List, [], ◌∷◌, length}
+use Rattle.std.proofs.Common.{[], ◌+◌, ◌<◌, ◌∷◌, ◌≡◌, ◌⊎◌, All, ap, arith, inl, inr, length, List, refl, subst, sym}
+use Rattle.std.proofs.lemmas.List.Elements.{All-cons, All-head, All-nil, All-tail}
+use Rattle.std.proofs.lemmas.Map.Entries.{length-keys_of}
 use Rattle.std.specs.Cmp.{IsTotalOrder}
-use Rattle.std.specs.List.{All, flat_map}
+use Rattle.std.specs.List.{flat_map}
 use Rattle.std.specs.List.Sorted.{IsStrictlySortedBy}
 use Rattle.std.specs.Map.{keys_of}
 use Rattle.std.specs.declared.cmp.Ordering.{Ordering}
 use Rattle.std.specs.declared.cmp.Ordering.TheVariants.{Equal}
-use Rattle.std.proofs.Common.{inl, inr, refl, sym, ap, subst, arith}
-use Rattle.std.proofs.lemmas.List.Elements.{All-nil, All-cons, All-head, All-tail}
-use Rattle.std.proofs.lemmas.Map.Entries.{length-keys_of}
-use Rattle.list_laws.specs.Members.{IsAmong}
-use Rattle.list_laws.specs.Rising.{one_rising_list}
-use Rattle.name_closure.specs.Chains.{IsReached, IsClosure, HasOver}
-use Rattle.name_closure.specs.ClosureLaws.{IsClosed, reached_closed, reached_least}
-use Rattle.name_closure.specs.Growth.{AreJoined, AreNew}
-use Rattle.name_closure.specs.ListedLaws.{Listed, named_by, names_all}
-use Rattle.name_closure.specs.Loading.{LeadsByLoad, AreLoaded, AreLoads, AreOthers}
-use Rattle.name_closure.specs.LoadingLaws.{leads_by_one}
-use Rattle.name_closure.proofs.Insertions.{together, together_rises, together_joins, length-together}
+use Rattle.name_closure.proofs.Prelude.{AreJoined, AreLoaded, AreLoads, AreNew, AreOthers, HasOver, IsAmong, IsClosed, IsClosure, IsReached, leads_by_one, LeadsByLoad, Listed, named_by, names_all, one_ascending_list, reached_closed, reached_least}
+use Rattle.name_closure.proofs.Insertions.{length-together, together, together_ascends, together_joins}
 
 module _ {X : Type 0} (P : X → Type 0) where
   pub holds_among : (xs : List X) (x : X) → All P xs → IsAmong x xs → P x
@@ -29,7 +21,7 @@ module _ {X : Type 0} (P : X → Type 0) where
   holds_of_all [] each = All-nil P
   holds_of_all (x ∷ xs) each = All-cons P x xs (each x (inl refl)) (holds_of_all xs (λ y h. each y (inr h)))
 
-  -- what holds of all of a list holds of all of a part of it
+  -- what holds of all members of a list holds of all members of a part of it
   pub holds_of_part : (xs ys : List X) → All P xs → ((x : X) → IsAmong x ys → IsAmong x xs) → All P ys
   holds_of_part xs ys a part = holds_of_all ys (λ x h. holds_among xs x a (part x h))
 
@@ -56,8 +48,8 @@ module _ {N U : Type 0} (order : N → N → Ordering) (is_node : N → Type 0) 
   pub record IsUnderWay (found : List (N × U)) (fresh : List N) : Type 0 where
     pub loaded : AreLoaded is_loaded found
     pub nodes : All is_node (keys_of found)
-    pub rising : IsStrictlySortedBy order (keys_of found)
-    pub fresh_rising : IsStrictlySortedBy order fresh
+    pub ascending : IsStrictlySortedBy order (keys_of found)
+    pub fresh_ascending : IsStrictlySortedBy order fresh
     pub fresh_nodes : All is_node fresh
     pub apart : (n : N) → IsAmong n fresh → ¬ IsAmong n (keys_of found)
     pub sound : (n : N) → IsAmong n (keys_of found) → Reached n
@@ -66,11 +58,11 @@ module _ {N U : Type 0} (order : N → N → Ordering) (is_node : N → Type 0) 
     pub done : (n m : N) → IsAmong n (keys_of found) → Leads n m → IsAmong m (keys_of found) ⊎ IsAmong m fresh
 
   pub under_way_start : (found : List (N × U)) (fresh : List N) → found ≡ [] → IsStrictlySortedBy order (keys_of found) → All is_node sources → AreNew order (keys_of found) sources fresh → IsUnderWay found fresh
-  under_way_start found fresh e rising starts new = record {
+  under_way_start found fresh e ascending starts new = record {
     loaded = subst (AreLoaded is_loaded) (sym e) (All-nil (λ p. is_loaded p.0 p.1));
     nodes = holds_of_all is_node (keys_of found) (λ n h. absurd (none n h));
-    rising = rising;
-    fresh_rising = new.rising;
+    ascending = ascending;
+    fresh_ascending = new.ascending;
     fresh_nodes = holds_of_part is_node sources fresh starts new.origin;
     apart = new.apart;
     sound = λ n h. absurd (none n h);
@@ -82,7 +74,7 @@ module _ {N U : Type 0} (order : N → N → Ordering) (is_node : N → Type 0) 
       none : (n : N) → ¬ IsAmong n (keys_of found)
       none n h = subst (λ (v : List (N × U)). IsAmong n (keys_of v)) e h
 
-  -- a round: what was fresh is found, and what it names and isn't found is fresh
+  -- a round: its fresh nodes become found, and the nodes that it names and that aren't found become fresh
   module _ (found : List (N × U)) (fresh : List N) (pairs found' : List (N × U)) (way : IsUnderWay found fresh)
       (loads : AreLoads is_loaded fresh pairs) (joined : AreJoined (keys_of found) (keys_of pairs) (keys_of found')) where
     from_found : (n : N) → IsAmong n (keys_of found) → IsAmong n (keys_of found')
@@ -107,7 +99,7 @@ module _ {N U : Type 0} (order : N → N → Ordering) (is_node : N → Type 0) 
         (record { one = p.1; loaded = holds_among (λ (q : N × U). is_loaded q.0 q.1) pairs p loads.loaded r.1.0; names = r.1.1 })
 
     module _ (one : (n : N) (x y : U) → is_loaded n x → is_loaded n y → x ≡ y) where
-      -- what a fresh node leads to is named in its pair
+      -- an edge from a fresh node leads to a node that its pair names
       leads_named : (n m : N) → IsAmong n fresh → Leads n m → IsAmong m (flat_map (λ (p : N × U). named p.1) pairs)
       leads_named n m h l =
           let entry = entry_of n pairs (subst (IsAmong n) (sym loads.in_order) h) in
@@ -116,11 +108,11 @@ module _ {N U : Type 0} (order : N → N → Ordering) (is_node : N → Type 0) 
 
       pub under_way_more : (names fresh' : List N) → AreLoaded is_loaded found' → IsStrictlySortedBy order (keys_of found')
           → AreOthers fresh (flat_map (λ p. named p.1) pairs) names → All is_node names → AreNew order (keys_of found') names fresh' → IsUnderWay found' fresh'
-      under_way_more names fresh' loaded rising others named_nodes new = record {
+      under_way_more names fresh' loaded ascending others named_nodes new = record {
         loaded = loaded;
         nodes = holds_of_all is_node (keys_of found') found_node;
-        rising = rising;
-        fresh_rising = new.rising;
+        ascending = ascending;
+        fresh_ascending = new.ascending;
         fresh_nodes = holds_of_part is_node names fresh' named_nodes new.origin;
         apart = new.apart;
         sound = λ n h. elim (back n h) [ inl a ↦ way.sound n a | inr b ↦ way.fresh_sound n b ];
@@ -140,12 +132,12 @@ module _ {N U : Type 0} (order : N → N → Ordering) (is_node : N → Type 0) 
           found_node n h = elim (back n h) [ inl a ↦ holds_among is_node (keys_of found) n way.nodes a | inr b ↦ holds_among is_node fresh n way.fresh_nodes b ]
 
     module _ (total : IsTotalOrder order) (exact : (x y : N) → order x y ≡ Equal → x ≡ y) where
-      -- as many are found as were found and fresh
+      -- after the round there are as many found nodes as there were found and fresh ones
       pub length-found : IsStrictlySortedBy order (keys_of found') → length found' ≡ length found + length fresh
-      length-found rising =
-          let same = ap length (one_rising_list order total (keys_of found') (together order total exact (keys_of found) fresh) rising (together_rises order total exact (keys_of found) fresh way.fresh_rising)
+      length-found ascending =
+          let same = ap length (one_ascending_list order total (keys_of found') (together order total exact (keys_of found) fresh) ascending (together_ascends order total exact (keys_of found) fresh way.fresh_ascending)
           (λ n. (λ h. (together_joins order total exact (keys_of found) fresh n).1 (back n h), λ h. from_either n ((together_joins order total exact (keys_of found) fresh n).0 h)))) in
-          let many = length-together order total exact (keys_of found) fresh way.rising (λ n a b. way.apart n b a) in
+          let many = length-together order total exact (keys_of found) fresh way.ascending (λ n a b. way.apart n b a) in
           let before = length-keys_of found in
           let after = length-keys_of found' in
           omega arith
@@ -153,7 +145,7 @@ module _ {N U : Type 0} (order : N → N → Ordering) (is_node : N → Type 0) 
   module _ (found : List (N × U)) (fresh : List N) (way : IsUnderWay found fresh) where
     -- a round that leaves nothing fresh ends at the closure
     pub closure_at_end : length fresh ≡ 0 → IsClosure (Listed sources) Leads order (keys_of found)
-    closure_at_end e = record { rising = way.rising; members = λ n. (way.sound n, reached_least (Listed sources) Leads (λ m. IsAmong m (keys_of found)) closed n) }
+    closure_at_end e = record { ascending = way.ascending; members = λ n. (way.sound n, reached_least (Listed sources) Leads (λ m. IsAmong m (keys_of found)) closed n) }
       where
         only_found : (n : N) → IsAmong n (keys_of found) ⊎ IsAmong n fresh → IsAmong n (keys_of found)
         only_found n (inl h) = h
@@ -167,11 +159,11 @@ module _ {N U : Type 0} (order : N → N → Ordering) (is_node : N → Type 0) 
         closed = record { started = λ n h. only_found n (way.started n h); stepped = λ n m h l. only_found m (way.done n m h l) }
 
     module _ (total : IsTotalOrder order) (exact : (x y : N) → order x y ≡ Equal → x ≡ y) where
-      -- what is found and fresh is reached
+      -- what is found or fresh is reached
       pub over_in_round : {limit : _} → limit < length found + length fresh → HasOver (Listed sources) Leads order limit
       over_in_round {limit} more = record {
         nodes = together order total exact (keys_of found) fresh;
-        rising = together_rises order total exact (keys_of found) fresh way.fresh_rising;
+        ascending = together_ascends order total exact (keys_of found) fresh way.fresh_ascending;
         reached = λ n h. elim ((together_joins order total exact (keys_of found) fresh n).0 h) [ inl a ↦ way.sound n a | inr b ↦ way.fresh_sound n b ];
-        over = (let many = length-together order total exact (keys_of found) fresh way.rising (λ n a b. way.apart n b a) in let long = length-keys_of found in omega arith);
+        over = (let many = length-together order total exact (keys_of found) fresh way.ascending (λ n a b. way.apart n b a) in let long = length-keys_of found in omega arith);
       }

@@ -1,30 +1,30 @@
--- A search among pairs whose keys rise misses none of them.
-use Rattle.std.proofs.Common.{◌≡◌, ℕ, suc, ◌<◌, ◌⊎◌, List, [], ◌∷◌, length, get_or, Err, IsTrue, refl, sym, ap, ◌∙◌, inl, inr, arith}
+-- A search among pairs with ascending keys misses none of them.
+use Rattle.std.proofs.Common.{[], ◌<◌, ◌∙◌, ◌∷◌, ◌≡◌, ◌⊎◌, ap, arith, Err, get_or, inl, inr, IsTrue, length, List, refl, suc, sym, ℕ}
 use Rattle.std.proofs.lemmas.Bool.{and_from, cases_lt}
 use Rattle.std.proofs.lemmas.Cmp.{tied_itself}
 use Rattle.std.specs.Cmp.{IsTotalOrder}
+use Rattle.std.specs.FinMap.Entries.{below_all, is_sorted}
 use Rattle.std.specs.List.{AllByRecursion}
-use Rattle.std.specs.List.Sorted.{IsStrictlySortedBy, IsBinarySearchResult}
+use Rattle.std.specs.List.Sorted.{IsBinarySearchResult}
 use Rattle.std.specs.Map.{keys_of}
 use Rattle.std.specs.Ordering.{is_lt}
 use Rattle.std.specs.declared.cmp.Ordering.{Ordering}
-use Rattle.std.specs.declared.cmp.Ordering.TheVariants.{Less, Equal, Greater}
-use Rattle.std.specs.FinMap.Entries.{is_sorted, below_all}
-use Rattle.list_laws.specs.Members.{IsAmong}
-use Rattle.list_laws.specs.Searches.{comparisons_rise}
+use Rattle.std.specs.declared.cmp.Ordering.TheVariants.{Equal, Greater, Less}
+use Rattle.name_closure.proofs.Prelude.{comparisons_ascend, IsAmong}
+use Rattle.std.specs.List.Sorted.{IsStrictlySortedBy}
 
 module _ {N U : Type 0} (cmp : N → N → Ordering) where
   below_keys : (x : N) (es : List (N × U)) → AllByRecursion (λ y. cmp x y ≡ Less) (keys_of es) → IsTrue (below_all cmp x es)
   below_keys x [] h = refl
   below_keys x (e ∷ es) h = and_from _ _ (ap is_lt h.0) (below_keys x es h.1)
 
-  -- pairs whose keys rise are sorted
+  -- pairs with ascending keys are sorted
   sorted_by_keys : (es : List (N × U)) → IsStrictlySortedBy cmp (keys_of es) → IsTrue (is_sorted cmp es)
   unfolding IsStrictlySortedBy
   sorted_by_keys [] h = refl
   sorted_by_keys (e ∷ es) h = and_from _ _ (below_keys e.0 es h.0) (sorted_by_keys es h.1)
 
-  -- a key's pair stands somewhere
+  -- the pair of a key has a position
   place_of : (n : N) (es : List (N × U)) → IsAmong n (keys_of es) → (j : ℕ) × (d : N × U) × (j < length es) × ((get_or es j d).0 ≡ n)
   place_of n [] h = absurd h
   place_of n (e ∷ es) (inl k) = (0, e, omega arith, k)
@@ -32,12 +32,12 @@ module _ {N U : Type 0} (cmp : N → N → Ordering) where
 
   pub not_missed : IsTotalOrder cmp → (n : N) (es : List (N × U)) (i : ℕ) → IsStrictlySortedBy cmp (keys_of es)
       → IsBinarySearchResult (λ (e : N × U). cmp e.0 n) es (Err i) → IsAmong n (keys_of es) → ⊥
-  not_missed total n es i rising found h =
-      let parted = found (comparisons_rise cmp total n es (sorted_by_keys es rising)) in
+  not_missed total n es i ascending found h =
+      let parted = found (comparisons_ascend cmp total n es (sorted_by_keys es ascending)) in
       let at = place_of n es h in
       by (get_or es at.0 at.1).0 at.3 (elim (cases_lt at.0 i) [
         | inl before ↦ inl (parted.0 at.0 at.1 (omega arith) before)
-        | inr behind ↦ inr (parted.1 at.0 at.1 behind at.2)
+        | inr after ↦ inr (parted.1 at.0 at.1 after at.2)
       ])
     where
       by : (key : N) → key ≡ n → (cmp key n ≡ Less) ⊎ (cmp key n ≡ Greater) → ⊥

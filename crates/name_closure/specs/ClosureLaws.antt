@@ -1,12 +1,11 @@
--- Closures have their sources, are closed under the steps, and are the least such sets; of one closure there is one list.
-use Rattle.std.specs.Prelude.{◌≡◌, ℕ, zero, suc, List}
+-- A closure has its sources, is closed under the edges, and is the least such set; there is one list of it.
+use Rattle.std.proofs.Common.{◌≡◌, List, suc, zero, ℕ}
 use Rattle.std.specs.Cmp.{IsTotalOrder}
 use Rattle.std.specs.declared.cmp.Ordering.{Ordering}
-use Rattle.list_laws.specs.Members.{IsAmong}
-use Rattle.list_laws.specs.Rising.{one_rising_list}
-use Rattle.name_closure.specs.Chains.{IsChain, IsReached, IsClosure}
+use Rattle.name_closure.specs.Prelude.{IsAmong, one_ascending_list}
+use Rattle.name_closure.specs.Chains.{IsChain, IsClosure, IsReached}
 
--- the set has the sources, and what a step leads to from it
+-- the set has the sources, and each node to which an edge leads from one of its members
 pub record IsClosed {N : Type 0} (starts : N → Type 0) (leads : N → N → Type 0) (set : N → Type 0) : Type 0 where
   pub started : (n : N) → starts n → set n
   pub stepped : (n m : N) → set n → leads n m → set m
@@ -22,7 +21,7 @@ module _ {N : Type 0} (starts : N → Type 0) (leads : N → N → Type 0) where
   chain_within set c zero n h = c.started n h
   chain_within set c (suc k) n h = c.stepped h.0 n (chain_within set c k h.0 h.1.0) h.1.1
 
-  -- what is reached is in each closed set
+  -- every reached node is in each closed set
   pub reached_least : (set : N → Type 0) → IsClosed starts leads set → (n : N) → IsReached starts leads n → set n
   reached_least set c n r = chain_within set c r.steps n r.chain
 
@@ -38,5 +37,5 @@ module _ {N : Type 0} (starts : N → Type 0) (leads : N → N → Type 0) where
 
     pub one_closure : IsTotalOrder order → (xs ys : List N) → IsClosure starts leads order xs → IsClosure starts leads order ys → xs ≡ ys
     one_closure total xs ys a b =
-        one_rising_list order total xs ys a.rising b.rising
+        one_ascending_list order total xs ys a.ascending b.ascending
         (λ n. (λ h. (b.members n).1 ((a.members n).0 h), λ h. (a.members n).1 ((b.members n).0 h)))

@@ -1,9 +1,8 @@
--- What a refusal of a closure tells.
+-- What an error of a closure says.
 -- Source: this project's own.
-use Rattle.name_closure.specs.declared.loads.ClosureFault.{ClosureFault}
-use Rattle.name_closure.specs.declared.loads.ClosureFault.TheVariants.{TooMany, Memory}
+use Rattle.name_closure.specs.{declared.loads.ClosureFault.ClosureFault, declared.loads.ClosureFault.TheVariants.Memory, declared.loads.ClosureFault.TheVariants.TooMany}
 
--- where the refusal is that there are too many, the fact holds
+-- if the error is `TooMany`, the fact holds
 abbrev pub OnTooMany : ClosureFault → Type 0 → Type 0
 OnTooMany TooMany P = P
 OnTooMany Memory P = Unit {0}

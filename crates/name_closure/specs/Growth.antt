@@ -1,18 +1,18 @@
--- What a round does to the nodes that are found, and which are the next round's. Only private clauses cite these.
+-- What a round adds to the nodes that are found, and which nodes are the next round's. Only private clauses cite these.
 -- Source: this project's own.
-use Rattle.std.specs.Prelude.{◌↔◌, ◌⊎◌, List}
+use Rattle.std.proofs.Common.{◌↔◌, ◌⊎◌, List}
 use Rattle.std.specs.List.Sorted.{IsStrictlySortedBy}
 use Rattle.std.specs.declared.cmp.Ordering.{Ordering}
-use Rattle.list_laws.specs.Members.{IsAmong}
+use Rattle.name_closure.specs.Prelude.{IsAmong}
 
 module _ {N : Type 0} where
-  -- all has the nodes of both lists, and no others
+  -- `all` has the nodes of both lists, and no others
   abbrev pub AreJoined : List N → List N → List N → Type 0
   AreJoined xs ys all = (n : N) → IsAmong n all ↔ (IsAmong n xs ⊎ IsAmong n ys)
 
-  -- the fresh ones are those of the nodes that aren't found, each once, in order
+  -- `fresh` lists those of the nodes that aren't found, each once, in ascending order
   pub record AreNew (order : N → N → Ordering) (found nodes fresh : List N) : Type 0 where
-    pub rising : IsStrictlySortedBy order fresh
+    pub ascending : IsStrictlySortedBy order fresh
     pub apart : (n : N) → IsAmong n fresh → ¬ IsAmong n found
     pub origin : (n : N) → IsAmong n fresh → IsAmong n nodes
     pub took : (n : N) → IsAmong n nodes → IsAmong n found ⊎ IsAmong n fresh

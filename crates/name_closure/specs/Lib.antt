@@ -1,9 +1,10 @@
+pub mod Prelude
 pub mod Chains
 pub mod ClosureLaws
 pub mod LimitLaws
 pub mod DistanceLaws
 pub mod SourceLaws
-pub mod KeptLaws
+pub mod StableLaws
 pub mod ListedLaws
 pub mod Faults
 pub mod Loading

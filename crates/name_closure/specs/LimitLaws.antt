@@ -1,15 +1,15 @@
--- A rising list has no more members than any list that has them all, so more is reached than a limit exactly where the closure's list is longer.
-use Rattle.std.specs.Prelude.{◌≡◌, ◌↔◌, ◌<◌, ◌≤◌, ℕ, suc, List, [], ◌∷◌, length}
+-- A strictly ascending list is no longer than any list that has all its members. So more nodes than a limit are reached
+-- exactly where the closure's list is longer than the limit.
+use Rattle.std.proofs.Common.{[], ◌<◌, ◌↔◌, ◌∙◌, ◌∷◌, ◌≡◌, ◌≤◌, ap, arith, inl, inr, length, List, refl, subst, suc, sym, ℕ}
+use Rattle.std.proofs.lemmas.Cmp.{tied_itself}
+use Rattle.std.proofs.lemmas.Map.Keys.{sorted_head, sorted_tail}
 use Rattle.std.specs.Cmp.{IsTotalOrder}
 use Rattle.std.specs.List.{AllByRecursion}
 use Rattle.std.specs.List.Sorted.{IsStrictlySortedBy}
 use Rattle.std.specs.declared.cmp.Ordering.{Ordering}
 use Rattle.std.specs.declared.cmp.Ordering.TheVariants.{Less}
-use Rattle.std.proofs.Common.{arith, inl, inr, refl, ap, sym, subst, ◌∙◌}
-use Rattle.std.proofs.lemmas.Cmp.{tied_itself}
-use Rattle.std.proofs.lemmas.Map.Keys.{sorted_head, sorted_tail}
-use Rattle.list_laws.specs.Members.{IsAmong}
-use Rattle.name_closure.specs.Chains.{IsClosure, HasOver}
+use Rattle.name_closure.specs.Prelude.{IsAmong}
+use Rattle.name_closure.specs.Chains.{HasOver, IsClosure}
 
 module _ {N : Type 0} where
   -- the list without one occurrence of a member
@@ -54,18 +54,18 @@ module _ {N : Type 0} where
         (λ n a. among_without x n ys here (λ e. not_in_tail x xs s (subst (λ v. IsAmong v xs) e a)) (h n (inr a))) in
         omega arith
 
-    -- more is reached than the limit exactly where the closure's list is longer
+    -- more nodes than the limit are reached exactly where the closure's list is longer
     pub over-closure : (starts : N → Type 0) (leads : N → N → Type 0) (nodes : List N) (limit : ℕ) → IsClosure starts leads order nodes
         → HasOver starts leads order limit ↔ (limit < length nodes)
-    over-closure starts leads nodes limit c = (longer, λ l. record { nodes = nodes; rising = c.rising; reached = λ n. (c.members n).0; over = l })
+    over-closure starts leads nodes limit c = (longer, λ l. record { nodes = nodes; ascending = c.ascending; reached = λ n. (c.members n).0; over = l })
       where
         longer : HasOver starts leads order limit → limit < length nodes
         longer v =
-            let fewer = no_more v.nodes nodes v.rising (λ n h. (c.members n).1 (v.reached n h)) in
+            let fewer = no_more v.nodes nodes v.ascending (λ n h. (c.members n).1 (v.reached n h)) in
             let more = v.over in
             omega arith
 
-    -- a closure of no more than the limit is all that is reached
+    -- if the closure's list is within the limit, no more nodes than the limit are reached
     pub not_over : (starts : N → Type 0) (leads : N → N → Type 0) (nodes : List N) (limit : ℕ) → IsClosure starts leads order nodes → length nodes ≤ limit
         → ¬ HasOver starts leads order limit
     not_over starts leads nodes limit c room v = let long = (over-closure starts leads nodes limit c).0 v in absurd (omega arith)

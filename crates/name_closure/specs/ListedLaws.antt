@@ -1,29 +1,28 @@
--- Steps and sources that lists give: whether a chain leads to a node can be tested, so what is reached is at some distance.
-use Rattle.std.specs.Prelude.{◌≡◌, ℕ, zero, suc, List, [], ◌∷◌}
-use Rattle.std.specs.List.{flat_map}
-use Rattle.std.specs.Cmp.{IsTotalOrder}
-use Rattle.std.specs.declared.cmp.Ordering.{Ordering}
-use Rattle.std.specs.declared.cmp.Ordering.TheVariants.{Less, Equal, Greater}
-use Rattle.std.proofs.Common.{inl, inr, refl, sym, ap, subst, ◌∙◌}
+-- Edges and sources that are given by lists: whether a chain leads to a node can be tested, so every reached node has a
+-- distance.
+use Rattle.std.proofs.Common.{[], ◌∙◌, ◌∷◌, ◌≡◌, ap, inl, inr, List, refl, subst, suc, sym, zero, ℕ}
 use Rattle.std.proofs.lemmas.Cmp.{tied_itself}
-use Rattle.list_laws.specs.Members.{IsAmong, IsAmong-append_cases, IsAmong-append_left, IsAmong-append_right}
-use Rattle.name_closure.specs.Chains.{IsChain, IsReached}
-use Rattle.name_closure.specs.DistanceLaws.{IsDecided, HasDistance, some_distance}
+use Rattle.std.specs.Cmp.{IsTotalOrder}
+use Rattle.std.specs.List.{flat_map}
+use Rattle.std.specs.declared.cmp.Ordering.{Ordering}
+use Rattle.std.specs.declared.cmp.Ordering.TheVariants.{Equal, Greater, Less}
+use Rattle.name_closure.specs.Prelude.{IsAmong, IsAmong-append_cases, IsAmong-append_left, IsAmong-append_right}
+use Rattle.name_closure.specs.{Chains.IsChain, Chains.IsReached, DistanceLaws.HasDistance, DistanceLaws.IsDecided, DistanceLaws.some_distance}
 
--- the node is one of the list's
+-- the node is a member of the list
 abbrev pub Listed : {N : Type 0} → List N → N → Type 0
 Listed starts n = IsAmong n starts
 
--- the second is one of those that the first names
+-- the first node names the second
 abbrev pub Named : {N : Type 0} → (N → List N) → N → N → Type 0
 Named named n m = IsAmong m (named n)
 
 module _ {A N : Type 0} (named : A → List N) where
-  -- one of the list names the node
+  -- a member of the list names the node
   abbrev pub IsNamedBy : List A → N → Type 0
   IsNamedBy ms n = (m : A) × (IsAmong m ms × IsAmong n (named m))
 
-  -- what stands in the lists of several is named by one of them
+  -- a member of the concatenated lists is named by one of the elements
   pub named_by : (ms : List A) (n : N) → IsAmong n (flat_map named ms) → IsNamedBy ms n
   named_by [] n h = absurd h
   named_by (m ∷ ms) n h = elim (IsAmong-append_cases n (named m) (flat_map named ms) h) [
@@ -41,7 +40,7 @@ module _ {A N : Type 0} (named : A → List N) where
 
 module _ {N : Type 0} (named : N → List N) where
   module _ (starts : List N) where
-    -- all that chains of so many steps lead to
+    -- all nodes to which a chain of this many edges leads
     abbrev level : ℕ → List N
     level zero = starts
     level (suc k) = flat_map named (level k)
@@ -76,6 +75,6 @@ module _ {N : Type 0} (named : N → List N) where
       pub chain_or_not : (k : ℕ) (n : N) → IsDecided (IsChain (Listed starts) (Named named) k n)
       chain_or_not k n = elim (among_or_not n (level k)) [ inl a ↦ inl (level_chain k n a) | inr b ↦ inr (λ c. b (chain_level k n c)) ]
 
-      -- what is reached is at some distance
+      -- a reached node has a distance
       pub listed_distance : (n : N) → IsReached (Listed starts) (Named named) n → HasDistance (Listed starts) (Named named) n
       listed_distance n = some_distance (Listed starts) (Named named) n (λ k. chain_or_not k n)

@@ -1,24 +1,23 @@
--- Loads put together, and what they name, and that there is one where one thing at most is loaded for each node.
-use Rattle.std.specs.Prelude.{◌≡◌, ◌↔◌, ◌⊎◌, List, [], ◌∷◌, ◌++◌}
-use Rattle.std.specs.Map.{keys_of}
-use Rattle.std.proofs.Common.{refl, ap, subst, ◌∙◌, inl, inr}
+-- Loads are put together, with what they name; and there is one load where at most one thing is loaded for each node.
+use Rattle.std.proofs.Common.{[], ◌++◌, ◌↔◌, ◌∙◌, ◌∷◌, ◌≡◌, ◌⊎◌, ap, inl, inr, List, refl, subst}
 use Rattle.std.proofs.lemmas.List.{map-append}
-use Rattle.std.proofs.lemmas.List.Elements.{All-nil, All-cons, All-head, All-tail, All-append}
-use Rattle.list_laws.specs.Members.{IsAmong, IsAmong-append_cases, IsAmong-append_left, IsAmong-append_right}
-use Rattle.name_closure.specs.Loading.{LeadsByLoad, AreLoaded, AreLoads, AreOthers}
+use Rattle.std.proofs.lemmas.List.Elements.{All-append, All-cons, All-head, All-nil, All-tail}
+use Rattle.std.specs.Map.{keys_of}
+use Rattle.name_closure.specs.Prelude.{IsAmong, IsAmong-append_cases, IsAmong-append_left, IsAmong-append_right}
+use Rattle.name_closure.specs.Loading.{AreLoaded, AreLoads, AreOthers, LeadsByLoad}
 
 module _ {N U : Type 0} (is_loaded : N → U → Type 0) where
   pub loads_none : AreLoads is_loaded [] []
   loads_none = record { in_order = refl; loaded = All-nil (λ (p : N × U). is_loaded p.0 p.1) }
 
-  -- what is loaded for a node, alone
+  -- a load of one node
   pub loads_one : (n : N) (one : U) → is_loaded n one → AreLoads is_loaded (n ∷ []) ((n, one) ∷ [])
   loads_one n one h = record {
     in_order = refl;
     loaded = All-cons (λ (p : N × U). is_loaded p.0 p.1) (n, one) [] h (All-nil (λ (p : N × U). is_loaded p.0 p.1));
   }
 
-  -- loads that stand one behind the other
+  -- loads, one after the other
   pub loads_append : (ms ns : List N) (xs ys : List (N × U)) → AreLoads is_loaded ms xs → AreLoads is_loaded ns ys → AreLoads is_loaded (ms ++ ns) (xs ++ ys)
   loads_append ms ns xs ys a b = record {
     in_order = map-append (λ (p : N × U). p.0) xs ys ∙ ap (λ v. v ++ keys_of ys) a.in_order ∙ ap (λ v. ms ++ v) b.in_order;
@@ -26,12 +25,12 @@ module _ {N U : Type 0} (is_loaded : N → U → Type 0) where
   }
 
   module _ (one : (n : N) (x y : U) → is_loaded n x → is_loaded n y → x ≡ y) where
-    -- a node leads to just those that are named in what is loaded for it
+    -- a node leads to exactly the nodes that are named in what is loaded for it
     pub leads_by_one : (named : U → List N) (n : N) (x : U) → is_loaded n x → (m : N) → LeadsByLoad is_loaded named n m ↔ IsAmong m (named x)
     leads_by_one named n x h m =
         (λ l. subst (λ v. IsAmong m (named v)) (one n l.one x l.loaded h) l.names, λ a. record { one = x; loaded = h; names = a })
 
-    -- of the same nodes there is one load
+    -- the same nodes have one load
     pub one_load_of_nodes : (xs ys : List (N × U)) → keys_of xs ≡ keys_of ys → AreLoaded is_loaded xs → AreLoaded is_loaded ys → xs ≡ ys
     one_load_of_nodes [] [] e a b = refl
     one_load_of_nodes [] (y ∷ ys) e a b = cc (e)
@@ -48,19 +47,19 @@ module _ {N : Type 0} (own : List N) where
   pub others_none : AreOthers own [] []
   others_none = record { origin = λ n h. h; took = λ n h. inr h }
 
-  -- others that stand one behind the other
+  -- lists of others, one after the other
   pub others_append : (all some more others : List N) → AreOthers own all some → AreOthers own more others → AreOthers own (all ++ more) (some ++ others)
   others_append all some more others a b = record {
     origin = λ n h. elim (IsAmong-append_cases n some others h) [
       | inl c ↦ IsAmong-append_left n all more (a.origin n c)
       | inr c ↦ IsAmong-append_right n all more (b.origin n c)
     ];
-    took = λ n h. elim (IsAmong-append_cases n all more h) [ inl c ↦ front n (a.took n c) | inr c ↦ back n (b.took n c) ];
+    took = λ n h. elim (IsAmong-append_cases n all more h) [ inl c ↦ prefix n (a.took n c) | inr c ↦ back n (b.took n c) ];
   }
     where
-      front : (n : N) → IsAmong n own ⊎ IsAmong n some → IsAmong n own ⊎ IsAmong n (some ++ others)
-      front n (inl c) = inl c
-      front n (inr c) = inr (IsAmong-append_left n some others c)
+      prefix : (n : N) → IsAmong n own ⊎ IsAmong n some → IsAmong n own ⊎ IsAmong n (some ++ others)
+      prefix n (inl c) = inl c
+      prefix n (inr c) = inr (IsAmong-append_left n some others c)
 
       back : (n : N) → IsAmong n own ⊎ IsAmong n others → IsAmong n own ⊎ IsAmong n (some ++ others)
       back n (inl c) = inl c

@@ -1,17 +1,16 @@
--- How what is reached depends on the sources and on the steps: it depends on which they are alone, sources unite, and what is reached leads no farther.
-use Rattle.std.specs.Prelude.{◌↔◌, ◌⊎◌, ℕ, zero, suc, List}
+-- How the reached nodes depend on the sources and the edges: only on which they are. Sources can be united, and reached
+-- nodes lead to reached nodes.
+use Rattle.std.proofs.Common.{◌↔◌, ◌⊎◌, inl, inr, List, suc, zero, ℕ}
 use Rattle.std.specs.declared.cmp.Ordering.{Ordering}
-use Rattle.std.proofs.Common.{inl, inr}
-use Rattle.name_closure.specs.Chains.{IsChain, IsReached, IsDistance, IsClosure}
-use Rattle.name_closure.specs.ClosureLaws.{reached_closed, reached_least}
+use Rattle.name_closure.specs.{Chains.IsChain, Chains.IsClosure, Chains.IsDistance, Chains.IsReached, ClosureLaws.reached_closed, ClosureLaws.reached_least}
 
 -- the same nodes are in both sets
 abbrev pub AreSameNodes : {N : Type 0} → (N → Type 0) → (N → Type 0) → Type 0
 AreSameNodes {N} s t = (n : N) → s n ↔ t n
 
--- the same steps are in both relations
-abbrev pub AreSameSteps : {N : Type 0} → (N → N → Type 0) → (N → N → Type 0) → Type 0
-AreSameSteps {N} e f = (n m : N) → e n m ↔ f n m
+-- the same edges are in both relations
+abbrev pub AreSameSuccessors : {N : Type 0} → (N → N → Type 0) → (N → N → Type 0) → Type 0
+AreSameSuccessors {N} e f = (n m : N) → e n m ↔ f n m
 
 -- the node is in one of the two sets
 abbrev pub IsInEither : {N : Type 0} → (N → Type 0) → (N → Type 0) → N → Type 0
@@ -19,16 +18,16 @@ IsInEither s t n = s n ⊎ t n
 
 module _ {N : Type 0} where
   module _ (s t : N → Type 0) (e f : N → N → Type 0) (sources : (n : N) → s n → t n) (steps : (n m : N) → e n m → f n m) where
-    -- more sources and more steps have all the chains
+    -- all chains are still there when sources and edges are added
     pub more_chains : (k : ℕ) (n : N) → IsChain s e k n → IsChain t f k n
     more_chains zero n c = sources n c
     more_chains (suc k) n c = (c.0, (more_chains k c.0 c.1.0, steps c.0 n c.1.1))
 
-    -- and reach all
+    -- and all nodes are still reached
     pub more_reached : (n : N) → IsReached s e n → IsReached t f n
     more_reached n r = record { steps = r.steps; chain = more_chains r.steps n r.chain }
 
-  module _ (s t : N → Type 0) (e f : N → N → Type 0) (sources : AreSameNodes s t) (steps : AreSameSteps e f) where
+  module _ (s t : N → Type 0) (e f : N → N → Type 0) (sources : AreSameNodes s t) (steps : AreSameSuccessors e f) where
     forward : (k : ℕ) (n : N) → IsChain s e k n → IsChain t f k n
     forward = more_chains s t e f (λ n. (sources n).0) (λ n m. (steps n m).0)
 
@@ -47,7 +46,7 @@ module _ {N : Type 0} where
 
     pub same_closure : (order : N → N → Ordering) (nodes : List N) → IsClosure s e order nodes → IsClosure t f order nodes
     same_closure order nodes c = record {
-      rising = c.rising;
+      ascending = c.ascending;
       members = λ n. (λ h. (same_reached n).0 ((c.members n).0 h), λ r. (c.members n).1 ((same_reached n).1 r));
     }
 
@@ -60,7 +59,7 @@ module _ {N : Type 0} where
       | inr r ↦ inr ((reached_closed t leads).stepped c.0 n r c.1.1)
     ]
 
-    -- what is reached from the sources of two sets is reached from those of one of them
+    -- what is reached from the union of two source sets is reached from one of them
     pub sources_unite : (s t : N → Type 0) → AreSameNodes (IsReached (IsInEither s t) leads) (IsInEither (IsReached s leads) (IsReached t leads))
     sources_unite s t n = (λ r. either_chain s t r.steps n r.chain, from)
       where
@@ -68,7 +67,7 @@ module _ {N : Type 0} where
         from (inl r) = more_reached s (IsInEither s t) leads leads (λ m h. inl h) (λ m o h. h) n r
         from (inr r) = more_reached t (IsInEither s t) leads leads (λ m h. inr h) (λ m o h. h) n r
 
-    -- what is reached leads to nothing that isn't reached
+    -- what is reached from reached nodes is reached
     pub reached_again : (s : N → Type 0) → AreSameNodes (IsReached (IsReached s leads) leads) (IsReached s leads)
     reached_again s n = (
       reached_least (IsReached s leads) leads (IsReached s leads) (record { started = λ m r. r; stepped = (reached_closed s leads).stepped }) n,

@@ -1,4 +1,4 @@
-//! Least closed sets with what is loaded for their nodes, by rounds.
+//! Closures: all nodes that are reached, each with what is loaded for it, computed in rounds.
 ghost use Rattle.std.specs.{Prelude.{◌≤◌, length, All, IfOk, IfErr}, BTreeMap.{keys}, List.Sorted.{IsStrictlySortedBy}};
 ghost use Rattle.name_closure.specs.{Chains.{IsClosure, HasOver}, Faults.{OnTooMany}, ListedLaws.{Listed}};
 ghost use Rattle.name_closure.specs.Loading.{LeadsByLoad, AreLoaded, IsRound};
@@ -10,15 +10,14 @@ use plain_values::Key;
 use std::alloc::{AllocError, Global};
 use std::collections::BTreeMap;
 
-/// All that is reached from the sources, each node with what is loaded for it: the least set that
-/// has the sources, and all nodes that are named in what is loaded for its nodes. The sources are
-/// nodes that the loader can load.
+/// Returns all nodes that are reached from the sources, each with what is loaded for it: the least set that has the
+/// sources, and all nodes that are named in what is loaded for its members. The loader must be able to load the
+/// sources.
 ///
-/// `TooMany` where that is more than the limit, and only there: the limit is met however the nodes
-/// are ordered, and before the nodes of a round that goes past it are loaded. `Memory` for want of
-/// memory alone. Each node is loaded once, and none is copied but the sources. Besides the loads
-/// O(n + m log m + m log n), for n nodes that are reached and m that are named in all, the sources
-/// among them.
+/// Fails with `TooMany` exactly where more nodes than `limit` are reached, whatever the order of the nodes, and before
+/// it loads the round that would pass the limit. Fails with `Memory` only if memory runs out. Each node is loaded once,
+/// and only the sources are copied. Besides the loads the cost is O(n + m log m + m log n), for n nodes that are
+/// reached and m names in all, the sources included.
 pub fn close_loaded<K: Key, L: Loads<K>>(
     alloc: Global,
     loader: &L,
@@ -45,9 +44,9 @@ pub fn close_loaded<K: Key, L: Loads<K>>(
     )
 }
 
-/// The same, refusals and cost too, where a round's new nodes are loaded by a call. It is given them
-/// rising, all of them nodes that the loader can load, and gives each with what the loader loads for it,
-/// and the other nodes that are named there.
+/// Like `close_loaded`, with the same errors and cost, but `load_round` loads the new nodes of a round. It is called
+/// with these nodes in ascending order, all of which the loader can load. It returns each of them with what the loader
+/// loads for it, and the other nodes that are named there.
 pub fn close_by_rounds<
     K: Key,
     L: Loads<K>,

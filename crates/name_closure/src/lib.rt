@@ -1,13 +1,18 @@
-//! Least closed sets and distances: what is reached from sources by steps, for any nodes. The code is of keys,
-//! keeps what was loaded for each, and goes by rounds.
+//! Closures and distances: the nodes that are reached from some sources along edges, for any type of node. The code
+//! works on keys, caches what was loaded for each, and computes a closure in rounds.
 //!
 //! Promise: the universe and its graph are exact.
 //!
-//! The definitions and laws are of any nodes, sources and steps, so that closures over names and over indexes, and
-//! over any part of the steps, are of one kind. Each user shows what its sources and steps are, and cites the laws.
+//! The definitions and laws hold for any nodes, sources and edges, so they serve closures over names, over indices, and
+//! over any part of the edges. A user shows what its sources and edges are, and cites the laws.
 //!
-//! All new nodes of a round are loaded by one call, since loading takes time, and several may load at the same
-//! time. Code over indexes, which can mark what it has found, stands with its user.
+//! - `closures`: closures whose nodes are loaded; one call loads all new nodes of a round, since loading takes time and
+//!   can be spread over threads.
+//! - `loads`: the trait of loaders.
+//! - `names`: the nodes that a round names.
+//! - `laws`: laws of closures and distances.
+//!
+//! Code over indices, which can keep the nodes that it has found in a bit set, is in the crates that use it.
 #![tactic(auto)]
 
 mod closures;
@@ -18,7 +23,7 @@ mod rounds;
 
 pub use closures::{close_by_rounds, close_loaded};
 pub use laws::{
-    KnownNodes, NodeSet, StepSet, closures_kept, closures_of_same_steps, distances_by_lists,
+    EdgeSet, KnownNodes, NodeSet, closures_of_same_edges, closures_stay, distances_by_lists,
     distances_of_nodes, least_closed_sets, lists_of_closures, loaded_closures, sources_of_closures,
 };
 pub use loads::{ClosureFault, Loads, Round, load_each};

@@ -7,9 +7,9 @@ use crate::loads::{Loads, Round, load_each};
 use plain_values::Key;
 use std::alloc::{AllocError, Global};
 
-/// What a round loads, by one thread: each of its nodes with what is loaded for it, and the other nodes that are named
-/// there, each once, in order. `AllocError` for want of memory. Besides the loads a search for each node that is named, and
-/// O(m log m) for m of them that aren't the round's own.
+/// Loads a round on one thread. Returns each of its nodes with what is loaded for it, and the other nodes that are
+/// named there, each once, in ascending order. Fails only if memory runs out. Besides the loads it costs
+/// O(m log m + m log n), for n nodes of the round and m names in all.
 pub(crate) fn load_round<K: Key, L: Loads<K>>(
     alloc: Global,
     loader: &L,
@@ -24,9 +24,9 @@ pub(crate) fn load_round<K: Key, L: Loads<K>>(
     Ok(Round { pairs, names })
 }
 
-/// The nodes that are named in a part of what a round loaded and aren't the round's own, each once, in order; where its
-/// nodes don't rise, maybe some of its own too. `AllocError` for want of memory. A search for each node that is named, and
-/// O(m log m) for m that are given.
+/// Returns the nodes that are named in `part`, a part of what a round loaded, and aren't the round's own: each once, in
+/// ascending order. If the round's nodes aren't in ascending order, some of them may be returned too. Fails only if
+/// memory runs out. It costs O(m log m + m log n), for n nodes of the round and m names in the part.
 pub fn others_named<K: Key, L: Loads<K>>(
     alloc: Global,
     loader: &L,
@@ -38,7 +38,7 @@ pub fn others_named<K: Key, L: Loads<K>>(
     ensures others { IfOk result (λ names. AreOthers (keys_of pairs.now)
         (flat_map (λ pair. L.named loader.now pair.1) part.now) names.items) }
     ensures nodes { IfOk result (λ names. All (L.is_node loader.now) names.items) }
-    ensures rising { IfOk result (λ names. IsStrictlySortedBy K.cmp names.items) }
+    ensures ascending { IfOk result (λ names. IsStrictlySortedBy K.cmp names.items) }
     ensures apart { IsStrictlySortedBy K.cmp (keys_of pairs.now)
         → IfOk result (λ names. AreApart (keys_of pairs.now) names.items) }
 {
@@ -50,7 +50,7 @@ pub fn others_named<K: Key, L: Loads<K>>(
     Ok(each_once(names))
 }
 
-// Adds those of the nodes that aren't the round's own.
+// Appends those of the nodes that aren't the round's own.
 fn add_others<K: Key, U>(
     pairs: &[(K, U)],
     names: &mut Vec<K>,
@@ -68,7 +68,7 @@ fn add_others<K: Key, U>(
     Ok(())
 }
 
-// Whether a node is seen to be one of the round's own: always where these rise. O(log n).
+// Whether a search finds the node among the round's own. It always finds one if these are in ascending order. O(log n).
 fn is_own<K: Key, U>(pairs: &[(K, U)], node: &K) -> bool
     ensures own { IsTrue result → IsAmong node.now (keys_of pairs.now) }
     ensures seen { IsStrictlySortedBy K.cmp (keys_of pairs.now) → IsAmong node.now (keys_of pairs.now)
@@ -80,9 +80,9 @@ fn is_own<K: Key, U>(pairs: &[(K, U)], node: &K) -> bool
     }
 }
 
-// The nodes, each once, in order. In place, without memory; O(m log m) for m nodes.
+// Sorts the nodes and removes repeats. In place, allocating nothing; O(m log m) for m nodes.
 pub(crate) fn each_once<K: Key>(nodes: Vec<K>) -> Vec<K>
-    ensures rising { IsStrictlySortedBy K.cmp result.items }
+    ensures ascending { IsStrictlySortedBy K.cmp result.items }
     ensures members { (n : K) → IsAmong n result.items ↔ IsAmong n nodes.items }
 {
     let mut once = nodes;

@@ -1,5 +1,5 @@
-//! What a round of a closure does: what was loaded is added to what is found, and the nodes that
-//! are named there and not found yet are those of the next round.
+//! What a round of a closure does: it adds what was loaded to what is found. The nodes that are named there and not
+//! found yet are the next round's.
 ghost use Rattle.std.specs.{Prelude.{◌≡◌, IfOk, OnOk}, BTreeMap.{keys}, List.Sorted.{IsStrictlySortedBy}, Map.{keys_of}};
 ghost use Rattle.name_closure.specs.{Growth.{AreJoined, AreNew}, Loading.{AreLoaded}};
 
@@ -9,7 +9,7 @@ use plain_values::Key;
 use std::alloc::{AllocError, Global};
 use std::collections::BTreeMap;
 
-// An equal list.
+// Returns an equal list.
 pub(crate) fn copy_of<K: Key>(alloc: Global, nodes: &[K]) -> Result<Vec<K>, AllocError>
     ensures copy { IfOk result (λ copy. copy.items ≡ nodes.now) }
 {
@@ -20,8 +20,8 @@ pub(crate) fn copy_of<K: Key>(alloc: Global, nodes: &[K]) -> Result<Vec<K>, Allo
     Ok(copy)
 }
 
-// The nodes that aren't found yet, each once, in order. In place, without memory; a search for each
-// node, and O(m log m) for m that aren't found.
+// Returns the nodes that aren't found yet, each once, in ascending order. In place, allocating nothing. Costs a search
+// for each node, and O(m log m) for the m nodes that aren't found.
 pub(crate) fn new_of<K: Key, U>(found: &BTreeMap<K, U>, nodes: Vec<K>) -> Vec<K>
     ensures fresh { AreNew K.cmp (keys found.now) nodes.items result.items }
 {
@@ -30,18 +30,18 @@ pub(crate) fn new_of<K: Key, U>(found: &BTreeMap<K, U>, nodes: Vec<K>) -> Vec<K>
     each_once(fresh)
 }
 
-// Adds what was loaded for nodes to what is found. O(m + n) for m nodes that rise and n that are found where m is over a quarter
-// of n, and else O(m log n).
+// Adds what was loaded for some nodes to what is found. For m nodes in ascending order and n found ones it costs
+// O(m + n) where m is more than a quarter of n, and O(m log n) otherwise.
 pub(crate) fn add_loaded<K: Key, L: Loads<K>>(
     alloc: Global,
     loader: &L,
     found: &mut BTreeMap<K, L::Loaded>,
     pairs: Vec<(K, L::Loaded)>,
 ) -> Result<(), AllocError>
-    requires rising { IsStrictlySortedBy K.cmp (keys found.old) }
+    requires ascending { IsStrictlySortedBy K.cmp (keys found.old) }
     requires found { AreLoaded (L.is_loaded loader.now) found.old.entries }
     requires pairs { AreLoaded (L.is_loaded loader.now) pairs.items }
-    ensures rising { IsStrictlySortedBy K.cmp (keys found.new) }
+    ensures ascending { IsStrictlySortedBy K.cmp (keys found.new) }
     ensures entries { OnOk result (AreLoaded (L.is_loaded loader.now) found.new.entries) }
     ensures joined { OnOk result (AreJoined (keys found.old) (keys_of pairs.items) (keys found.new)) }
 {

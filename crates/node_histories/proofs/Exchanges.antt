@@ -1,16 +1,10 @@
--- The exchange that adds an event keeps the rule.
-use Rattle.std.proofs.Common.{◌≡◌, ℕ, ◌+◌, ◌<◌, ◌≤◌, ◌==◌, Bool, true, false, List, [], ◌∷◌, ◌++◌, length, refl, ap, sym, subst, arith, inl, None}
-use Rattle.std.proofs.lemmas.List.{append-nil}
+-- The atomic exchange that adds an event preserves the log's invariant.
+use Rattle.logbook.specs.Pages.{Cell, cell, Goes, keeps, Moves, no_nib, step}
+use Rattle.std.proofs.Common.{[], ◌++◌, ◌+◌, ◌<◌, ◌==◌, ◌∷◌, ◌≡◌, ◌≤◌, ap, append-nil, arith, Bool, false, inl, length, List, None, refl, subst, sym, true, ℕ}
 use Rattle.std.proofs.lemmas.Bool.Decides.{nat_tests}
 use mathlib.Core.List.{IsPrefix}
 use prog.Atomic.{either}
-use Rattle.logbook.specs.Pages.{Cell, cell, keeps, no_nib, step, Moves, Goes}
-use Rattle.replica_store.specs.Replicas.{Replicated}
-use Rattle.node_histories.specs.declared.events.HistoryEvent.{HistoryEvent}
-use Rattle.node_histories.specs.Histories.{IsLegal, IsNext, takes_in, opening_of, all_edits}
-use Rattle.node_histories.specs.HistoryLaws.{legal_snoc, legal_filled, legal_own, takes_in-snoc}
-use Rattle.node_histories.specs.PrefixLaws.{prefix_whole, prefix_length}
-use Rattle.node_histories.specs.Books.{IsKept, Adds}
+use Rattle.node_histories.proofs.Prelude.{Adds, all_edits, HistoryEvent, IsKept, IsLegal, IsNext, legal_filled, legal_own, legal_snoc, opening_of, prefix_length, prefix_whole, Replicated, takes_in, takes_in-snoc}
 
 abbrev pub shown : List HistoryEvent → List HistoryEvent
 shown log = []
@@ -52,7 +46,7 @@ adds_goes r log v e old len may mine legal pre false is =
       rw is (ap takes_in all),
     )
 
--- whatever the book is, the exchange adds the event to all that was seen, or finds that the history is longer
+-- whatever the log is, the exchange adds the event to all that was seen, or finds that the history is longer
 pub adds_moves : (r : Replicated) (v : List HistoryEvent) (e : HistoryEvent) (old : ℕ) → takes_in v ≡ old → IsLegal r v → IsNext r.writer (all_edits v) e
     → Moves IsKept shown moved 0 (v, (no_nib, None)) (λ n. either (n == old) (old + 1) n) (Adds (step 0 old (old + 1) e) (v, (no_nib, None)))
 adds_moves r v e old len mine may cs log kept pre away =

@@ -1,16 +1,8 @@
--- Turns, which stand for an event that is to come next.
-use Rattle.std.proofs.Common.{◌≡◌, ℕ, ◌+◌, List, [], ◌∷◌, ◌++◌, refl, sym, ap, subst, ◌∙◌}
-use Rattle.join_law.specs.declared.versions.Version.{Version}
-use Rattle.edit_sums.specs.declared.entries.Edit.{Edit}
-use Rattle.edit_sums.specs.Sums.{EntryMap, high_of, join, with_edit}
-use Rattle.replica_store.specs.Replicas.{Replicated, next_version}
-use Rattle.node_histories.specs.declared.events.HistoryEvent.{HistoryEvent}
-use Rattle.node_histories.specs.declared.events.HistoryEvent.TheVariants.{Edited, Absorbed}
-use Rattle.node_histories.specs.Books.{TurnNow}
-use Rattle.node_histories.specs.Histories.{all_edits, counter_of, store_of, replica_of, opening_of, IsLegal, IsNext}
-use Rattle.node_histories.specs.HistoryLaws.{high_of-store_of, legal_filled, store_of-edited, store_of-absorbed, next_edit, opening_of-snoc}
+-- Requests: events that are to come next.
+use Rattle.std.proofs.Common.{[], ◌++◌, ◌+◌, ◌∙◌, ◌∷◌, ◌≡◌, ap, List, refl, subst, sym, ℕ}
+use Rattle.node_histories.proofs.Prelude.{Absorbed, all_edits, counter_of, Edit, Edited, EntryMap, high_of, high_of-store_of, HistoryEvent, IsLegal, IsNext, join, legal_filled, next_edit, next_version, opening_of, opening_of-snoc, replica_of, Replicated, store_of, store_of-absorbed, store_of-edited, TurnNow, Version, with_edit}
 
--- the edit of a turn may come next, if its version is the next one of what the history gives
+-- the edit of a request may come next, if its version is the next one of the replica that the history gives
 pub turn_next : (t : TurnNow) (h : List HistoryEvent) (seat : ℕ) (e : Edit) (o : Replicated) → t.seen ≡ h → t.ask ≡ Edited seat e → opening_of h ≡ o → e.version ≡ next_version (replica_of h)
     → IsNext o.writer (all_edits t.seen) t.ask
 turn_next t h seat e o seen ask opening version =
@@ -18,14 +10,14 @@ turn_next t h seat e o seen ask opening version =
     let at : IsNext o.writer (all_edits h) t.ask = subst (IsNext o.writer (all_edits h)) (sym ask) n in
     subst (λ (k : List HistoryEvent). IsNext o.writer (all_edits k) t.ask) (sym seen) at
 
--- the version behind the greatest counter that the history has is the next one of what the history gives
+-- the version after the greatest counter of the history is the next one of the replica that it gives
 pub version_next : (h : List HistoryEvent) (r : Replicated) (counter writer : ℕ) → r ≡ replica_of h → counter ≡ counter_of h → writer ≡ r.writer
     → ◌≡◌ {A = Version} (record { counter = counter + 1; writer = writer }) (next_version r)
 version_next h r counter writer kept read own =
     let high : counter ≡ high_of r.store = read ∙ sym (ap (λ q. high_of q.store) kept ∙ high_of-store_of h) in
     λ i. record { counter = high i + 1; writer = own i }
 
--- what stands after the event of a turn is what the longer history gives, where the event changes what the history gives in that way
+-- what the request's event leaves is what the longer history gives, if the event changes the replica in that way
 turned : (t : TurnNow) (h : List HistoryEvent) (event : HistoryEvent) (change : EntryMap → EntryMap) (r r' : Replicated)
     → IsLegal (opening_of h) h → t.seen ≡ h → t.ask ≡ event → store_of (h ++ event ∷ []) ≡ change (store_of h)
     → r ≡ replica_of h → r' ≡ record r { store = change r.store } → r' ≡ replica_of (t.seen ++ t.ask ∷ [])

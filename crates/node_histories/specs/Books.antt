@@ -1,16 +1,17 @@
--- The rule of the book that keeps a history, and what its steps tell.
+-- The invariant of the log that has a history, and what its steps return.
 -- Source: this project's own.
-use Rattle.std.specs.Prelude.{ℕ, ◌≡◌, ◌==◌, true, List, [], ◌∷◌, ◌++◌, MatchBool}
-use Rattle.logbook.specs.Pages.{Cell, Step, View, Book, Named}
-use Rattle.node_histories.specs.declared.events.HistoryEvent.{HistoryEvent}
-use Rattle.node_histories.specs.Histories.{IsLegal, takes_in, opening_of}
+use Rattle.logbook.specs.Pages.{Book, Cell, Named, Step, View}
+use Rattle.std.proofs.Common.{[], ◌++◌, ◌==◌, ◌∷◌, ◌≡◌, List, true, ℕ}
+use Rattle.std.specs.Prelude.{MatchBool}
+use Rattle.node_histories.specs.{declared.events.HistoryEvent.HistoryEvent, Histories.IsLegal, Histories.opening_of, Histories.takes_in}
 
--- the first word is the number of takes of the history, which is legal. A book has two words, of which this one leaves the second at 0
+-- the first word is the number of takes of the history, which is valid; a log has two words, of which the second stays
+-- 0
 pub record IsKept (cells : List Cell) (log : List HistoryEvent) : Type 0 where
   pub words : cells ≡ (takes_in log, true) ∷ (0, true) ∷ []
   pub legal : IsLegal (opening_of log) log
 
--- the first word of a book
+-- the first word of a log
 abbrev pub head_of : Book → Named
 head_of b = record { tracked = true; key = 0; book = b }
 

@@ -1,18 +1,11 @@
--- Codes, by which a proof tells histories apart, and that facts of them have one proof.
+-- Codes, by which proofs distinguish histories, and by which facts about them have one proof.
 -- Source: this project's own.
-use Rattle.std.specs.Prelude.{◌≡◌, ℕ, List, [], ◌∷◌, ◌++◌, refl}
-use Rattle.std.specs.Coded.{Coded, Coded-set, code_by, coded×, coded_list, coded_ℕ, ×_prop, Unit-prop, le_prop}
+use Rattle.std.proofs.Common.{[], ◌++◌, ◌∷◌, ◌≡◌, List, refl, ℕ}
+use Rattle.std.specs.Coded.{code_by, Coded, Coded-set, coded_list, coded_ℕ, coded×, le_prop, Unit-prop, ×_prop}
+use Rattle.node_histories.specs.Prelude.{coded_entry, coded_place, coded_replicated, Edit, edits_of, EntryMap, Replicated}
+use Rattle.node_histories.specs.{Books.TurnNow, declared.events.HistoryEvent.HistoryEvent, declared.events.HistoryEvent.TheVariants.Absorbed, declared.events.HistoryEvent.TheVariants.Edited, declared.events.HistoryEvent.TheVariants.Opening, Histories.edits_in, Histories.IsLegal, Histories.IsLegalAfter, Histories.IsNext}
 use Rattle.std.specs.FinMap as finmap
-use Rattle.load_places.specs.PlaceLaws.{coded_place}
-use Rattle.edit_sums.specs.EntryCodes.{coded_entry}
-use Rattle.edit_sums.specs.declared.entries.Edit.{Edit}
-use Rattle.edit_sums.specs.Sums.{EntryMap, edits_of}
-use Rattle.replica_store.specs.Replicas.{Replicated, coded_replicated}
-use Rattle.node_histories.specs.declared.events.HistoryEvent.{HistoryEvent}
-use Rattle.node_histories.specs.declared.events.HistoryEvent.TheVariants.{Opening, Edited, Absorbed}
 use Rattle.node_histories.specs.contracts.events.HistoryEvent as event
-use Rattle.node_histories.specs.Books.{TurnNow}
-use Rattle.node_histories.specs.Histories.{IsNext, IsLegalAfter, IsLegal, edits_in}
 
 abbrev pub coded_store : Coded EntryMap
 coded_store = finmap.code coded_place coded_entry
@@ -41,7 +34,7 @@ IsLegalAfter-prop : (w : ℕ) (before : List Edit) (h : List HistoryEvent) → I
 IsLegalAfter-prop w before [] = Unit-prop
 IsLegalAfter-prop w before (x ∷ h) = ×_prop (IsNext-prop w before x) (IsLegalAfter-prop w (before ++ edits_in x) h)
 
--- a history is legal in one way
+-- there is one proof that a history is valid
 pub IsLegal-prop : (start : Replicated) (h : List HistoryEvent) → IsProp (IsLegal start h)
 IsLegal-prop start [] = λ l. absurd l
 IsLegal-prop start (Opening r ∷ h) = ×_prop (replica-prop r start) (IsLegalAfter-prop start.writer (edits_of start.store) h)

@@ -1,14 +1,12 @@
 -- Histories of a node: what it opened over, and then its takes.
--- Source: this project's own, after the updates of Shapiro, Preguica, Baquero, Zawirski 2011; counters after Lamport 1978.
-use Rattle.std.specs.Prelude.{◌≡◌, ℕ, ◌-◌, ◌<◌, ◌==◌, Bool, false, List, [], ◌∷◌, ◌++◌, length, count_by}
+-- Source: this project's own, after the updates of Shapiro, Preguica, Baquero, Zawirski 2011; counters after Lamport
+-- 1978.
+use Rattle.std.proofs.Common.{[], ◌++◌, ◌-◌, ◌<◌, ◌==◌, ◌∷◌, ◌≡◌, Bool, false, length, List, ℕ}
+use Rattle.std.specs.Prelude.{count_by}
 use mathlib.Core.List.{IsPrefix}
+use Rattle.node_histories.specs.Prelude.{changed_places, Edit, edits_of, EntryMap, high_among, IsAmong, Replicated, sum_of}
+use Rattle.node_histories.specs.{declared.events.HistoryEvent.HistoryEvent, declared.events.HistoryEvent.TheVariants.Absorbed, declared.events.HistoryEvent.TheVariants.Edited, declared.events.HistoryEvent.TheVariants.Opening}
 use Rattle.std.specs.FinMap as finmap
-use Rattle.list_laws.specs.Members.{IsAmong}
-use Rattle.edit_sums.specs.declared.entries.Edit.{Edit}
-use Rattle.edit_sums.specs.Sums.{EntryMap, edits_of, sum_of, high_among, changed_places}
-use Rattle.replica_store.specs.Replicas.{Replicated}
-use Rattle.node_histories.specs.declared.events.HistoryEvent.{HistoryEvent}
-use Rattle.node_histories.specs.declared.events.HistoryEvent.TheVariants.{Opening, Edited, Absorbed}
 
 -- the edits that an event brings
 abbrev pub edits_in : HistoryEvent → List Edit
@@ -16,7 +14,7 @@ edits_in (Opening replica) = edits_of replica.store
 edits_in (Edited seat edit) = edit ∷ []
 edits_in (Absorbed seat piece) = edits_of piece
 
--- all edits of a history, those of the opening too
+-- all edits of a history, with those of the opening
 abbrev pub all_edits : List HistoryEvent → List Edit
 all_edits [] = []
 all_edits (x ∷ xs) = edits_in x ++ all_edits xs
@@ -33,7 +31,7 @@ counter_of h = high_among (all_edits h)
 abbrev pub takes_in : List HistoryEvent → ℕ
 takes_in h = length h - 1
 
--- the replica that it opened over; where it has no opening, an empty one
+-- the replica that it opened over; an empty one if it has no opening
 abbrev pub opening_of : List HistoryEvent → Replicated
 opening_of [] = record { store = finmap.empty; writer = 0 }
 opening_of (Opening replica ∷ h) = replica
@@ -44,7 +42,7 @@ opening_of (Absorbed seat piece ∷ h) = record { store = finmap.empty; writer =
 abbrev pub replica_of : List HistoryEvent → Replicated
 replica_of h = record { store = store_of h; writer = (opening_of h).writer }
 
--- the event may come after these edits: an edit has the writer's number, and a counter above all of theirs
+-- the event may come after these edits: an edit must have the writer's number and a counter above all of theirs
 abbrev pub IsNext : ℕ → List Edit → HistoryEvent → Type 0
 IsNext writer before (Opening replica) = ⊥
 IsNext writer before (Edited seat edit) = (edit.version.writer ≡ writer) × (high_among before < edit.version.counter)
@@ -54,7 +52,7 @@ abbrev pub IsLegalAfter : ℕ → List Edit → List HistoryEvent → Type 0
 IsLegalAfter writer before [] = Unit {0}
 IsLegalAfter writer before (x ∷ xs) = IsNext writer before x × IsLegalAfter writer (before ++ edits_in x) xs
 
--- it opened over this replica, and then come takes, each of which may come after all before it
+-- it opened over this replica, and the rest are takes, each of which may come after all before it
 abbrev pub IsLegal : Replicated → List HistoryEvent → Type 0
 IsLegal start [] = ⊥
 IsLegal start (Opening replica ∷ h) = (replica ≡ start) × IsLegalAfter start.writer (edits_of start.store) h
@@ -71,7 +69,7 @@ is_take_of seat (Absorbed by piece) = by == seat
 abbrev pub takes_of : ℕ → List HistoryEvent → ℕ
 takes_of seat h = count_by (λ x. is_take_of seat x) h
 
--- the history is all that was seen before, and then perhaps others' takes, and at the end this event
+-- the history is all that was seen before, then perhaps takes of others, and last this event
 abbrev pub EndsWith : List HistoryEvent → List HistoryEvent → HistoryEvent → Type 0
 EndsWith seen h x = (before : List HistoryEvent) × IsPrefix seen before × (h ≡ before ++ x ∷ [])
 

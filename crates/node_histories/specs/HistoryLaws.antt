@@ -1,18 +1,10 @@
--- A history with one event more, and what a legal history says of each of its edits.
+-- A history with one more event, and what a valid history says of each of its edits.
 -- Source: this project's own.
-use Rattle.std.proofs.Common.{◌≡◌, ◌≢◌, ℕ, ◌+◌, ◌<◌, ◌≤◌, List, [], ◌∷◌, ◌++◌, length, refl, sym, ap, subst, ◌∙◌, arith, append_assoc, length-append, cond}
-use Rattle.std.proofs.lemmas.List.{append-nil}
-use Rattle.std.proofs.lemmas.List.Sums.{sum_by-append, count_by-le-length}
+use Rattle.std.proofs.Common.{[], ◌++◌, ◌+◌, ◌<◌, ◌∙◌, ◌∷◌, ◌≡◌, ◌≢◌, ◌≤◌, ap, append-nil, append_assoc, arith, cond, length, length-append, List, refl, subst, sym, ℕ}
+use Rattle.std.proofs.lemmas.List.Sums.{count_by-le-length, sum_by-append}
 use mathlib.Core.List.{IsPrefix}
-use Rattle.list_laws.specs.Members.{IsAmong}
-use Rattle.replica_store.specs.Replicas.{Replicated, next_version}
-use Rattle.edit_sums.specs.declared.entries.Edit.{Edit}
-use Rattle.edit_sums.specs.Sums.{EntryMap, edits_of, sum_of, join, with_edit, high_of}
-use Rattle.edit_sums.specs.SumLaws.{sum_of-append, sum_of-edits_of, sum_of-push, sum_of-same_edits}
-use Rattle.edit_sums.specs.CounterLaws.{high_of-sum_of, counter_among}
-use Rattle.node_histories.specs.declared.events.HistoryEvent.{HistoryEvent}
-use Rattle.node_histories.specs.declared.events.HistoryEvent.TheVariants.{Opening, Edited, Absorbed}
-use Rattle.node_histories.specs.Histories.{edits_in, all_edits, store_of, counter_of, replica_of, opening_of, takes_in, takes_of, is_take_of, IsNext, IsLegalAfter, IsLegal, IsAbove}
+use Rattle.node_histories.specs.Prelude.{counter_among, Edit, edits_of, EntryMap, high_of, high_of-sum_of, IsAmong, join, next_version, Replicated, sum_of, sum_of-append, sum_of-edits_of, sum_of-push, sum_of-same_edits, with_edit}
+use Rattle.node_histories.specs.{declared.events.HistoryEvent.HistoryEvent, declared.events.HistoryEvent.TheVariants.Absorbed, declared.events.HistoryEvent.TheVariants.Edited, declared.events.HistoryEvent.TheVariants.Opening, Histories.all_edits, Histories.counter_of, Histories.edits_in, Histories.is_take_of, Histories.IsAbove, Histories.IsLegal, Histories.IsLegalAfter, Histories.IsNext, Histories.opening_of, Histories.replica_of, Histories.store_of, Histories.takes_in, Histories.takes_of}
 
 pub all_edits_snoc : (h : List HistoryEvent) (x : HistoryEvent) → all_edits (h ++ x ∷ []) ≡ all_edits h ++ edits_in x
 all_edits_snoc [] x = append-nil (edits_in x)
@@ -36,7 +28,7 @@ store_of-absorbed h seat p =
 pub high_of-store_of : (h : List HistoryEvent) → high_of (store_of h) ≡ counter_of h
 high_of-store_of h = high_of-sum_of (all_edits h)
 
--- legality
+-- validity
 pub legal_opening : (r : Replicated) (h : List HistoryEvent) → IsLegal r h → opening_of h ≡ r
 legal_opening r [] l = absurd l
 legal_opening r (Opening q ∷ h) l = l.0
@@ -47,14 +39,14 @@ pub legal_filled : (r : Replicated) (h : List HistoryEvent) → IsLegal r h → 
 legal_filled r [] l = absurd l
 legal_filled r (x ∷ h) l = omega arith
 
--- what is legal over the replica that it opened over is legal over any that is the same
+-- what is valid over the replica that it opened over is valid over any equal one
 pub legal_over : (r : Replicated) (h : List HistoryEvent) → opening_of h ≡ r → IsLegal (opening_of h) h → IsLegal r h
 legal_over r h same l = subst (λ (q : Replicated). IsLegal q h) same l
 
 pub legal_own : (r : Replicated) (h : List HistoryEvent) → IsLegal r h → IsLegal (opening_of h) h
 legal_own r h l = subst (λ (q : Replicated). IsLegal q h) (sym (legal_opening r h l)) l
 
--- a history of the opening alone
+-- a history with the opening alone
 pub opened_legal : (r : Replicated) (h : List HistoryEvent) → h ≡ Opening r ∷ [] → IsLegal r h
 opened_legal r h is = subst (λ (k : List HistoryEvent). IsLegal r k) (sym is) (refl, tt)
 
@@ -82,7 +74,7 @@ opening_of-snoc (Opening r ∷ h) x f = refl
 opening_of-snoc (Edited seat e ∷ h) x f = refl
 opening_of-snoc (Absorbed seat p ∷ h) x f = refl
 
--- what goes on from a history that isn't empty opened over the same
+-- an extension of a history that isn't empty opened over the same
 pub opening_of-prefix : (h k : List HistoryEvent) → 0 < length h → IsPrefix h k → opening_of k ≡ opening_of h
 opening_of-prefix [] k f p = absurd (omega arith)
 opening_of-prefix (Opening r ∷ h) k f p = sym (ap opening_of p.1)
@@ -102,7 +94,7 @@ takes_of-within r s (Opening q ∷ h) l = let le = count_by-le-length (λ (u : H
 takes_of-within r s (Edited seat e ∷ h) l = absurd l
 takes_of-within r s (Absorbed seat p ∷ h) l = absurd l
 
--- an edit of the version that comes next for what the history gives may come next
+-- an edit under the next version of the replica that the history gives may come next
 pub next_edit : (h : List HistoryEvent) (seat : ℕ) (e : Edit) (r : Replicated) (w : ℕ) → r.store ≡ store_of h → r.writer ≡ w → e.version ≡ next_version r → IsNext w (all_edits h) (Edited seat e)
 next_edit h seat e r w kept writer version =
     let high : high_of r.store ≡ counter_of h = ap high_of kept ∙ high_of-store_of h in

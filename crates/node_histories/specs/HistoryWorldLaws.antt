@@ -1,31 +1,18 @@
--- In the world behind a history node 0 takes the edits of the history, and holds their sum.
+-- In the execution of a history node 0 takes the edits of the history, and holds their sum.
 -- Source: this project's own.
-use Rattle.std.proofs.Common.{◌≡◌, ℕ, zero, suc, Bool, true, false, cond, Some, None, List, [], ◌∷◌, ◌++◌, length, refl, sym, ap, subst, ◌∙◌, append_assoc, length-append, arith, filter}
-use Rattle.std.specs.Prelude.{slice_get, replicate, ◌==◌}
-use Rattle.std.specs.Option.{option_map}
+use Rattle.std.proofs.Common.{[], ◌++◌, ◌==◌, ◌∙◌, ◌∷◌, ◌≡◌, ap, append-nil, append_assoc, arith, Bool, cond, false, filter, length, length-append, List, None, refl, replicate, slice_get, Some, subst, suc, sym, true, zero, ℕ}
 use Rattle.std.proofs.lemmas.Bool.{ne_eqb}
+use Rattle.std.specs.Option.{option_map}
+use Rattle.node_histories.specs.Prelude.{after, Ask, Asked, asked_by, at_places, blank, changed_at, Cut, cut, cut_for, digest_of, Edit, edits_of, edits_with, EntryMap, EventWorld, get-digest_of, get-sum_of, Give, given_to, happens, is_newer, is_wanted, join, Node, Piece, Put, slice_get_last, sum_of, sum_of-append, sum_of-edits_of, taken}
+use Rattle.node_histories.specs.{declared.events.HistoryEvent.HistoryEvent, declared.events.HistoryEvent.TheVariants.Absorbed, declared.events.HistoryEvent.TheVariants.Edited, declared.events.HistoryEvent.TheVariants.Opening, Histories.all_edits, Histories.store_of, HistoryWorlds.brings, HistoryWorlds.double, HistoryWorlds.nodes_of, HistoryWorlds.puts_at, HistoryWorlds.stores_in, HistoryWorlds.world_from, HistoryWorlds.world_of}
 use Rattle.std.specs.FinMap as finmap
-use Rattle.std.proofs.lemmas.List.{append-nil}
-use Rattle.edit_sums.specs.declared.entries.Edit.{Edit}
-use Rattle.edit_sums.specs.Sums.{EntryMap, edits_of, sum_of, join}
-use Rattle.edit_sums.specs.GreatestLaws.{get-sum_of}
-use Rattle.edit_sums.specs.SumLaws.{sum_of-append, sum_of-edits_of}
 use Rattle.world_law.specs.declared.events.Event as world_events
-use Rattle.world_law.specs.declared.events.Event.TheVariants.{Put, Ask, Cut, Give}
-use Rattle.world_law.specs.Cuts.{digest_of, is_newer, is_wanted, at_places, cut}
-use Rattle.world_law.specs.CutLaws.{get-digest_of}
-use Rattle.world_law.specs.Worlds.{Node, Asked, Piece, EventWorld, taken, changed_at, asked_by, cut_for, given_to, edits_with, happens, after, blank}
-use Rattle.world_law.specs.WorldLaws.{slice_get_last}
-use Rattle.node_histories.specs.declared.events.HistoryEvent.{HistoryEvent}
-use Rattle.node_histories.specs.declared.events.HistoryEvent.TheVariants.{Opening, Edited, Absorbed}
-use Rattle.node_histories.specs.Histories.{all_edits, store_of}
-use Rattle.node_histories.specs.HistoryWorlds.{double, puts_at, brings, world_from, world_of, stores_in, nodes_of}
 
 -- a node that took these edits
 abbrev pub node_of : List Edit → Node
 node_of es = record { store = sum_of es; took = es }
 
--- nodes with nothing in them, two for each of so many stores
+-- empty nodes, two for each of so many stores
 abbrev pub spare : ℕ → List Node
 spare zero = []
 spare (suc k) = node_of [] ∷ node_of [] ∷ spare k
@@ -42,17 +29,17 @@ replicate_spare : (k : ℕ) → replicate (double k) (node_of []) ≡ spare k
 replicate_spare zero = refl
 replicate_spare (suc k) = ap (λ (ns : List Node). node_of [] ∷ node_of [] ∷ ns) (replicate_spare k)
 
-changed_behind : (used : List Node) (i : ℕ) (f : Node → Node) (x : Node) (rest : List Node) → length used ≡ i → changed_at i f (used ++ x ∷ rest) ≡ used ++ f x ∷ rest
-changed_behind [] zero f x rest e = refl
-changed_behind [] (suc i) f x rest e = cc
-changed_behind (u ∷ used) zero f x rest e = cc
-changed_behind (u ∷ used) (suc i) f x rest e = ap (λ (ns : List Node). u ∷ ns) (changed_behind used i f x rest (cc (e)))
+changed_after : (used : List Node) (i : ℕ) (f : Node → Node) (x : Node) (rest : List Node) → length used ≡ i → changed_at i f (used ++ x ∷ rest) ≡ used ++ f x ∷ rest
+changed_after [] zero f x rest e = refl
+changed_after [] (suc i) f x rest e = cc
+changed_after (u ∷ used) zero f x rest e = cc
+changed_after (u ∷ used) (suc i) f x rest e = ap (λ (ns : List Node). u ∷ ns) (changed_after used i f x rest (cc (e)))
 
-get_behind : (used : List Node) (i : ℕ) (x : Node) (rest : List Node) → length used ≡ i → slice_get (used ++ x ∷ rest) i ≡ Some x
-get_behind [] zero x rest e = refl
-get_behind [] (suc i) x rest e = cc
-get_behind (u ∷ used) zero x rest e = cc
-get_behind (u ∷ used) (suc i) x rest e = get_behind used i x rest (cc (e))
+get_after : (used : List Node) (i : ℕ) (x : Node) (rest : List Node) → length used ≡ i → slice_get (used ++ x ∷ rest) i ≡ Some x
+get_after [] zero x rest e = refl
+get_after [] (suc i) x rest e = cc
+get_after (u ∷ used) zero x rest e = cc
+get_after (u ∷ used) (suc i) x rest e = get_after used i x rest (cc (e))
 
 get_second : (used : List Node) (i : ℕ) (x y : Node) (rest : List Node) → length used ≡ i → slice_get (used ++ x ∷ y ∷ rest) (suc i) ≡ Some y
 get_second [] zero x y rest e = refl
@@ -64,16 +51,16 @@ get_second (u ∷ used) (suc i) x y rest e = get_second used i x y rest (cc (e))
 takes_more : (es fs : List Edit) → taken (sum_of fs) fs (node_of es) ≡ node_of (es ++ fs)
 takes_more es fs = λ i. record { store = sym (sum_of-append es fs) i; took = es ++ fs }
 
--- edits that are put one after another at a node behind others
-puts_behind : (es : List Edit) (used : List Node) (i : ℕ) (gs fs : List Edit) (rest : List Node) (asks : List Asked) (pieces : List Piece) → length used ≡ i
+-- edits that are put one after another at the node after these
+puts_after : (es : List Edit) (used : List Node) (i : ℕ) (gs fs : List Edit) (rest : List Node) (asks : List Asked) (pieces : List Piece) → length used ≡ i
     → after (puts_at (suc i) fs) (ready es used (node_of gs ∷ rest) asks pieces) ≡ ready es used (node_of (gs ++ fs) ∷ rest) asks pieces
-puts_behind es used i gs [] rest asks pieces e = ap (λ (hs : List Edit). ready es used (node_of hs ∷ rest) asks pieces) (sym (append-nil gs))
-puts_behind es used i gs (f ∷ fs) rest asks pieces e =
+puts_after es used i gs [] rest asks pieces e = ap (λ (hs : List Edit). ready es used (node_of hs ∷ rest) asks pieces) (sym (append-nil gs))
+puts_after es used i gs (f ∷ fs) rest asks pieces e =
     let put : happens (ready es used (node_of gs ∷ rest) asks pieces) (Put (suc i) f) ≡ ready es used (node_of (gs ++ f ∷ []) ∷ rest) asks pieces =
-    ap (λ (ns : List Node). record { nodes = node_of es ∷ ns; asks = asks; pieces = pieces }) (changed_behind used i (taken (sum_of (f ∷ [])) (f ∷ [])) (node_of gs) rest e)
+    ap (λ (ns : List Node). record { nodes = node_of es ∷ ns; asks = asks; pieces = pieces }) (changed_after used i (taken (sum_of (f ∷ [])) (f ∷ [])) (node_of gs) rest e)
     ∙ ap (λ (n : Node). ready es used (n ∷ rest) asks pieces) (takes_more gs (f ∷ []))
     in
-    ap (after (puts_at (suc i) fs)) put ∙ puts_behind es used i (gs ++ f ∷ []) fs rest asks pieces e
+    ap (after (puts_at (suc i) fs)) put ∙ puts_after es used i (gs ++ f ∷ []) fs rest asks pieces e
     ∙ ap (λ (hs : List Edit). ready es used (node_of hs ∷ rest) asks pieces) (append_assoc gs (f ∷ []) fs)
 
 filter_all : (p : Edit → Bool) (es : List Edit) → ((e : Edit) → p e ≡ true) → filter p es ≡ es
@@ -81,14 +68,14 @@ filter_all p [] all = refl
 filter_all p (e ∷ es) all =
     ap (λ b. cond b (e ∷ filter p es) (filter p es)) (all e) ∙ ap (λ (fs : List Edit). e ∷ fs) (filter_all p es all)
 
--- what is cut for one that has nothing is all
+-- what is cut for a node that has nothing is everything
 whole_cut : (s : EntryMap) → cut s (digest_of finmap.empty) None ≡ s
 whole_cut s = ap sum_of (filter_all (is_wanted (digest_of finmap.empty) None) (edits_of s) wanted) ∙ sum_of-edits_of s
   where
     wanted : (e : Edit) → is_wanted (digest_of finmap.empty) None e ≡ true
     wanted e = ap (is_newer e.version) (get-digest_of finmap.empty e.place ∙ ap (option_map (λ x. x.version)) (get-sum_of [] e.place))
 
--- the ask and the piece by which a store comes behind so many others
+-- the ask and the piece for a store after so many others
 abbrev pub ask_of : ℕ → Asked
 ask_of m = record { node = suc (suc (double m)); versions = digest_of finmap.empty }
 
@@ -122,21 +109,21 @@ brought es used m s rest asks pieces a b c =
     let tail : List world_events.Event = Ask (suc (suc d)) ∷ Cut (suc d) m None ∷ Give m 0 ∷ [] in
     let one : after (brings m s) (ready es used (node_of [] ∷ node_of [] ∷ rest) asks pieces) ≡ after tail put =
     after-append (puts_at (suc d) (edits_of s)) tail (ready es used (node_of [] ∷ node_of [] ∷ rest) asks pieces)
-    ∙ ap (after tail) (puts_behind es used d [] (edits_of s) (node_of [] ∷ rest) asks pieces a)
+    ∙ ap (after tail) (puts_after es used d [] (edits_of s) (node_of [] ∷ rest) asks pieces a)
     in
     let two : happens put (Ask (suc (suc d))) ≡ asked = ap (asked_by put (suc (suc d))) (get_second used d (node_of (edits_of s)) (node_of []) rest a) in
-    let three : happens asked (Cut (suc d) m None) ≡ cut_then = λ i. cut_for asked None (get_behind used d (node_of (edits_of s)) (node_of [] ∷ rest) a i) (last_at asks (ask_of m) m b i) in
+    let three : happens asked (Cut (suc d) m None) ≡ cut_then = λ i. cut_for asked None (get_after used d (node_of (edits_of s)) (node_of [] ∷ rest) a i) (last_at asks (ask_of m) m b i) in
     let four : happens cut_then (Give m 0) ≡ ready (es ++ edits_of s) used own (asks ++ ask_of m ∷ []) (pieces ++ piece_of m s ∷ []) =
     ap (given_to cut_then 0) (last_at pieces (piece_of m s) m c)
     ∙ ap (λ (n : Node). record { nodes = n ∷ (used ++ own); asks = asks ++ ask_of m ∷ []; pieces = pieces ++ piece_of m s ∷ [] }) (takes_piece es m s)
     in
     one ∙ ap (after (Cut (suc d) m None ∷ Give m 0 ∷ [])) two ∙ ap (after (Give m 0 ∷ [])) three ∙ four
 
--- what node 0 of a world took, with its sum
+-- node 0 of the world took these edits, and holds their sum
 abbrev pub Holds : EventWorld → List Edit → Type 0
 Holds w es = slice_get w.nodes 0 ≡ Some (node_of es)
 
--- after a store that is brought the rest goes on
+-- the rest follows after a store that is brought
 brings_holds : (h : List HistoryEvent) (es : List Edit) (used : List Node) (m : ℕ) (s : EntryMap) (asks : List Asked) (pieces : List Piece) → length used ≡ double m → length asks ≡ m → length pieces ≡ m
     → ((used' : List Node) (asks' : List Asked) (pieces' : List Piece) → length used' ≡ double (suc m) → length asks' ≡ suc m → length pieces' ≡ suc m
     → Holds (after (world_from (suc m) h) (ready (es ++ edits_of s) used' (spare (stores_in h)) asks' pieces')) ((es ++ edits_of s) ++ all_edits h))

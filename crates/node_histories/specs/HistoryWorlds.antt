@@ -1,12 +1,9 @@
--- The world behind a history: node 0 does its takes, and all else that is needed is done at nodes of its own.
+-- The execution of a history: node 0 does its takes; nodes of its own do all else that is needed.
 -- Source: this project's own, over worlds after Shapiro, Preguica, Baquero, Zawirski 2011.
-use Rattle.std.specs.Prelude.{ℕ, zero, suc, None, List, [], ◌∷◌, ◌++◌}
-use Rattle.edit_sums.specs.declared.entries.Edit.{Edit}
-use Rattle.edit_sums.specs.Sums.{EntryMap, edits_of}
+use Rattle.std.proofs.Common.{[], ◌++◌, ◌∷◌, List, None, suc, zero, ℕ}
+use Rattle.node_histories.specs.Prelude.{Ask, Cut, Edit, edits_of, EntryMap, Give, Put}
+use Rattle.node_histories.specs.{declared.events.HistoryEvent.HistoryEvent, declared.events.HistoryEvent.TheVariants.Absorbed, declared.events.HistoryEvent.TheVariants.Edited, declared.events.HistoryEvent.TheVariants.Opening}
 use Rattle.world_law.specs.declared.events.Event as world_events
-use Rattle.world_law.specs.declared.events.Event.TheVariants.{Put, Ask, Cut, Give}
-use Rattle.node_histories.specs.declared.events.HistoryEvent.{HistoryEvent}
-use Rattle.node_histories.specs.declared.events.HistoryEvent.TheVariants.{Opening, Edited, Absorbed}
 
 -- twice a number
 abbrev pub double : ℕ → ℕ
@@ -18,12 +15,13 @@ abbrev pub puts_at : ℕ → List Edit → List world_events.Event
 puts_at i [] = []
 puts_at i (e ∷ es) = Put i e ∷ puts_at i es
 
--- what a store holds is put at one node of its own, cut there for the ask of a second, and given to node 0. Two nodes
--- are its own for each of the stores that came before
+-- one node puts what a store holds, cuts it for the ask of a second, and the piece is given to node 0; each store has
+-- two such nodes of its own, after those of the stores before it
 abbrev pub brings : ℕ → EntryMap → List world_events.Event
 brings before s = puts_at (suc (double before)) (edits_of s) ++ Ask (suc (suc (double before))) ∷ Cut (suc (double before)) before None ∷ Give before 0 ∷ []
 
--- the events of a history behind so many stores: node 0 puts each edit, and is given each piece, and first the opening
+-- the events of a history after so many stores: node 0 puts each edit and is given each piece, first that of the
+-- opening
 abbrev pub world_from : ℕ → List HistoryEvent → List world_events.Event
 world_from before [] = []
 world_from before (Opening replica ∷ h) = brings before replica.store ++ world_from (suc before) h
@@ -40,6 +38,6 @@ stores_in (Opening replica ∷ h) = suc (stores_in h)
 stores_in (Edited seat edit ∷ h) = stores_in h
 stores_in (Absorbed seat piece ∷ h) = suc (stores_in h)
 
--- how many nodes its world has
+-- how many nodes its execution has
 abbrev pub nodes_of : List HistoryEvent → ℕ
 nodes_of h = suc (double (stores_in h))

@@ -1,3 +1,4 @@
+pub mod Prelude
 pub mod Histories
 pub mod Books
 pub mod Codes

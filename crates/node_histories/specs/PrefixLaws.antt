@@ -1,9 +1,9 @@
--- Beginnings of one list.
+-- Prefixes of one list.
 -- Source: this project's own.
-use Rattle.std.proofs.Common.{◌≡◌, ◌≤◌, List, [], ◌∷◌, ◌++◌, length, refl, ap, sym, ◌∙◌, arith, append_assoc, length-append}
+use Rattle.std.proofs.Common.{[], ◌++◌, ◌∙◌, ◌∷◌, ◌≡◌, ◌≤◌, ap, append_assoc, arith, length, length-append, List, refl, sym}
 use mathlib.Core.List.{IsPrefix}
 
--- each list begins with itself
+-- each list is a prefix of itself
 pub prefix_self : {A : Type 0} (xs : List A) → IsPrefix xs xs
 prefix_self [] = ([], refl)
 prefix_self (x ∷ xs) = (let r = prefix_self xs in r.0, ap (λ ys. x ∷ ys) (prefix_self xs).1)
@@ -11,7 +11,7 @@ prefix_self (x ∷ xs) = (let r = prefix_self xs in r.0, ap (λ ys. x ∷ ys) (p
 pub prefix_trans : {A : Type 0} (xs ys zs : List A) → IsPrefix xs ys → IsPrefix ys zs → IsPrefix xs zs
 prefix_trans xs ys zs p q = (p.0 ++ q.0, sym (append_assoc xs p.0 q.0) ∙ (ap (λ w. w ++ q.0) p.1 ∙ q.1))
 
--- of two beginnings of one list the shorter begins the longer
+-- of two prefixes of one list the shorter is a prefix of the longer
 pub prefix_shorter : {A : Type 0} (xs ys zs : List A) → IsPrefix xs zs → IsPrefix ys zs → length xs ≤ length ys → IsPrefix xs ys
 prefix_shorter [] ys zs p q le = (ys, refl)
 prefix_shorter (x ∷ xs) [] zs p q le = absurd (omega arith)
@@ -21,7 +21,7 @@ prefix_shorter (x ∷ xs) (y ∷ ys) (z ∷ zs) p q le =
     let rest = prefix_shorter xs ys zs (p.0, cc (p.1)) (q.0, cc (q.1)) (omega arith) in
     (rest.0, cc (heads, rest.1))
 
--- a beginning as long as the whole is the whole
+-- a prefix as long as the whole is the whole
 pub prefix_whole : {A : Type 0} (xs ys : List A) → IsPrefix xs ys → length ys ≤ length xs → xs ≡ ys
 prefix_whole [] [] p le = refl
 prefix_whole [] (y ∷ ys) p le = absurd (omega arith)
@@ -32,6 +32,6 @@ prefix_whole (x ∷ xs) (y ∷ ys) p le =
 pub prefix_length : {A : Type 0} (xs ys : List A) → IsPrefix xs ys → length xs ≤ length ys
 prefix_length xs ys p = omega (arith, sym (ap length p.1) ∙ length-append xs p.0)
 
--- what is longer by one goes on from it
+-- a list with one more element extends it
 pub prefix_snoc : {A : Type 0} (xs ys : List A) (x : A) → ys ≡ xs ++ x ∷ [] → IsPrefix xs ys
 prefix_snoc xs ys x is = (x ∷ [], sym is)

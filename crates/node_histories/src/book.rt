@@ -1,4 +1,4 @@
-//! The book that keeps the history of a node, and the name of a node.
+//! The log of a node's history, and the name of a node.
 ghost use Rattle.std.specs.Prelude.{◌≡◌, ◌∷◌, []};
 ghost use Rattle.node_histories.specs.{declared.events.HistoryEvent.TheVariants.{Opening}, Books.{head_of}};
 
@@ -7,7 +7,7 @@ use logbook::{Gain, Offer, Opening as Opens, Plain, Play, Rule, Seen, Start, Wor
 use replica_store::Replica;
 use std::marker::Brand;
 
-/// The rule of the book: one word is the number of takes, and the history is legal.
+/// The log's invariant: its first word is the number of takes, and the history is valid.
 pub struct Law;
 
 impl Rule<HistoryEvent, u64> for Law {
@@ -28,7 +28,7 @@ impl Rule<HistoryEvent, u64> for Law {
     ghost moves = { λ ask before after answer. Unit {0} };
 }
 
-// Callers trade nothing.
+// Callers pass nothing.
 pub(crate) struct Nothing;
 
 impl Gain<HistoryEvent, u64> for Nothing {
@@ -54,7 +54,7 @@ impl<T: Takeable> Plain<Asked<T>, HistoryEvent, u64> for Add {
     ghost state = { λ a. None };
 }
 
-// A history opens with the replica.
+// The history opens with the replica.
 pub(crate) struct Opened;
 
 impl Opens<Replica, HistoryEvent> for Opened {
@@ -64,17 +64,17 @@ impl Opens<Replica, HistoryEvent> for Opened {
     ghost log = { λ count replica. Opening replica ∷ [] };
 }
 
-/// A token of a beginning of a history. It has no bytes.
+/// A token of a prefix of a history. It has no bytes.
 pub type History = Seen<HistoryEvent, u64, Law>;
 
-/// The word of a node's book: how many takes its history has.
+/// The first word of a node's log: how many takes its history has.
 pub type Head = Word<HistoryEvent, u64, Law>;
 
 pub(crate) type Asking = Offer<HistoryEvent, u64, Law, Nothing>;
 
-/// Which node it is: its book, how many seats it has, and what it opened over. It has no functions. Code over a
-/// node is generic over its name, and is called with `std::marker::Brand`, so that a seat or a token of another
-/// node doesn't fit.
+/// Identifies a node: its history log, its number of seats, and what it opened over. It has no functions. Code that
+/// works with a node is generic over this name. `std::marker::Brand` calls it with a fresh one, so the compiler refuses
+/// seats and tokens of other nodes.
 pub trait NodeName {
     ghost use Rattle.std.specs.Prelude.{ℕ};
     ghost use Rattle.logbook.specs.Pages.{Book};
@@ -84,7 +84,7 @@ pub trait NodeName {
 
     ghost seats: { ℕ };
 
-    // What it opened over.
+    // What the node opened over.
     ghost opening: { Replicated };
 }
 
@@ -98,7 +98,7 @@ impl NodeName for Brand {
     ghost opening = { record { store = finmap.empty; writer = 0 } };
 }
 
-/// A book that was just opened: its word, and a token of its history, which has the opening alone.
+/// A log that was just opened: its first word, and a token of its history, which has only the opening.
 pub struct Name {
     pub head: Head,
     pub seen: History,
@@ -106,7 +106,7 @@ pub struct Name {
 }
 
 impl Name {
-    /// Opens a book over a replica. It takes no memory.
+    /// Opens a log over a replica. Allocates nothing.
     pub fn new(replica: &Replica) -> Name
         ensures log { result.seen.log ≡ Opening replica.now ∷ [] }
     {

@@ -7,8 +7,9 @@ ghost use Rattle.world_law.specs.Worlds.{after, blank};
 ghost use Rattle.node_histories.specs.{declared.events.HistoryEvent.{HistoryEvent}, declared.events.HistoryEvent.TheVariants.{Edited}};
 ghost use Rattle.node_histories.specs.{Histories.{IsLegal, IsAbove, opening_of, all_edits, store_of}, HistoryWorlds.{world_of, nodes_of}};
 
-/// In a legal history the node's own number is on each edit, whose counter is greater than those of all edits before it,
-/// those of the opening and of pieces too. So edits of nodes with different numbers have different versions.
+/// In a valid history each of the node's edits has the node's number, and a counter greater than those of all edits
+/// before it, including those of the opening and of pieces. So edits of nodes with different numbers have different
+/// versions.
 pub fn legal_histories()
     ensures opening { (start : Replicated) (h : List HistoryEvent) → IsLegal start h → opening_of h ≡ start }
     ensures above { (start : Replicated) (before after : List HistoryEvent) (seat : ℕ) (e : Edit)
@@ -19,15 +20,14 @@ pub fn legal_histories()
         → r.writer ≢ q.writer → e.version ≢ f.version }
 {}
 
-/// Two histories of the same edits, in whatever order, give the same store, whichever nodes they are of.
+/// Two histories with the same edits, in any order, give the same store, whichever nodes they are of.
 pub fn stores_of_histories()
     ensures same { (h k : List HistoryEvent) → ((e : Edit) → IsAmong e (all_edits h) → IsAmong e (all_edits k))
         → ((e : Edit) → IsAmong e (all_edits k) → IsAmong e (all_edits h)) → store_of h ≡ store_of k }
 {}
 
-/// A world stands behind each history: its node 0 puts each edit of the history and is given each piece, in their
-/// order.
-/// It took the edits of the history, and holds the store that the history gives.
+/// Each history is an execution: its node 0 puts each edit of the history and is given each piece, in their order. That
+/// node took the edits of the history, and holds the store that the history gives.
 pub fn worlds_of_histories()
     ensures stands { (h : List HistoryEvent) → slice_get (after (world_of h) (blank (nodes_of h))).nodes 0
         ≡ Some (record { store = store_of h; took = all_edits h }) }

@@ -1,22 +1,22 @@
-//! Histories of a node that threads share: what it opened over, and then its takes, one after another. A `Front` is
-//! a token of a beginning of it that was seen, and a `Page` a replica with a token of the history that its store is
-//! the sum of.
+//! A node's history is what the node opened over, and then its takes, one after another. A `HistoryPrefix` is a token of a
+//! prefix of it that was seen, and a `PublishedCopy`, a published copy, is a replica with a token of the history whose sum its
+//! store is.
 //!
 //! Promise: a view is a sum of a history; an answered edit stands in the history.
 //!
-//! A history is a list of events that exists in proofs alone, kept by a book of `logbook`. A front has no more
-//! bytes than a number; copies of it take no memory, and of two fronts of one node the shorter begins the longer.
-//! Whoever finds a page finds the sum of a legal history, by its type.
+//! A history is a list of events that exists only in proofs, in a log of `logbook`. A `HistoryPrefix` has no more bytes than a
+//! number, and copies of it allocate nothing. Of two of one node the shorter is a prefix of the longer. Whoever reads a
+//! published copy has, by its type, the sum of a valid history.
 #![tactic(auto)]
 
 mod book;
 mod events;
-mod fronts;
 mod laws;
-mod page;
+mod prefixes;
+mod published_copy;
 
 pub use book::{Head, History, Law, Name, NodeName};
 pub use events::HistoryEvent;
-pub use fronts::Front;
 pub use laws::{legal_histories, stores_of_histories, worlds_of_histories};
-pub use page::Page;
+pub use prefixes::HistoryPrefix;
+pub use published_copy::PublishedCopy;

@@ -1,43 +1,26 @@
--- What is in a unit's footprint begins as one of its names does.
-use Rattle.std.proofs.Common.{◌≡◌, ℕ, true, false, Option, Some, None, List, [], ◌∷◌, ◌++◌, codes, get_or, drop, map, refl, ap, sym, ◌∙◌, subst, inl, inr, append_assoc}
-use Rattle.std.specs.Prelude.{◌⊎◌}
-use Rattle.std.specs.List.{All, flat_map, list_any}
+-- Each component of a unit's footprint begins as one of its names does.
+use Rattle.std.proofs.Common.{[], ◌++◌, ◌∙◌, ◌∷◌, ◌≡◌, ◌⊎◌, All, ap, append_assoc, codes, drop, false, get_or, inl, inr, List, map, None, Option, refl, Some, subst, sym, true, ℕ}
 use Rattle.std.proofs.lemmas.Bool.{or_left, or_parts, or_right, true≢false}
 use Rattle.std.proofs.lemmas.Option.{none-some, same_Some}
-use Rattle.list_laws.specs.Members.{IsAmong, IsAmong-append_cases, contains_from_among}
-use Rattle.unit_name.specs.declared.kinds.Kind.{Kind}
-use Rattle.unit_name.specs.declared.kinds.Kind.TheVariants.{Service, Socket, Device, Mount, Automount, Swap, Target, Path, Timer, Slice, Scope}
-use Rattle.unit_name.specs.declared.names.Shape.{Shape}
-use Rattle.unit_name.specs.declared.names.Shape.TheVariants.{Plain, Template, Instance}
-use Rattle.unit_name.specs.Forms.{name_with, template_at, template_name, template_of}
-use Rattle.unit_name.specs.NameLaws.{made_of_name, names_are_their_parts, prefixes_may_be_cut, suffix_is_word}
-use Rattle.unit_name.specs.Names.{IsName, Name, instance, is_dot, is_empty, prefix, shape, suffix, word}
-use Rattle.dropins.specs.CutLaws.{IsDashedFront, cuts_are_dashed_fronts}
-use Rattle.dropins.specs.FolderJoinLaws.{among_firsts}
-use Rattle.dropins.specs.FolderLaws.{ends_somewhere, folders_are_names}
-use Rattle.dropins.specs.FolderLists.{cuts, folders, folders_of, listed, types_of, with_prefix, with_template}
-use Rattle.dropins.specs.Taken.{dirs_with, ending, name_dirs, type_dirs}
-use Rattle.dropins.specs.declared.link_names.Folder.TheVariants.{Wants, Requires}
-use Rattle.unit_loads.specs.Elsewhere.{unit_folders}
-use Rattle.unit_loads.specs.Footprints.{footprint}
-use Rattle.unit_loads.specs.MemberLaws.{among_flat_map, among_map}
-use Rattle.parallel_load.specs.Fronts.{BeginsWith, EndsInDash, HasNoStop, IsFrontOf, IsOfNoType, is_stop}
-use Rattle.parallel_load.specs.UniverseLaws.{all_among}
+use Rattle.std.specs.List.{flat_map, list_any}
+use Rattle.parallel_load.proofs.Prelude.{all_among, among_firsts, among_flat_map, among_map, Automount, BeginsWith, contains_from_among, cuts, cuts_are_dashed_prefixes, Device, dirs_with, ending, ends_somewhere, EndsInDash, folders, folders_are_names, folders_of, footprint, HasNoStop, Instance, instance, is_dot, is_empty, is_stop, IsAmong, IsAmong-append_cases, IsDashedPrefix, IsName, IsOfNoType, IsSearchPrefixOf, Kind, listed, made_of_name, Mount, Name, name_dirs, name_with, names_are_their_parts, Path, Plain, prefix, prefixes_may_be_cut, Requires, Scope, Service, Shape, shape, Slice, Socket, suffix, suffix_is_word, Swap, Template, template_at, template_name, template_of, Timer, type_dirs, types_of, unit_folders, Wants, with_prefix, with_template, word}
+use Rattle.unit_name.specs.declared.kinds.Kind.TheVariants.{Target}
 
--- The part is a front with a stop behind it, and the name begins so: with the stop too, or the front ends in a dash.
+-- The part is some bytes and a stop after them. The name begins with these bytes and the stop, or with the bytes alone,
+-- which then end in a dash.
 pub record BothBegin (part n : List ℕ) : Type 0 where
-  front : List ℕ
+  search_prefix : List ℕ
   stop : ℕ
   rest : List ℕ
   others : List ℕ
   stopped : is_stop stop ≡ true
-  part_is : part ≡ front ++ stop ∷ rest
-  name_is : n ≡ front ++ others
-  then : ((more : List ℕ) × (others ≡ stop ∷ more)) ⊎ EndsInDash front
+  part_is : part ≡ search_prefix ++ stop ∷ rest
+  name_is : n ≡ search_prefix ++ others
+  then : ((more : List ℕ) × (others ≡ stop ∷ more)) ⊎ EndsInDash search_prefix
 
--- ---- what begins alike begins with the part's front
+-- ---- what begins alike begins with the part's prefix
 
--- where one list is cut at a stop, and first at another place, that is the same or lies before
+-- if a list is cut at a stop and also at its first stop, the second cut is the same or comes earlier
 cut_first : (x y : List ℕ) (a b : ℕ) (r q : List ℕ) → HasNoStop x → is_stop b ≡ true → x ++ a ∷ r ≡ y ++ b ∷ q → ((x ≡ y) × (a ≡ b)) ⊎ ((more : List ℕ) × (y ≡ x ++ a ∷ more))
 cut_first [] [] a b r q plain stopped e = inl (refl, ap (λ (l : List ℕ). get_or l 0 a) e)
 cut_first [] (c ∷ ys) a b r q plain stopped e = inr (ys, ap (λ (z : ℕ). z ∷ ys) (sym (ap (λ (l : List ℕ). get_or l 0 a) e)))
@@ -54,17 +37,17 @@ cut_first (c ∷ xs) (d ∷ ys) a b r q plain stopped e =
     by (inl h) = inl (ap (λ (l : List ℕ). c ∷ l) h.0 ∙ ap (λ (z : ℕ). z ∷ ys) same, h.1)
     by (inr h) = inr (h.0, ap (λ (l : List ℕ). d ∷ l) h.1 ∙ ap (λ (z : ℕ). z ∷ xs ++ a ∷ h.0) (sym same))
 
-pub front_begins : (part front n : List ℕ) → IsFrontOf part front → BothBegin part n → BeginsWith front n
-front_begins part front n f b = by (cut_first f.before b.front f.stop b.stop f.rest b.rest f.plain b.stopped (sym f.is ∙ b.part_is)) f.front_is b.then
+pub search_prefix_begins : (part search_prefix n : List ℕ) → IsSearchPrefixOf part search_prefix → BothBegin part n → BeginsWith search_prefix n
+search_prefix_begins part search_prefix n f b = by (cut_first f.before b.search_prefix f.stop b.stop f.rest b.rest f.plain b.stopped (sym f.is ∙ b.part_is)) f.search_prefix_is b.then
   where
-    -- the name begins with the front and its stop, or with the front alone
-    with_stop : (z : List ℕ) → n ≡ f.before ++ f.stop ∷ z → ((front ≡ f.before) × EndsInDash f.before) ⊎ ((front ≡ f.before ++ f.stop ∷ []) × ¬ EndsInDash f.before) → BeginsWith front n
+    -- the name begins with the prefix and its stop, or with the prefix alone
+    with_stop : (z : List ℕ) → n ≡ f.before ++ f.stop ∷ z → ((search_prefix ≡ f.before) × EndsInDash f.before) ⊎ ((search_prefix ≡ f.before ++ f.stop ∷ []) × ¬ EndsInDash f.before) → BeginsWith search_prefix n
     with_stop z e (inl h) = record { rest = f.stop ∷ z; is = e ∙ ap (λ (l : List ℕ). l ++ f.stop ∷ z) (sym h.0) }
     with_stop z e (inr h) = record { rest = z; is = e ∙ sym (append_assoc f.before (f.stop ∷ []) z) ∙ ap (λ (l : List ℕ). l ++ z) (sym h.0) }
 
-    by : ((f.before ≡ b.front) × (f.stop ≡ b.stop)) ⊎ ((more : List ℕ) × (b.front ≡ f.before ++ f.stop ∷ more))
-        → ((front ≡ f.before) × EndsInDash f.before) ⊎ ((front ≡ f.before ++ f.stop ∷ []) × ¬ EndsInDash f.before) → ((more : List ℕ) × (b.others ≡ b.stop ∷ more)) ⊎ EndsInDash b.front
-        → BeginsWith front n
+    by : ((f.before ≡ b.search_prefix) × (f.stop ≡ b.stop)) ⊎ ((more : List ℕ) × (b.search_prefix ≡ f.before ++ f.stop ∷ more))
+        → ((search_prefix ≡ f.before) × EndsInDash f.before) ⊎ ((search_prefix ≡ f.before ++ f.stop ∷ []) × ¬ EndsInDash f.before) → ((more : List ℕ) × (b.others ≡ b.stop ∷ more)) ⊎ EndsInDash b.search_prefix
+        → BeginsWith search_prefix n
     by (inr h) is then =
         with_stop (h.0 ++ b.others) (b.name_is ∙ ap (λ (l : List ℕ). l ++ b.others) h.1 ∙ append_assoc f.before (f.stop ∷ h.0) b.others) is
     by (inl h) is (inl m) =
@@ -72,37 +55,37 @@ front_begins part front n f b = by (cut_first f.before b.front f.stop b.stop f.r
     by (inl h) (inl k) (inr d) = record { rest = b.others; is = b.name_is ∙ ap (λ (l : List ℕ). l ++ b.others) (sym h.0 ∙ sym k.0) }
     by (inl h) (inr k) (inr d) = absurd (k.1 (subst EndsInDash (sym h.0) d))
 
--- ---- what stands behind a prefix
+-- ---- what is after a prefix
 
-record IsBehind (p x : List ℕ) : Type 0 where
+record IsAfter (p x : List ℕ) : Type 0 where
   stop : ℕ
   rest : List ℕ
   stopped : is_stop stop ≡ true
   is : x ≡ p ++ stop ∷ rest
 
-behind : (s : Shape) (p i k : List ℕ) → IsBehind p (name_with s p i k)
-behind Plain p i k = record { stop = 46; rest = k; stopped = refl; is = refl }
-behind Template p i k = record { stop = 64; rest = 46 ∷ k; stopped = refl; is = refl }
-behind Instance p i k = record { stop = 64; rest = i ++ 46 ∷ k; stopped = refl; is = append_assoc p (64 ∷ i) (46 ∷ k) }
+after : (s : Shape) (p i k : List ℕ) → IsAfter p (name_with s p i k)
+after Plain p i k = record { stop = 46; rest = k; stopped = refl; is = refl }
+after Template p i k = record { stop = 64; rest = 46 ∷ k; stopped = refl; is = refl }
+after Instance p i k = record { stop = 64; rest = i ++ 46 ∷ k; stopped = refl; is = append_assoc p (64 ∷ i) (46 ∷ k) }
 
-own_behind : (n : Name) → IsName n → IsBehind (prefix n) n
-own_behind n h =
-    let b = behind (shape n) (prefix n) (instance n) (suffix n) in
+own_after : (n : Name) → IsName n → IsAfter (prefix n) n
+own_after n h =
+    let b = after (shape n) (prefix n) (instance n) (suffix n) in
     record { stop = b.stop; rest = b.rest; stopped = b.stopped; is = sym (names_are_their_parts n h) ∙ b.is }
 
 -- ---- the folders of a name
 
 own_begins : (n : Name) → IsName n → BothBegin n n
 own_begins n h =
-    let b = own_behind n h in
-    record { front = prefix n; stop = b.stop; rest = b.rest; others = b.stop ∷ b.rest; stopped = b.stopped; part_is = b.is; name_is = b.is; then = inl (b.rest, refl) }
+    let b = own_after n h in
+    record { search_prefix = prefix n; stop = b.stop; rest = b.rest; others = b.stop ∷ b.rest; stopped = b.stopped; part_is = b.is; name_is = b.is; then = inl (b.rest, refl) }
 
 template_begins : (n : Name) (g : Name) → IsName n → template_of n ≡ Some g → BothBegin g n
 template_begins n g h e = by (shape n) refl e
   where
     made : shape n ≡ Instance → g ≡ template_name (prefix n) (suffix n) → BothBegin g n
     made s t = record {
-      front = prefix n;
+      search_prefix = prefix n;
       stop = 64;
       rest = 46 ∷ suffix n;
       others = 64 ∷ instance n ++ 46 ∷ suffix n;
@@ -118,12 +101,12 @@ template_begins n g h e = by (shape n) refl e
     by Instance s t = made s (sym (same_Some _ _ t))
 
 -- a name with a cut of its prefix, and that name's template
-module _ (n : Name) (h : IsName n) (c : List ℕ) (f : IsDashedFront (prefix n) c) where
+module _ (n : Name) (h : IsName n) (c : List ℕ) (f : IsDashedPrefix (prefix n) c) where
   begins_with_cut : (g : Name) (stop : ℕ) (rest : List ℕ) → is_stop stop ≡ true → g ≡ c ++ stop ∷ rest → BothBegin g n
   begins_with_cut g stop rest stopped e =
-      let b = own_behind n h in
+      let b = own_after n h in
       record {
-        front = c;
+        search_prefix = c;
         stop = stop;
         rest = rest;
         others = f.next ∷ f.rest ++ b.stop ∷ b.rest;
@@ -135,7 +118,7 @@ module _ (n : Name) (h : IsName n) (c : List ℕ) (f : IsDashedFront (prefix n) 
 
   cut_begins : BothBegin (with_prefix n c) n
   cut_begins =
-      let b = behind (shape n) c (instance n) (suffix n) in
+      let b = after (shape n) c (instance n) (suffix n) in
       begins_with_cut (with_prefix n c) b.stop b.rest b.stopped b.is
 
   cut_template_begins : (g : Name) → template_of (with_prefix n c) ≡ Some g → BothBegin g n
@@ -163,7 +146,7 @@ with_template_begins n h g (inr a) = template_begins n g h (listed_is g (templat
 folder_begins : (n : Name) → IsName n → (g : Name) → IsAmong g (folders_of n) → BothBegin g n
 folder_begins n h g a = by (IsAmong-append_cases g (with_template n) (flat_map (λ p. with_template (with_prefix n p)) (cuts (prefix n))) a)
   where
-    cut : (c : List ℕ) → IsDashedFront (prefix n) c → IsAmong g (with_template (with_prefix n c)) → BothBegin g n
+    cut : (c : List ℕ) → IsDashedPrefix (prefix n) c → IsAmong g (with_template (with_prefix n c)) → BothBegin g n
     cut c f (inl e) = subst (λ (x : Name). BothBegin x n) e (cut_begins n h c f)
     cut c f (inr k) = cut_template_begins n h c f g (listed_is g (template_of (with_prefix n c)) k)
 
@@ -171,17 +154,17 @@ folder_begins n h g a = by (IsAmong-append_cases g (with_template n) (flat_map (
     by (inl k) = with_template_begins n h g k
     by (inr k) =
         let r = among_flat_map (λ p. with_template (with_prefix n p)) (cuts (prefix n)) g k in
-        cut r.source ((cuts_are_dashed_fronts (prefix n) r.source).0 (contains_from_among r.source (cuts (prefix n)) r.there)) r.makes
+        cut r.source ((cuts_are_dashed_prefixes (prefix n) r.source).0 (contains_from_among r.source (cuts (prefix n)) r.there)) r.makes
 
 -- with an ending
 ended : (g n end : List ℕ) → BothBegin g n → BothBegin (g ++ end) n
 ended g n end b = record {
-  front = b.front;
+  search_prefix = b.search_prefix;
   stop = b.stop;
   rest = b.rest ++ end;
   others = b.others;
   stopped = b.stopped;
-  part_is = ap (λ (w : List ℕ). w ++ end) b.part_is ∙ append_assoc b.front (b.stop ∷ b.rest) end;
+  part_is = ap (λ (w : List ℕ). w ++ end) b.part_is ∙ append_assoc b.search_prefix (b.stop ∷ b.rest) end;
   name_is = b.name_is;
   then = b.then;
 }
@@ -212,7 +195,7 @@ pub record OneBegins (part : List ℕ) (names : List Name) : Type 0 where
   there : IsAmong name names
   alike : BothBegin part name
 
-module _ (part : List ℕ) (names : List Name) (typeless : IsOfNoType part) (lawful : All IsName names) where
+module _ (part : List ℕ) (names : List Name) (typeless : IsOfNoType part) (well_formed : All IsName names) where
   -- a folder of these names with an ending
   dir_begins : (end : List ℕ) → IsAmong part (dirs_with end (folders names)) → OneBegins part names
   dir_begins end a =
@@ -223,7 +206,7 @@ module _ (part : List ℕ) (names : List Name) (typeless : IsOfNoType part) (law
         there = q.there;
         alike =
             subst (λ (x : List ℕ). BothBegin x q.source) r.makes
-            (ended r.source q.source end (folder_begins q.source (all_among IsName names q.source lawful q.there) r.source q.makes));
+            (ended r.source q.source end (folder_begins q.source (all_among IsName names q.source well_formed q.there) r.source q.makes));
       }
 
   -- it is no type's
@@ -231,7 +214,7 @@ module _ (part : List ℕ) (names : List Name) (typeless : IsOfNoType part) (law
   no_type a =
       let r = among_map (λ (n : Name). n ++ codes ".d") (types_of (folders names)) part a in
       let q = among_map suffix (folders names) r.source (among_firsts r.source (map suffix (folders names)) r.there) in
-      let name = all_among IsName (folders names) q.source (folders_are_names names lawful) q.there in
+      let name = all_among IsName (folders names) q.source (folders_are_names names well_formed) q.there in
       true≢false (sym (typeless r.source (sym r.makes)) ∙ ap (list_any is_dot) (sym q.makes) ∙ type_has_no_dot q.source name)
 
   unit_folder_begins : IsAmong part (unit_folders names) → OneBegins part names
@@ -258,18 +241,18 @@ module _ (part : List ℕ) (names : List Name) (typeless : IsOfNoType part) (law
       by (inl k) = record { name = name; there = inl refl; alike = with_template_begins name own part k }
       by (inr k) = let o = unit_folder_begins k in record { name = o.name; there = inr o.there; alike = o.alike }
 
--- so one of the unit's names begins with the part's front
-pub names_begin : (part front : List ℕ) (name : Name) (names : List Name) → IsFrontOf part front → IsOfNoType part → IsName name → All IsName names → IsAmong part (footprint name names)
-    → (m : Name) × (IsAmong m (name ∷ names) × BeginsWith front m)
-names_begin part front name names f typeless own lawful a =
-    let o = footprint_begins part names typeless lawful name own a in
-    (o.name, (o.there, front_begins part front o.name f o.alike))
+-- so one of the unit's names begins with the part's prefix
+pub names_begin : (part search_prefix : List ℕ) (name : Name) (names : List Name) → IsSearchPrefixOf part search_prefix → IsOfNoType part → IsName name → All IsName names → IsAmong part (footprint name names)
+    → (m : Name) × (IsAmong m (name ∷ names) × BeginsWith search_prefix m)
+names_begin part search_prefix name names f typeless own well_formed a =
+    let o = footprint_begins part names typeless well_formed name own a in
+    (o.name, (o.there, search_prefix_begins part search_prefix o.name f o.alike))
 
--- and a part without a stop is in none
+-- and no footprint has a part without a stop
 pub stopless : (part : List ℕ) (name : Name) (names : List Name) → HasNoStop part → IsOfNoType part → IsName name → All IsName names → ¬ IsAmong part (footprint name names)
-stopless part name names none typeless own lawful a =
-    let o = footprint_begins part names typeless lawful name own a in
-    true≢false (sym (has_stop o.alike.front o.alike.stop o.alike.rest o.alike.stopped) ∙ ap (list_any is_stop) (sym o.alike.part_is) ∙ none)
+stopless part name names none typeless own well_formed a =
+    let o = footprint_begins part names typeless well_formed name own a in
+    true≢false (sym (has_stop o.alike.search_prefix o.alike.stop o.alike.rest o.alike.stopped) ∙ ap (list_any is_stop) (sym o.alike.part_is) ∙ none)
   where
     has_stop : (x : List ℕ) (b : ℕ) (q : List ℕ) → is_stop b ≡ true → list_any is_stop (x ++ b ∷ q) ≡ true
     has_stop [] b q e = or_left (is_stop b) (list_any is_stop q) e

@@ -1,25 +1,7 @@
 -- What was found from the sources is the universe.
-use Rattle.std.proofs.Common.{◌≡◌, List, refl, sym, ◌∙◌, subst, inl, inr}
-use Rattle.std.specs.Prelude.{◌↔◌, ◌⊎◌}
+use Rattle.std.proofs.Common.{◌↔◌, ◌∙◌, ◌≡◌, ◌⊎◌, inl, inr, List, refl, subst, sym}
 use Rattle.std.specs.Map.{keys_of}
-use Rattle.list_laws.specs.Members.{IsAmong, among_from_contains, contains_from_among}
-use Rattle.path_maps.specs.Views.{View}
-use Rattle.unit_name.specs.Names.{Name, name_cmp}
-use Rattle.setting_rules.specs.declared.dependency_lists.DependencyList.{DependencyList}
-use Rattle.setting_rules.specs.declared.kinds.DepKind.{DepKind}
-use Rattle.name_closure.specs.Chains.{IsClosure, HasOver}
-use Rattle.name_closure.specs.ClosureLaws.{reached_closed, reached_least}
-use Rattle.name_closure.specs.ListedLaws.{Listed}
-use Rattle.name_closure.specs.Loading.{LeadsByLoad, AreLoaded}
-use Rattle.name_closure.specs.SourceLaws.{more_reached}
-use Rattle.unit_loads.specs.MemberLaws.{among_flat_map, among_map, flat_map_among}
-use Rattle.unit_loads.specs.NameLaws.{lists_have_what_is_named}
-use Rattle.unit_loads.specs.NamedUnits.{IsListed}
-use Rattle.parallel_load.specs.declared.loaded.NameLoad.{NameLoad}
-use Rattle.parallel_load.specs.declared.loaded.NameLoad.TheVariants.{Unit as OfUnit, Alias as OfAlias}
-use Rattle.parallel_load.specs.Alone.{IsLoadAlone, named_in, names_in_lists}
-use Rattle.parallel_load.specs.UniverseLaws.{all_among}
-use Rattle.parallel_load.specs.Universe.{AreUniverse, IsSource, IsTooLarge, LeadsTo}
+use Rattle.parallel_load.proofs.Prelude.{all_among, among_flat_map, among_from_contains, among_map, AreLoaded, AreUniverse, contains_from_among, DependencyList, DepKind, flat_map_among, HasOver, HostViewMap, IsAmong, IsClosure, IsListed, IsLoadAlone, IsSource, IsTooLarge, LeadsByLoad, LeadsTo, Listed, lists_have_what_is_named, more_reached, Name, name_cmp, named_in, NameLoad, names_in_lists, OfAlias, OfUnit, reached_closed, reached_least}
 
 -- a name in one of the lists is listed for a kind
 listed : (lists : List DependencyList) (m : Name) → IsAmong m (names_in_lists lists) → (dep : DepKind) × IsListed lists dep m
@@ -38,7 +20,7 @@ in_lists : (lists : List DependencyList) (dep : DepKind) (m : Name) → IsListed
 in_lists lists dep m l =
     flat_map_among (λ (list : DependencyList). list.names) lists l.list m (among_from_contains l.list lists l.there) (among_from_contains m l.list.names l.has_name)
 
-module _ (s : View) where
+module _ (s : HostViewMap) where
   -- what is named where something is loaded is what the name leads to
   pub step_leads : (n : Name) (one : NameLoad) (m : Name) → IsLoadAlone s n one → IsAmong m (named_in one) → LeadsTo s n m
   step_leads n (OfUnit u) m p h =
@@ -79,7 +61,7 @@ module _ (s : View) where
 
       pub universe_is : AreUniverse s extra (keys_of pairs)
       universe_is = record {
-        rising = closure.rising;
+        ascending = closure.ascending;
         members = λ n. (
           λ h. more_reached (Listed sources) (IsSource s extra) Steps (LeadsTo s) (λ m. (same m).0) (λ m o l. step_leads m l.one o l.loaded l.names) n ((closure.members n).0 h),
           λ r. reached_least (IsSource s extra) (LeadsTo s) (λ m. IsAmong m (keys_of pairs))
@@ -90,7 +72,7 @@ module _ (s : View) where
     pub too_large : HasOver (Listed sources) Steps name_cmp 4096 → IsTooLarge s extra
     too_large v = record {
       nodes = v.nodes;
-      rising = v.rising;
+      ascending = v.ascending;
       reached = λ n h. more_reached (Listed sources) (IsSource s extra) Steps (LeadsTo s) (λ m. (same m).0) (λ m o l. step_leads m l.one o l.loaded l.names) n (v.reached n h);
       over = v.over;
     }

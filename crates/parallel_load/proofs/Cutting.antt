@@ -1,13 +1,12 @@
 -- Where the first components of paths are cut: at their first stop.
-use Rattle.std.proofs.Common.{◌≡◌, ◌≢◌, ◌<◌, ◌≤◌, ◌+◌, ◌-◌, ℕ, zero, suc, Bool, true, false, not, cond, Some, None, List, [], ◌∷◌, ◌++◌, drop, get_or, length, take, refl, ap, sym, ◌∙◌, ⊎_elim, subst, inl, inr, arith}
-use Rattle.std.specs.Prelude.{◌⊎◌, position}
-use Rattle.std.specs.List.{list_any, position_or_len}
-use Rattle.std.proofs.lemmas.Bool.{cases_Bool, cond-true, cond-false, ltb-true, ltb-false, or_from}
+use Rattle.std.proofs.Common.{[], ◌++◌, ◌+◌, ◌-◌, ◌<◌, ◌∙◌, ◌∷◌, ◌≡◌, ◌≢◌, ◌≤◌, ◌⊎◌, ap, arith, Bool, cond, drop, false, get_or, inl, inr, length, List, None, not, position, refl, Some, subst, suc, sym, take, true, zero, ℕ, ⊎_elim}
+use Rattle.std.proofs.lemmas.Bool.{cases_Bool, cond-false, cond-true, ltb-false, ltb-true, or_from}
 use Rattle.std.proofs.lemmas.List.{take_all, take_more}
 use Rattle.std.proofs.lemmas.List.Sums.{passes_at_first, split_at_first}
-use Rattle.parallel_load.specs.Fronts.{EndsInDash, HasNoStop, IsFrontOf, is_stop}
+use Rattle.std.specs.List.{list_any, position_or_len}
+use Rattle.parallel_load.proofs.Prelude.{EndsInDash, HasNoStop, is_stop, IsSearchPrefixOf}
 
--- none stands before the first
+-- no stop is before the first one
 none_before : (xs : List ℕ) → HasNoStop (take (position_or_len is_stop xs) xs)
 none_before [] = refl
 none_before (x ∷ xs) = by (is_stop x) refl (none_before xs)
@@ -48,22 +47,22 @@ cut_nowhere part e = ⊎_elim
     (λ past. subst HasNoStop (take_all (position_or_len is_stop part) part (ltb-false _ _ past)) (none_before part))
     (cases_Bool _)
 
--- ---- the front
+-- ---- the prefix
 
 module _ (part : List ℕ) (i : ℕ) (c : IsCutAt part i) where
-  front_by : (front : List ℕ) → ((front ≡ take i part) × EndsInDash (take i part)) ⊎ ((front ≡ take i part ++ get_or part i 0 ∷ []) × ¬ EndsInDash (take i part)) → IsFrontOf part front
-  front_by front is =
-      record { before = take i part; stop = get_or part i 0; rest = drop (i + 1) part; is = c.is; plain = c.plain; stopped = c.stopped; front_is = is }
+  search_prefix_by : (search_prefix : List ℕ) → ((search_prefix ≡ take i part) × EndsInDash (take i part)) ⊎ ((search_prefix ≡ take i part ++ get_or part i 0 ∷ []) × ¬ EndsInDash (take i part)) → IsSearchPrefixOf part search_prefix
+  search_prefix_by search_prefix is =
+      record { before = take i part; stop = get_or part i 0; rest = drop (i + 1) part; is = c.is; plain = c.plain; stopped = c.stopped; search_prefix_is = is }
 
-  -- with the stop, where no dash stands before it
-  pub front_with : ¬ EndsInDash (take i part) → IsFrontOf part (take (i + 1) part)
-  front_with other = front_by (take (i + 1) part) (inr (take_more part i 0 c.within, other))
+  -- with the stop, if no dash is before it
+  pub search_prefix_with : ¬ EndsInDash (take i part) → IsSearchPrefixOf part (take (i + 1) part)
+  search_prefix_with other = search_prefix_by (take (i + 1) part) (inr (take_more part i 0 c.within, other))
 
-  -- without it, where one does
-  pub front_without : EndsInDash (take i part) → IsFrontOf part (take i part)
-  front_without dash = front_by (take i part) (inl (refl, dash))
+  -- without the stop, if a dash is before it
+  pub search_prefix_without : EndsInDash (take i part) → IsSearchPrefixOf part (take i part)
+  search_prefix_without dash = search_prefix_by (take i part) (inl (refl, dash))
 
--- what is taken ends in a dash just where that is its last byte
+-- what is taken ends in a dash exactly where that is its last byte
 pub dash_before : (part : List ℕ) (i : ℕ) → 0 < i → i < length part → get_or part (i - 1) 0 ≡ 45 → EndsInDash (take i part)
 dash_before part (suc i) some l e = record { start = take i part; is = ap (λ (n : ℕ). take n part) one ∙ take_more part i 0 (omega (arith, l)) ∙ ap (λ (b : ℕ). take i part ++ b ∷ []) (ap (λ (n : ℕ). get_or part n 0) two ∙ e) }
   where
@@ -74,12 +73,12 @@ dash_before part (suc i) some l e = record { start = take i part; is = ap (λ (n
     two = omega arith
 dash_before part zero some l e = absurd (omega (arith, some))
 
--- nothing ends in a dash where there is nothing
+-- no empty list ends in a dash
 none_ends : (start : List ℕ) → start ++ 45 ∷ [] ≡ [] → ⊥
 none_ends [] e = cc (e)
 none_ends (x ∷ start) e = cc (e)
 
--- nor where nothing is taken
+-- nor does a prefix of length 0
 pub none_taken : (part : List ℕ) (i : ℕ) → i ≤ 0 → ¬ EndsInDash (take i part)
 none_taken part i l d =
     let none : i ≡ 0 = omega (arith, l) in

@@ -1,25 +1,13 @@
--- How the words of names are gathered.
-use Rattle.std.proofs.Common.{◌≡◌, ◌+◌, ℕ, suc, Bool, true, false, cond, Option, Some, None, List, [], ◌∷◌, ◌++◌, drop, map, refl, ap, sym, ◌∙◌, subst, arith, append_assoc}
-use Rattle.std.specs.List.{All, cons_option}
-use Rattle.std.specs.List.Sorted.{IsStrictlySortedBy}
-use Rattle.std.specs.Map.{keys_of}
-use Rattle.std.specs.Prelude.{◌↔◌}
+-- How the link targets of names are collected.
+use Rattle.std.proofs.Common.{[], ◌++◌, ◌+◌, ◌↔◌, ◌∙◌, ◌∷◌, ◌≡◌, All, ap, append_assoc, arith, Bool, cond, drop, false, List, map, None, Option, refl, Some, subst, suc, sym, true, ℕ}
 use Rattle.std.proofs.Math.Seq.{drop-cons}
 use Rattle.std.proofs.lemmas.List.{map-append}
 use Rattle.std.proofs.lemmas.List.Elements.{All-cons, All-nil}
 use Rattle.std.proofs.lemmas.Option.{none-some, same_Some}
-use Rattle.list_laws.specs.Members.{IsAmong}
-use Rattle.load_places.specs.LevelLaws.{level_is}
-use Rattle.load_places.specs.Levels.{IsLevel, levels}
-use Rattle.path_maps.specs.Views.{View}
-use Rattle.unit_name.specs.Names.{Name, name_cmp}
-use Rattle.fragment_choice.specs.AliasWordLaws.{IsShown}
-use Rattle.fragment_choice.specs.AliasWords.{Target, alias_words, target_at, targets_in, words_of}
-use Rattle.fragment_choice.specs.Choices.{is_null, own_path}
-use Rattle.parallel_load.specs.declared.words.Word.{Word}
-use Rattle.parallel_load.specs.declared.words.Word.TheVariants.{Nothing, Link, End}
-use Rattle.parallel_load.specs.OwnWords.{AreOwnWords, HasOwnWords, NamedWords}
-use Rattle.parallel_load.specs.Words.{IsWordAt, ended_part, target_in, with_own_words}
+use Rattle.std.specs.List.{cons_option}
+use Rattle.std.specs.List.Sorted.{IsStrictlySortedBy}
+use Rattle.std.specs.Map.{keys_of}
+use Rattle.parallel_load.proofs.Prelude.{AreOwnLinkTargets, End, ended_part, HasOwnLinkTargets, HostViewMap, is_null, IsAmong, IsLevel, IsOwnLinkAt, IsShown, level_is, levels, Link, link_targets, Name, name_cmp, NamedWords, Nothing, own_path, OwnLink, Target, target_at, target_in, targets_in, with_own_link_targets, words_of}
 
 -- a link to /dev/null ends as a file does
 end_is_end : (o : Option Target) (ts : List Target) → words_of (cons_option o ts) ≡ words_of (cons_option (ended_part o) ts)
@@ -31,7 +19,7 @@ end_is_end (Some (Some target)) ts = by (is_null target) refl
     by true e = ap (λ c. cond c (None ∷ []) (Some target ∷ words_of ts)) e
     by false e = refl
 
--- a link that is told isn't one to /dev/null
+-- a link whose target counts isn't one to /dev/null
 not_null : (o : Option Target) (target : List ℕ) → Some (Some target) ≡ ended_part o → is_null target ≡ false
 not_null None target e = absurd (none-some _ (sym e))
 not_null (Some None) target e = absurd (none-some _ (sym (same_Some _ _ e)))
@@ -41,7 +29,7 @@ not_null (Some (Some x)) target e = by (is_null x) refl (same_Some _ _ e)
     by true f g = absurd (none-some _ (sym g))
     by false f g = ap is_null (same_Some _ _ g) ∙ f
 
-module _ (s : View) (n : Name) (l : ℕ) (lvl : IsLevel l) where
+module _ (s : HostViewMap) (n : Name) (l : ℕ) (lvl : IsLevel l) where
   abbrev rest : List Target
   rest = targets_in s n (drop (l + 1) levels)
 
@@ -54,19 +42,19 @@ module _ (s : View) (n : Name) (l : ℕ) (lvl : IsLevel l) where
       one_more : (k : ℕ) → suc k ≡ k + 1
       one_more k = omega arith
 
-  words_from : (w : Word) → IsWordAt s n l w → words_of (targets_in s n (drop l levels)) ≡ words_of (cons_option (target_in w) rest)
+  words_from : (w : OwnLink) → IsOwnLinkAt s n l w → words_of (targets_in s n (drop l levels)) ≡ words_of (cons_option (target_in w) rest)
   words_from w is =
       ap words_of from_here ∙ end_is_end (target_at s (own_path n l)) rest
       ∙ ap (λ (o : Option Target). words_of (cons_option o rest)) (sym is)
 
-  module _ (links : List (List ℕ)) (before : map (λ target. Some target) links ++ words_of (targets_in s n (drop l levels)) ≡ alias_words s n) where
-    so_far : (w : Word) → IsWordAt s n l w → map (λ target. Some target) links ++ words_of (cons_option (target_in w) rest) ≡ alias_words s n
+  module _ (links : List (List ℕ)) (before : map (λ target. Some target) links ++ words_of (targets_in s n (drop l levels)) ≡ link_targets s n) where
+    so_far : (w : OwnLink) → IsOwnLinkAt s n l w → map (λ target. Some target) links ++ words_of (cons_option (target_in w) rest) ≡ link_targets s n
     so_far w is = ap (λ (ws : List Target). map (λ target. Some target) links ++ ws) (sym (words_from w is)) ∙ before
 
-    pub nothing_more : IsWordAt s n l Nothing → map (λ target. Some target) links ++ words_of rest ≡ alias_words s n
+    pub nothing_more : IsOwnLinkAt s n l Nothing → map (λ target. Some target) links ++ words_of rest ≡ link_targets s n
     nothing_more is = so_far Nothing is
 
-    pub link_more : (target : List ℕ) → IsWordAt s n l (Link target) → map (λ target. Some target) (links ++ target ∷ []) ++ words_of rest ≡ alias_words s n
+    pub link_more : (target : List ℕ) → IsOwnLinkAt s n l (Link target) → map (λ target. Some target) (links ++ target ∷ []) ++ words_of rest ≡ link_targets s n
     link_more target is =
         ap (λ (ws : List Target). ws ++ words_of rest) (map-append (λ (t : List ℕ). Some t) links (target ∷ []))
         ∙ append_assoc (map (λ t. Some t) links) (Some target ∷ []) (words_of rest)
@@ -74,25 +62,25 @@ module _ (s : View) (n : Name) (l : ℕ) (lvl : IsLevel l) where
         (sym (ap (λ b. cond b (None ∷ []) (Some target ∷ words_of rest)) (not_null (target_at s (own_path n l)) target is)))
         ∙ so_far (Link target) is
 
-    pub end_there : IsWordAt s n l End → map (λ target. Some target) links ++ None ∷ [] ≡ alias_words s n
+    pub end_there : IsOwnLinkAt s n l End → map (λ target. Some target) links ++ None ∷ [] ≡ link_targets s n
     end_there is = so_far End is
 
--- ---- names with their words
+-- ---- names with their link targets
 
-named_keys : (s : View) (names : List Name) → keys_of (map (with_own_words s) names) ≡ names
+named_keys : (s : HostViewMap) (names : List Name) → keys_of (map (with_own_link_targets s) names) ≡ names
 named_keys s [] = refl
 named_keys s (n ∷ names) = ap (λ (ns : List Name). n ∷ ns) (named_keys s names)
 
-named_words : (s : View) (names : List Name) → All (HasOwnWords s) (map (with_own_words s) names)
-named_words s [] = All-nil (HasOwnWords s)
-named_words s (n ∷ names) = All-cons (HasOwnWords s) (n, alias_words s n) (map (with_own_words s) names) refl (named_words s names)
+named_words : (s : HostViewMap) (names : List Name) → All (HasOwnLinkTargets s) (map (with_own_link_targets s) names)
+named_words s [] = All-nil (HasOwnLinkTargets s)
+named_words s (n ∷ names) = All-cons (HasOwnLinkTargets s) (n, link_targets s n) (map (with_own_link_targets s) names) refl (named_words s names)
 
-pub own_words : (s : View) (names : List Name) (all : NamedWords) → IsStrictlySortedBy name_cmp names → ((n : Name) → IsAmong n names ↔ IsShown s n) → all ≡ map (with_own_words s) names
-    → AreOwnWords s all
-own_words s names all rising shown e =
+pub own_link_targets : (s : HostViewMap) (names : List Name) (all : NamedWords) → IsStrictlySortedBy name_cmp names → ((n : Name) → IsAmong n names ↔ IsShown s n) → all ≡ map (with_own_link_targets s) names
+    → AreOwnLinkTargets s all
+own_link_targets s names all ascending shown e =
     let keys : keys_of all ≡ names = ap (λ (ps : NamedWords). keys_of ps) e ∙ named_keys s names in
     record {
-      rising = subst (IsStrictlySortedBy name_cmp) (sym keys) rising;
+      ascending = subst (IsStrictlySortedBy name_cmp) (sym keys) ascending;
       shown = λ n. (let P : List Name → Type 0 = λ ns. IsAmong n ns in (λ h. (shown n).0 (subst P keys h), λ h. subst P (sym keys) ((shown n).1 h)));
-      words = subst (All (HasOwnWords s)) (sym e) (named_words s names);
+      words = subst (All (HasOwnLinkTargets s)) (sym e) (named_words s names);
     }

@@ -1,43 +1,35 @@
--- Facts that hold of each element of a list, and lists that are compared.
-use Rattle.std.proofs.Common.{◌≡◌, ◌<◌, ◌+◌, ◌||◌, ℕ, zero, suc, Bool, true, false, List, [], ◌∷◌, ◌++◌, length, get_or, take, refl, ap, sym, ◌∙◌, subst, inl, inr, arith}
-use denote.Enum.Bare.{same_true}
-use Rattle.std.specs.Prelude.{◌↔◌, IsPermutation, IsSorted}
-use Rattle.std.specs.List.{All, dedup, list_any}
-use Rattle.std.specs.List.Sorted.{IsStrictlySortedBy}
-use Rattle.std.specs.Cmp.Lexicographic.{pointwise}
-use Rattle.std.specs.Ordering.{eq_by_cmp}
+-- Facts about each element of a list, and lists that are compared.
+use Rattle.std.proofs.Common.{[], ◌++◌, ◌+◌, ◌<◌, ◌||◌, ◌↔◌, ◌∙◌, ◌∷◌, ◌≡◌, All, ap, arith, Bool, false, get_or, inl, inr, length, List, refl, subst, suc, sym, take, true, zero, ℕ}
 use Rattle.std.proofs.lemmas.List.{take_more}
 use Rattle.std.proofs.lemmas.List.Elements.{All-append, All-cons, All-nil}
-use Rattle.list_laws.specs.Members.{IsAmong, among_from_contains, contains_from_among}
-use Rattle.unit_name.specs.Names.{Name, name_cmp}
-use Rattle.unit_name.specs.NameLaws.{name_eq-Decides}
+use Rattle.std.specs.Cmp.Lexicographic.{pointwise}
+use Rattle.std.specs.List.{dedup, list_any}
+use Rattle.std.specs.List.Sorted.{IsStrictlySortedBy}
+use Rattle.std.specs.Ordering.{eq_by_cmp}
+use Rattle.std.specs.Prelude.{IsPermutation, IsSorted}
+use denote.Enum.Bare.{same_true}
+use Rattle.parallel_load.proofs.Prelude.{among_from_contains, contains_from_among, DependencyList, DepKind, first_true, in_byte_order, IsAmong, Name, name_cmp, name_eq-Decides, names_ascend, names_stay, same_by, second_true, sorted_is}
 use Rattle.setting_rules.specs.contracts.dependency_lists.DependencyListPartialEq.TheImpl as list_eq
 use Rattle.setting_rules.specs.contracts.kinds.DepKind as kinds
-use Rattle.setting_rules.specs.declared.dependency_lists.DependencyList.{DependencyList}
-use Rattle.setting_rules.specs.declared.kinds.DepKind.{DepKind}
-use Rattle.setting_rules.specs.Dependencies.{in_byte_order}
-use Rattle.setting_rules.specs.OrderLaws.{names_rise, names_stay}
-use Rattle.setting_rules.specs.SortedLaws.{sorted_is}
-use Rattle.parallel_load.specs.SameLaws.{first_true, same_by, second_true}
 
--- one more element of which it holds
+-- one more element with the property
 pub all_more : {X : Type 0} (P : X → Type 0) (xs : List X) (i : ℕ) (d x : X) → i < length xs → x ≡ get_or xs i d → All P (take i xs) → P x → All P (take (i + 1) xs)
 all_more P xs i d x l e h p =
     subst (All P) (sym (take_more xs i d l ∙ ap (λ y. take i xs ++ y ∷ []) (sym e))) (All-append P (take i xs) (x ∷ []) h (All-cons P x [] p (All-nil P)))
 
--- what stands at a place, whatever stands for none
+-- the element at a place, whatever the default
 pub any_at : {X : Type 0} (xs : List X) (i : ℕ) (d e : X) → i < length xs → get_or xs i d ≡ get_or xs i e
 any_at [] i d e l = absurd (omega arith)
 any_at (x ∷ xs) zero d e l = refl
 any_at (x ∷ xs) (suc i) d e l = any_at xs i d e (omega arith)
 
--- what stands at a place is among all
+-- the element at a place is in the list
 pub get_among : {X : Type 0} (xs : List X) (i : ℕ) (d : X) → i < length xs → IsAmong (get_or xs i d) xs
 get_among [] i d l = absurd (omega arith)
 get_among (x ∷ xs) zero d l = inl refl
 get_among (x ∷ xs) (suc i) d l = inr (get_among xs i d (omega arith))
 
--- and what is among all stands at a place
+-- and each element of the list is at some place
 pub place_among : {X : Type 0} (x d : X) (xs : List X) → IsAmong x xs → (i : ℕ) × ((i < length xs) × (get_or xs i d ≡ x))
 place_among x d [] a = absurd a
 place_among x d (y ∷ xs) (inl e) = (0, (omega arith, e))
@@ -60,8 +52,8 @@ module _ (names s d : List Name) (permutation : IsPermutation names s) (sorted :
   order : d ≡ in_byte_order names
   order = sorted_is names s d permutation sorted is
 
-  pub order_rises : IsStrictlySortedBy name_cmp d
-  order_rises = subst (IsStrictlySortedBy name_cmp) (sym order) (names_rise names)
+  pub order_ascends : IsStrictlySortedBy name_cmp d
+  order_ascends = subst (IsStrictlySortedBy name_cmp) (sym order) (names_ascend names)
 
   pub order_stays : (part : List ℕ) → IsAmong part d ↔ IsAmong part names
   order_stays part = (
@@ -69,7 +61,7 @@ module _ (names s d : List Name) (permutation : IsPermutation names s) (sorted :
     λ h. subst (IsAmong part) (sym order) (among_from_contains part (in_byte_order names) ((names_stay names part).1 (contains_from_among part names h))),
   )
 
--- a list has a name that is among it, as the test asks it
+-- the test finds a name that is in the list
 pub any_there : (z : Name) (xs : List Name) → IsAmong z xs → list_any (λ y. eq_by_cmp name_cmp y z) xs ≡ true
 any_there z [] h = absurd h
 any_there z (y ∷ xs) (inl e) = ap (λ b. b || list_any (λ x. eq_by_cmp name_cmp x z) xs) ((name_eq-Decides y z).1 e)

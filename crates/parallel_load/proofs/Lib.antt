@@ -1,15 +1,16 @@
+pub mod Prelude
 mod Again
 mod Begins
 mod Closing
 mod Cutting
 mod Gathering
 mod Keeping
-mod Numbering
+mod Indexing
 mod Pieces
 mod Rows
-mod SecondNames
+mod SecondaryNames
 mod Seeking
-mod Settling
+mod Normalizing
 mod SideBySide
 mod Staying
 mod Steps

@@ -1,10 +1,9 @@
--- What is made of each element of pieces, put together.
-use Rattle.std.specs.Prelude.{◌≡◌, ◌<◌, ℕ, suc, List, [], ◌∷◌, ◌++◌, length, map, Result, Ok, IfOk}
-use Rattle.std.specs.List.{flat_map}
+-- The results for the parts of a list, put together.
+use Rattle.std.proofs.Common.{[], ◌++◌, ◌<◌, ◌∙◌, ◌∷◌, ◌≡◌, ap, arith, get_or, IfOk, length, List, map, Ok, refl, Result, suc, sym, ℕ}
+use Rattle.std.proofs.lemmas.List.{length-map, map-append}
 use Rattle.std.specs.Global.{Vec}
-use Rattle.std.proofs.Common.{arith, ap, refl, sym, ◌∙◌, get_or}
-use Rattle.std.proofs.lemmas.List.{map-append, length-map}
-use Rattle.worker_rounds.specs.Joined.{IsJoined}
+use Rattle.std.specs.List.{flat_map}
+use Rattle.parallel_load.proofs.Prelude.{IsJoined}
 
 module _ {X Y P E : Type 0} (f : X → Y) (nodes_of : P → List X) where
   maps_are : (pieces : List P) (lists : List (Vec Y)) → length lists ≡ length pieces
@@ -18,7 +17,7 @@ module _ {X Y P E : Type 0} (f : X → Y) (nodes_of : P → List X) where
       ∙ ap (λ ys. map f (nodes_of p) ++ ys) (maps_are ps vs (omega arith) (λ i piece part l. each (suc i) piece part (omega arith)))
       ∙ sym (map-append f (nodes_of p) (flat_map nodes_of ps))
 
-  -- what is made of all pieces, put together, is what is made of all
+  -- the results for all parts, put together, are the results for the whole
   pub joined_maps : (pieces : List P) (parts : List (Result (Vec Y) E)) (nodes : List X) (all : List Y) → flat_map nodes_of pieces ≡ nodes → length parts ≡ length pieces
       → ((i : ℕ) (piece : P) (part : Result (Vec Y) E) → i < length pieces → IfOk (get_or parts i part) (λ v. v.items ≡ map f (nodes_of (get_or pieces i piece))))
       → IsJoined parts all → all ≡ map f nodes

@@ -1,40 +1,22 @@
 -- The names at which something is visible, level by level, and those of them that are sources.
-use Rattle.std.proofs.Common.{◌≡◌, ℕ, zero, suc, ◌+◌, ◌<◌, ◌≤◌, Bool, true, false, T, ◌&&◌, not, if◌then◌else◌, Option, Some, None, is_some, List, [], ◌∷◌, ◌++◌, filter, IsTrue, refl, ap, sym, ◌∙◌, subst, inl, inr, arith, eq-eqb}
-use Rattle.std.specs.Prelude.{◌↔◌, ◌⊎◌, ◌≢◌, IsSome}
+use Rattle.std.proofs.Common.{[], ◌&&◌, ◌++◌, ◌+◌, ◌<◌, ◌↔◌, ◌∙◌, ◌∷◌, ◌≡◌, ◌≢◌, ◌≤◌, ◌⊎◌, ap, arith, Bool, eq-eqb, false, filter, if◌then◌else◌, inl, inr, is_some, IsSome, IsTrue, List, None, not, Option, refl, Some, subst, suc, sym, T, true, zero, ℕ}
+use Rattle.std.proofs.lemmas.Bool.{and_from, and_parts, eqb-true}
+use Rattle.std.proofs.lemmas.Option.{none-some, same_Some}
 use Rattle.std.specs.List.{filter_map}
 use Rattle.std.specs.Map.{keys_of}
 use Rattle.std.specs.Option.{option_and_then}
 use Rattle.std.specs.Str.{bytes_eq}
+use Rattle.parallel_load.proofs.Prelude.{among_filter, among_filter_map, among_find, among_map, AreSourcesBy, Entry, filter_among, filter_map_among, find_among, HostViewMap, Instance, is_in, is_name, is_template, IsAmong, IsAmong-append_cases, IsAmong-append_left, IsAmong-append_right, IsName, IsShown, IsSource, IsVisibleName, map_among, Name, NamedWords, own_path, path_cmp, path_cmp-IsAntisymmetric, path_cmp_total, PathParts, Plain, shape, shown, shown_name, shown_names, Target, Template, UnitShape, view, viewed_at, whole_name}
 use Rattle.std.specs.FinMap as finmap
-use Rattle.std.proofs.lemmas.Bool.{and_from, and_parts, eqb-true}
-use Rattle.std.proofs.lemmas.Option.{none-some, same_Some}
-use Rattle.list_laws.specs.Members.{IsAmong, IsAmong-append_cases, IsAmong-append_left, IsAmong-append_right}
-use Rattle.load_path.specs.Paths.{PathParts, path_cmp}
-use Rattle.load_path.specs.PathLaws.{path_cmp-IsAntisymmetric, path_cmp_total}
-use Rattle.edit_sums.specs.Entries.{Entry}
-use Rattle.edit_sums.specs.Sums.{shown}
-use Rattle.path_maps.specs.Views.{View, seen_at, seen}
-use Rattle.path_maps.specs.Folders.{is_in}
-use Rattle.unit_name.specs.declared.names.Shape.{Shape as UnitShape}
-use Rattle.unit_name.specs.declared.names.Shape.TheVariants.{Plain, Template, Instance}
-use Rattle.unit_name.specs.Names.{Name, IsName, is_name, shape}
-use Rattle.fragment_choice.specs.AliasWordLaws.{IsShown}
-use Rattle.fragment_choice.specs.AliasWords.{Target}
-use Rattle.fragment_choice.specs.Choices.{own_path}
-use Rattle.unit_loads.specs.MemberLaws.{among_filter, among_filter_map, among_map, filter_among, filter_map_among, map_among}
-use Rattle.parallel_load.specs.OwnWords.{NamedWords}
-use Rattle.parallel_load.specs.PairLaws.{among_find, find_among}
-use Rattle.parallel_load.specs.Sources.{AreSourcesBy, is_template, shown_name, shown_names, whole_name}
-use Rattle.parallel_load.specs.Universe.{IsSource, IsVisibleName}
 
 -- ---- what is visible of names
 
 -- those of the levels below this one
-abbrev pub names_below : View → ℕ → List Name
+abbrev pub names_below : HostViewMap → ℕ → List Name
 names_below s zero = []
 names_below s (suc level) = names_below s level ++ shown_names s level
 
-pub one_level_more : (s : View) (level : ℕ) (old new : List Name) → old ≡ names_below s level → new ≡ old ++ shown_names s level → new ≡ names_below s (level + 1)
+pub one_level_more : (s : HostViewMap) (level : ℕ) (old new : List Name) → old ≡ names_below s level → new ≡ old ++ shown_names s level → new ≡ names_below s (level + 1)
 one_level_more s level old new e f =
     f ∙ ap (λ (ns : List Name). ns ++ shown_names s level) e ∙ ap (names_below s) (sym (succ_is level))
   where
@@ -53,14 +35,14 @@ own_is level p n h e =
     no_bytes [] k = refl
     no_bytes (x ∷ f) k = cc (k)
 
-some_shown : (s : View) (q : PathParts) → IsSome (seen_at s q) → (x : Entry) × (finmap.get (seen s) q ≡ Some x) × (is_some (shown x) ≡ true)
-some_shown s q h = by (finmap.get (seen s) q) refl h
+some_shown : (s : HostViewMap) (q : PathParts) → IsSome (viewed_at s q) → (x : Entry) × (finmap.get (view s) q ≡ Some x) × (is_some (shown x) ≡ true)
+some_shown s q h = by (finmap.get (view s) q) refl h
   where
-    by : (o : Option Entry) → finmap.get (seen s) q ≡ o → IsSome (option_and_then shown o) → (x : Entry) × (finmap.get (seen s) q ≡ Some x) × (is_some (shown x) ≡ true)
+    by : (o : Option Entry) → finmap.get (view s) q ≡ o → IsSome (option_and_then shown o) → (x : Entry) × (finmap.get (view s) q ≡ Some x) × (is_some (shown x) ≡ true)
     by None e k = cc (k)
     by (Some x) e k = (x, e, k)
 
--- what a test lets pass
+-- the test is true, and the name is the one that it gives
 record HasPassed (a : Bool) (m n : Name) : Type 0 where
   passed : a ≡ true
   same : m ≡ n
@@ -73,38 +55,38 @@ to_if : (a : Bool) (m : Name) → a ≡ true → (if a then Some m else None) �
 to_if true m e = refl
 to_if false m e = cc (e)
 
-module _ (s : View) (level : ℕ) where
-  shown_is : (n : Name) → IsAmong n (shown_names s level) → IsSome (seen_at s (own_path n level))
+module _ (s : HostViewMap) (level : ℕ) where
+  shown_is : (n : Name) → IsAmong n (shown_names s level) → IsSome (viewed_at s (own_path n level))
   shown_is n h =
-      let r = among_filter_map shown_name (filter (λ p. is_in level [] p.0) (finmap.entries (seen s))) n h in
-      let here = among_filter (λ (p : PathParts × Entry). is_in level [] p.0) (finmap.entries (seen s)) r.source r.there in
+      let r = among_filter_map shown_name (filter (λ p. is_in level [] p.0) (finmap.entries (view s))) n h in
+      let here = among_filter (λ (p : PathParts × Entry). is_in level [] p.0) (finmap.entries (view s)) r.source r.there in
       let v = from_if (is_some (shown r.source.1)) r.source.0.name n r.makes in
       let own = own_is level r.source.0 n here.1 v.same in
-      let got : finmap.get (seen s) (own_path n level) ≡ Some r.source.1 =
-      finmap.get-entries (seen s) (own_path n level)
-      ∙ among_find path_cmp path_cmp_total (own_path n level) r.source.1 (finmap.entries (seen s)) (is_true _ (finmap.entries_sorted (seen s)))
-      (subst (λ (q : PathParts). IsAmong {X = PathParts × Entry} (q, r.source.1) (finmap.entries (seen s))) own here.0) in
+      let got : finmap.get (view s) (own_path n level) ≡ Some r.source.1 =
+      finmap.get-entries (view s) (own_path n level)
+      ∙ among_find path_cmp path_cmp_total (own_path n level) r.source.1 (finmap.entries (view s)) (is_true _ (finmap.entries_sorted (view s)))
+      (subst (λ (q : PathParts). IsAmong {X = PathParts × Entry} (q, r.source.1) (finmap.entries (view s))) own here.0) in
       ap (λ (o : Option Entry). is_some (option_and_then shown o)) got ∙ v.passed
     where
       is_true : (b : Bool) → T b → IsTrue b
       is_true true k = refl
       is_true false k = absurd k
 
-  is_shown : (n : Name) → IsSome (seen_at s (own_path n level)) → IsAmong n (shown_names s level)
+  is_shown : (n : Name) → IsSome (viewed_at s (own_path n level)) → IsAmong n (shown_names s level)
   is_shown n v =
       let x = some_shown s (own_path n level) v in
-      let there : IsAmong {X = PathParts × Entry} (own_path n level, x.0) (finmap.entries (seen s)) =
-      find_among path_cmp path_cmp-IsAntisymmetric (own_path n level) (finmap.entries (seen s)) x.0 (sym (finmap.get-entries (seen s) (own_path n level)) ∙ x.1) in
-      filter_map_among shown_name (filter (λ p. is_in level [] p.0) (finmap.entries (seen s))) (own_path n level, x.0) n
-      (filter_among (λ (p : PathParts × Entry). is_in level [] p.0) (finmap.entries (seen s)) (own_path n level, x.0) there (and_from _ _ (eq-eqb level level refl) refl))
+      let there : IsAmong {X = PathParts × Entry} (own_path n level, x.0) (finmap.entries (view s)) =
+      find_among path_cmp path_cmp-IsAntisymmetric (own_path n level) (finmap.entries (view s)) x.0 (sym (finmap.get-entries (view s) (own_path n level)) ∙ x.1) in
+      filter_map_among shown_name (filter (λ p. is_in level [] p.0) (finmap.entries (view s))) (own_path n level, x.0) n
+      (filter_among (λ (p : PathParts × Entry). is_in level [] p.0) (finmap.entries (view s)) (own_path n level, x.0) there (and_from _ _ (eq-eqb level level refl) refl))
       (to_if (is_some (shown x.0)) n x.2)
 
-below_is : (s : View) (k : ℕ) (n : Name) → IsAmong n (names_below s k) → (level : ℕ) × (level < k) × IsSome (seen_at s (own_path n level))
+below_is : (s : HostViewMap) (k : ℕ) (n : Name) → IsAmong n (names_below s k) → (level : ℕ) × (level < k) × IsSome (viewed_at s (own_path n level))
 below_is s zero n h = absurd h
 below_is s (suc k) n h = by (below_is s k n) (IsAmong-append_cases n (names_below s k) (shown_names s k) h)
   where
-    by : (IsAmong n (names_below s k) → (level : ℕ) × (level < k) × IsSome (seen_at s (own_path n level))) → IsAmong n (names_below s k) ⊎ IsAmong n (shown_names s k)
-        → (level : ℕ) × (level < suc k) × IsSome (seen_at s (own_path n level))
+    by : (IsAmong n (names_below s k) → (level : ℕ) × (level < k) × IsSome (viewed_at s (own_path n level))) → IsAmong n (names_below s k) ⊎ IsAmong n (shown_names s k)
+        → (level : ℕ) × (level < suc k) × IsSome (viewed_at s (own_path n level))
     by more (inl a) = let r = more a in let lt = r.1 in (r.0, omega arith, r.2)
     by more (inr b) = (k, omega arith, shown_is s k n b)
 
@@ -114,16 +96,16 @@ less_or_is zero (suc b) l = inl (omega arith)
 less_or_is (suc a) zero l = absurd (omega arith)
 less_or_is (suc a) (suc b) l = elim (less_or_is a b (omega arith)) [ inl k ↦ inl (omega arith) | inr e ↦ inr (ap suc e) ]
 
-is_below : (s : View) (k level : ℕ) (n : Name) → level < k → IsSome (seen_at s (own_path n level)) → IsAmong n (names_below s k)
+is_below : (s : HostViewMap) (k level : ℕ) (n : Name) → level < k → IsSome (viewed_at s (own_path n level)) → IsAmong n (names_below s k)
 is_below s zero level n lt v = absurd (omega arith)
 is_below s (suc k) level n lt v = by (λ l. is_below s k level n l v) (less_or_is level k (omega arith))
   where
     by : (level < k → IsAmong n (names_below s k)) → (level < k) ⊎ (level ≡ k) → IsAmong n (names_below s k ++ shown_names s k)
     by more (inl a) = IsAmong-append_left n (names_below s k) (shown_names s k) (more a)
-    by more (inr e) = IsAmong-append_right n (names_below s k) (shown_names s k) (is_shown s k n (subst (λ (r : ℕ). IsSome (seen_at s (own_path n r))) e v))
+    by more (inr e) = IsAmong-append_right n (names_below s k) (shown_names s k) (is_shown s k n (subst (λ (r : ℕ). IsSome (viewed_at s (own_path n r))) e v))
 
 -- those of all levels are shown
-pub names_are_shown : (s : View) (names : List Name) (level : ℕ) → names ≡ names_below s level → level ≡ 8 → (n : Name) → IsAmong n names ↔ IsShown s n
+pub names_are_shown : (s : HostViewMap) (names : List Name) (level : ℕ) → names ≡ names_below s level → level ≡ 8 → (n : Name) → IsAmong n names ↔ IsShown s n
 names_are_shown s names level e f n = (there, back)
   where
     all : names ≡ names_below s 8
@@ -162,11 +144,11 @@ whole_from m n h =
       same = r.same;
     }
 
--- the unit names among those that have words
+-- the unit names in a list of link targets
 abbrev named_in : NamedWords → List Name
 named_in words = filter_map (λ (p : Name × List Target). whole_name p.0) words
 
--- the names that are asked for and those that have words are the sources
+-- the names that are asked for and those in the list of link targets are the sources
 pub sources_are : (words : NamedWords) (extra names : List Name) → names ≡ extra ++ filter_map (λ (p : Name × List Target). whole_name p.0) words → AreSourcesBy words extra names
 sources_are words extra names e s are n = (
   λ h. there (IsAmong-append_cases n extra (named_in words) (subst (λ (ns : List Name). IsAmong n ns) e h)),

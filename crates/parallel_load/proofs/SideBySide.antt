@@ -1,57 +1,54 @@
--- Names in byte order that begin alike stand side by side.
-use Rattle.std.proofs.Common.{◌≡◌, ◌≢◌, ◌<◌, ◌≤◌, ◌+◌, ◌||◌, ℕ, zero, suc, Bool, true, false, List, [], ◌∷◌, ◌++◌, drop, get_or, length, IsTrue, refl, ap, sym, ◌∙◌, subst, inl, inr, arith}
-use Rattle.std.specs.Prelude.{◌⊎◌}
-use Rattle.std.specs.Cmp.{nat_cmp_total}
-use Rattle.std.specs.Cmp.Lexicographic.{nat_list_cmp_total}
-use Rattle.std.specs.FinMap.{is_sorted, nat_cmp-IsAntisymmetric, slice_cmp-IsAntisymmetric}
-use Rattle.std.specs.List.Sorted.{IsPartitionPoint, IsPartitionedBy, IsSorted}
-use Rattle.std.specs.Map.{keys_of}
-use Rattle.std.specs.Ordering.{is_lt, nat_cmp, ordering_then}
-use Rattle.std.specs.declared.cmp.Ordering.{Ordering}
-use Rattle.std.specs.declared.cmp.Ordering.TheVariants.{Less, Equal, Greater}
+-- Names in byte order that begin alike are adjacent.
+use Rattle.std.proofs.Common.{[], ◌++◌, ◌+◌, ◌<◌, ◌||◌, ◌∙◌, ◌∷◌, ◌≡◌, ◌≢◌, ◌≤◌, ◌⊎◌, ap, arith, Bool, drop, false, get_or, inl, inr, IsTrue, length, List, refl, subst, suc, sym, true, zero, ℕ}
 use Rattle.std.proofs.lemmas.Bool.{cases_lt, or_cases, or_left, or_parts, or_right, true≢false}
 use Rattle.std.proofs.lemmas.Bool.Decides.{Decides-eqb}
 use Rattle.std.proofs.lemmas.Cmp.{tied_itself}
 use Rattle.std.proofs.lemmas.Slice.Eq.{starts_is}
-use Rattle.list_laws.specs.Orderings.{is_less, turned}
-use Rattle.unit_name.specs.Names.{Name, name_cmp}
-use Rattle.parallel_load.specs.Fronts.{AreWithin, BeginsWith, DontFall, begins_so}
-use Rattle.parallel_load.specs.KeyLaws.{key_at_place, keys_rise}
+use Rattle.std.specs.Cmp.{nat_cmp_total}
+use Rattle.std.specs.Cmp.Lexicographic.{nat_list_cmp_total}
+use Rattle.std.specs.FinMap.{is_sorted, nat_cmp-IsAntisymmetric, slice_cmp-IsAntisymmetric}
+use Rattle.std.specs.List.Sorted.{IsPartitionedBy, IsPartitionPoint}
+use Rattle.std.specs.Map.{keys_of}
+use Rattle.std.specs.Ordering.{is_lt, nat_cmp, ordering_then}
+use Rattle.std.specs.Prelude.{IsSorted}
+use Rattle.std.specs.declared.cmp.Ordering.{Ordering}
+use Rattle.std.specs.declared.cmp.Ordering.TheVariants.{Equal, Greater, Less}
+use Rattle.parallel_load.proofs.Prelude.{AreWithin, begins_so, BeginsWith, is_less, IsNonDecreasing, key_at_place, keys_ascend, Name, name_cmp, turned}
 
 -- ---- names
 
 not_less : (r : Ordering) → is_lt r ≡ false → r ≢ Less
 not_less r h e = true≢false (sym (ap is_lt e) ∙ h)
 
--- what begins with a front isn't before it
-not_before : (front rest : List ℕ) → is_lt (name_cmp (front ++ rest) front) ≡ false
+-- what begins with a prefix isn't before it
+not_before : (search_prefix rest : List ℕ) → is_lt (name_cmp (search_prefix ++ rest) search_prefix) ≡ false
 not_before [] [] = refl
 not_before [] (x ∷ rest) = refl
-not_before (b ∷ front) rest = ap (λ (r : Ordering). is_lt (ordering_then r (name_cmp (front ++ rest) front))) (tied_itself nat_cmp_total b) ∙ not_before front rest
+not_before (b ∷ search_prefix) rest = ap (λ (r : Ordering). is_lt (ordering_then r (name_cmp (search_prefix ++ rest) search_prefix))) (tied_itself nat_cmp_total b) ∙ not_before search_prefix rest
 
-begins_tail : (b : ℕ) (front n : List ℕ) → BeginsWith front n → BeginsWith (b ∷ front) (b ∷ n)
-begins_tail b front n h = record { rest = h.rest; is = ap (λ (l : List ℕ). b ∷ l) h.is }
+begins_tail : (b : ℕ) (search_prefix n : List ℕ) → BeginsWith search_prefix n → BeginsWith (b ∷ search_prefix) (b ∷ n)
+begins_tail b search_prefix n h = record { rest = h.rest; is = ap (λ (l : List ℕ). b ∷ l) h.is }
 
--- what is between a front and what begins with it begins with it
-between : (front a rest : List ℕ) → name_cmp a front ≢ Less → name_cmp a (front ++ rest) ≢ Greater → BeginsWith front a
+-- what is between a prefix and something that begins with it begins with it
+between : (search_prefix a rest : List ℕ) → name_cmp a search_prefix ≢ Less → name_cmp a (search_prefix ++ rest) ≢ Greater → BeginsWith search_prefix a
 between [] a rest f g = record { rest = a; is = refl }
-between (b ∷ front) [] rest f g = absurd (f refl)
-between (b ∷ front) (x ∷ a) rest f g = by (nat_cmp x b) refl (between front a rest)
+between (b ∷ search_prefix) [] rest f g = absurd (f refl)
+between (b ∷ search_prefix) (x ∷ a) rest f g = by (nat_cmp x b) refl (between search_prefix a rest)
   where
-    by : (r : Ordering) → nat_cmp x b ≡ r → (name_cmp a front ≢ Less → name_cmp a (front ++ rest) ≢ Greater → BeginsWith front a) → BeginsWith (b ∷ front) (x ∷ a)
-    by Less e more = absurd (f (ap (λ (r : Ordering). ordering_then r (name_cmp a front)) e))
-    by Greater e more = absurd (g (ap (λ (r : Ordering). ordering_then r (name_cmp a (front ++ rest))) e))
+    by : (r : Ordering) → nat_cmp x b ≡ r → (name_cmp a search_prefix ≢ Less → name_cmp a (search_prefix ++ rest) ≢ Greater → BeginsWith search_prefix a) → BeginsWith (b ∷ search_prefix) (x ∷ a)
+    by Less e more = absurd (f (ap (λ (r : Ordering). ordering_then r (name_cmp a search_prefix)) e))
+    by Greater e more = absurd (g (ap (λ (r : Ordering). ordering_then r (name_cmp a (search_prefix ++ rest))) e))
     by Equal e more =
         let same : x ≡ b = nat_cmp-IsAntisymmetric x b e in
-        let h = more (λ k. f (ap (λ (r : Ordering). ordering_then r (name_cmp a front)) e ∙ k))
-        (λ k. g (ap (λ (r : Ordering). ordering_then r (name_cmp a (front ++ rest))) e ∙ k)) in
-        subst (λ (z : ℕ). BeginsWith (b ∷ front) (z ∷ a)) (sym same) (begins_tail b front a h)
+        let h = more (λ k. f (ap (λ (r : Ordering). ordering_then r (name_cmp a search_prefix)) e ∙ k))
+        (λ k. g (ap (λ (r : Ordering). ordering_then r (name_cmp a (search_prefix ++ rest))) e ∙ k)) in
+        subst (λ (z : ℕ). BeginsWith (b ∷ search_prefix) (z ∷ a)) (sym same) (begins_tail b search_prefix a h)
 
--- ---- an order without falls
+-- ---- non-descending order
 
--- one step more that doesn't fall
-no_fall : (a b c : Name) → name_cmp a b ≢ Greater → name_cmp b c ≢ Greater → name_cmp a c ≢ Greater
-no_fall a b c f g = by (name_cmp a b) (name_cmp b c) refl refl
+-- one step more that doesn't descend
+is_non_decreasing : (a b c : Name) → name_cmp a b ≢ Greater → name_cmp b c ≢ Greater → name_cmp a c ≢ Greater
+is_non_decreasing a b c f g = by (name_cmp a b) (name_cmp b c) refl refl
   where
     same : (x y : Name) → name_cmp x y ≡ Equal → x ≡ y
     same = slice_cmp-IsAntisymmetric nat_cmp-IsAntisymmetric
@@ -63,41 +60,41 @@ no_fall a b c f g = by (name_cmp a b) (name_cmp b c) refl refl
     by Equal q e h = subst (λ (n : Name). name_cmp n c ≢ Greater) (sym (same a b e)) g
     by Less Equal e h = subst (λ (n : Name). name_cmp a n ≢ Greater) (same b c h) f
 
-equal_no_fall : (a : Name) → name_cmp a a ≢ Greater
-equal_no_fall a h = let e = tied_itself nat_list_cmp_total a in cc (e, h)
+equal_is_non_decreasing : (a : Name) → name_cmp a a ≢ Greater
+equal_is_non_decreasing a h = let e = tied_itself nat_list_cmp_total a in cc (e, h)
 
 module _ {V : Type 0} where
-  steps_dont_fall : (pairs : List (Name × V)) → ((k : ℕ) (d : Name × V) → k + 1 < length pairs → name_cmp (get_or pairs k d).0 (get_or pairs (k + 1) d).0 ≢ Greater) → DontFall pairs
-  steps_dont_fall pairs each i zero d l m =
+  steps_are_non_decreasing : (pairs : List (Name × V)) → ((k : ℕ) (d : Name × V) → k + 1 < length pairs → name_cmp (get_or pairs k d).0 (get_or pairs (k + 1) d).0 ≢ Greater) → IsNonDecreasing pairs
+  steps_are_non_decreasing pairs each i zero d l m =
       let e : i ≡ 0 = omega arith in
-      subst (λ (k : ℕ). name_cmp (get_or pairs k d).0 (get_or pairs 0 d).0 ≢ Greater) (sym e) (equal_no_fall (get_or pairs 0 d).0)
-  steps_dont_fall pairs each i (suc j) d l m = by (cases_lt j i) (λ k. steps_dont_fall pairs each i j d k (omega (arith, m)))
+      subst (λ (k : ℕ). name_cmp (get_or pairs k d).0 (get_or pairs 0 d).0 ≢ Greater) (sym e) (equal_is_non_decreasing (get_or pairs 0 d).0)
+  steps_are_non_decreasing pairs each i (suc j) d l m = by (cases_lt j i) (λ k. steps_are_non_decreasing pairs each i j d k (omega (arith, m)))
     where
       by : (j < i) ⊎ (i ≤ j) → (i ≤ j → name_cmp (get_or pairs i d).0 (get_or pairs j d).0 ≢ Greater) → name_cmp (get_or pairs i d).0 (get_or pairs (suc j) d).0 ≢ Greater
       by (inl k) more =
           let e : i ≡ suc j = omega (arith, k, l) in
-          subst (λ (n : ℕ). name_cmp (get_or pairs n d).0 (get_or pairs (suc j) d).0 ≢ Greater) (sym e) (equal_no_fall (get_or pairs (suc j) d).0)
+          subst (λ (n : ℕ). name_cmp (get_or pairs n d).0 (get_or pairs (suc j) d).0 ≢ Greater) (sym e) (equal_is_non_decreasing (get_or pairs (suc j) d).0)
       by (inr k) more =
           let e : j + 1 ≡ suc j = omega arith in
           let step : name_cmp (get_or pairs j d).0 (get_or pairs (suc j) d).0 ≢ Greater =
           subst (λ (n : ℕ). name_cmp (get_or pairs j d).0 (get_or pairs n d).0 ≢ Greater) e (each j d (omega (arith, m))) in
-          no_fall (get_or pairs i d).0 (get_or pairs j d).0 (get_or pairs (suc j) d).0 (more k) step
+          is_non_decreasing (get_or pairs i d).0 (get_or pairs j d).0 (get_or pairs (suc j) d).0 (more k) step
 
-  -- names that rise don't fall
-  pub rising_dont_fall : (pairs : List (Name × V)) → IsTrue (is_sorted name_cmp pairs) → DontFall pairs
-  rising_dont_fall pairs sorted = steps_dont_fall pairs by
+  -- names in ascending order don't descend
+  pub ascending_is_non_decreasing : (pairs : List (Name × V)) → IsTrue (is_sorted name_cmp pairs) → IsNonDecreasing pairs
+  ascending_is_non_decreasing pairs sorted = steps_are_non_decreasing pairs by
     where
       by : (k : ℕ) (d : Name × V) → k + 1 < length pairs → name_cmp (get_or pairs k d).0 (get_or pairs (k + 1) d).0 ≢ Greater
       by k d l g =
-          let rise = keys_rise name_cmp pairs k (k + 1) [] sorted (omega arith) l in
+          let ascend = keys_ascend name_cmp pairs k (k + 1) [] sorted (omega arith) l in
           let one = key_at_place pairs k d [] (omega (arith, l)) in
           let two = key_at_place pairs (k + 1) d [] l in
-          let less : name_cmp (get_or pairs k d).0 (get_or pairs (k + 1) d).0 ≡ Less = ap (λ (n : Name). name_cmp n (get_or pairs (k + 1) d).0) one ∙ ap (name_cmp (get_or (keys_of pairs) k [])) two ∙ rise in
+          let less : name_cmp (get_or pairs k d).0 (get_or pairs (k + 1) d).0 ≡ Less = ap (λ (n : Name). name_cmp n (get_or pairs (k + 1) d).0) one ∙ ap (name_cmp (get_or (keys_of pairs) k [])) two ∙ ascend in
           cc (less, g)
 
-  -- nor do pairs that were sorted, by their names and then by what is with them
-  pub sorted_dont_fall : (R : V → V → Ordering) (pairs : List (Name × V)) → IsSorted (λ (p q : Name × V). ordering_then (name_cmp p.0 q.0) (R p.1 q.1)) pairs → DontFall pairs
-  sorted_dont_fall R pairs sorted = steps_dont_fall pairs by
+  -- nor do pairs that were sorted by their names and then by their values
+  pub sorted_is_non_decreasing : (R : V → V → Ordering) (pairs : List (Name × V)) → IsSorted (λ (p q : Name × V). ordering_then (name_cmp p.0 q.0) (R p.1 q.1)) pairs → IsNonDecreasing pairs
+  sorted_is_non_decreasing R pairs sorted = steps_are_non_decreasing pairs by
     where
       by : (k : ℕ) (d : Name × V) → k + 1 < length pairs → name_cmp (get_or pairs k d).0 (get_or pairs (k + 1) d).0 ≢ Greater
       by k d l g =
@@ -106,31 +103,31 @@ module _ {V : Type 0} where
           let back : name_cmp q.0 p.0 ≡ Less = turned name_cmp nat_list_cmp_total p.0 q.0 Greater g in
           true≢false (sym (ap (λ (r : Ordering). is_lt (ordering_then r (R q.1 p.1))) back) ∙ sorted k d (omega arith) l)
 
-  -- ---- where they stand
+  -- ---- where they are
 
-  module _ (front : List ℕ) (pairs : List (Name × V)) (dont : DontFall pairs) where
+  module _ (search_prefix : List ℕ) (pairs : List (Name × V)) (dont : IsNonDecreasing pairs) where
     abbrev pub below : Name × V → Bool
-    below p = is_lt (name_cmp p.0 front)
+    below p = is_lt (name_cmp p.0 search_prefix)
 
     abbrev pub below_or_begins : Name × V → Bool
-    below_or_begins p = is_lt (name_cmp p.0 front) || begins_so front p.0
+    below_or_begins p = is_lt (name_cmp p.0 search_prefix) || begins_so search_prefix p.0
 
-    before_below : (a b : Name) → name_cmp a b ≢ Greater → is_lt (name_cmp b front) ≡ true → is_lt (name_cmp a front) ≡ true
+    before_below : (a b : Name) → name_cmp a b ≢ Greater → is_lt (name_cmp b search_prefix) ≡ true → is_lt (name_cmp a search_prefix) ≡ true
     before_below a b f g = by (name_cmp a b) refl
       where
-        by : (r : Ordering) → name_cmp a b ≡ r → is_lt (name_cmp a front) ≡ true
-        by Less e = ap is_lt (nat_list_cmp_total.trans a b front e (is_less (name_cmp b front) g))
-        by Equal e = subst (λ (n : Name). is_lt (name_cmp n front) ≡ true) (sym (slice_cmp-IsAntisymmetric nat_cmp-IsAntisymmetric a b e)) g
+        by : (r : Ordering) → name_cmp a b ≡ r → is_lt (name_cmp a search_prefix) ≡ true
+        by Less e = ap is_lt (nat_list_cmp_total.trans a b search_prefix e (is_less (name_cmp b search_prefix) g))
+        by Equal e = subst (λ (n : Name). is_lt (name_cmp n search_prefix) ≡ true) (sym (slice_cmp-IsAntisymmetric nat_cmp-IsAntisymmetric a b e)) g
         by Greater e = absurd (f e)
 
-    starts : (n : Name) → (begins_so front n ≡ true → BeginsWith front n) × (BeginsWith front n → begins_so front n ≡ true)
-    starts n = let h = starts_is Decides-eqb n front (begins_so front n) refl in (λ e. record { rest = drop (length front) n; is = h.0 e }, λ b. h.1 b.rest b.is)
+    starts : (n : Name) → (begins_so search_prefix n ≡ true → BeginsWith search_prefix n) × (BeginsWith search_prefix n → begins_so search_prefix n ≡ true)
+    starts n = let h = starts_is Decides-eqb n search_prefix (begins_so search_prefix n) refl in (λ e. record { rest = drop (length search_prefix) n; is = h.0 e }, λ b. h.1 b.rest b.is)
 
     pub below_first : IsPartitionedBy below pairs
     below_first i j d l m h = before_below (get_or pairs i d).0 (get_or pairs j d).0 (dont i j d l m) h
 
     pub below_or_begins_first : IsPartitionedBy below_or_begins pairs
-    below_or_begins_first i j d l m h = by (or_cases (below q) (begins_so front q.0) h)
+    below_or_begins_first i j d l m h = by (or_cases (below q) (begins_so search_prefix q.0) h)
       where
         p : Name × V
         p = get_or pairs i d
@@ -138,18 +135,18 @@ module _ {V : Type 0} where
         q : Name × V
         q = get_or pairs j d
 
-        begins : BeginsWith front q.0 → (b : Bool) → below p ≡ b → below_or_begins p ≡ true
-        begins k true e = or_left (below p) (begins_so front p.0) e
+        begins : BeginsWith search_prefix q.0 → (b : Bool) → below p ≡ b → below_or_begins p ≡ true
+        begins k true e = or_left (below p) (begins_so search_prefix p.0) e
         begins k false e =
-            or_right (below p) (begins_so front p.0)
-            ((starts p.0).1 (between front p.0 k.rest (not_less (name_cmp p.0 front) e) (subst (λ (n : Name). name_cmp p.0 n ≢ Greater) k.is (dont i j d l m))))
+            or_right (below p) (begins_so search_prefix p.0)
+            ((starts p.0).1 (between search_prefix p.0 k.rest (not_less (name_cmp p.0 search_prefix) e) (subst (λ (n : Name). name_cmp p.0 n ≢ Greater) k.is (dont i j d l m))))
 
-        by : (below q ≡ true) ⊎ (begins_so front q.0 ≡ true) → below_or_begins p ≡ true
-        by (inl e) = or_left (below p) (begins_so front p.0) (before_below p.0 q.0 (dont i j d l m) e)
+        by : (below q ≡ true) ⊎ (begins_so search_prefix q.0 ≡ true) → below_or_begins p ≡ true
+        by (inl e) = or_left (below p) (begins_so search_prefix p.0) (before_below p.0 q.0 (dont i j d l m) e)
         by (inr e) = begins ((starts q.0).0 e) (below p) refl
 
     pub stand_within : (start end : ℕ) → IsPartitionPoint (λ y. below y ≡ true) (λ y. below y ≡ false) pairs start
-        → IsPartitionPoint (λ y. below_or_begins y ≡ true) (λ y. below_or_begins y ≡ false) pairs end → AreWithin front pairs start end
+        → IsPartitionPoint (λ y. below_or_begins y ≡ true) (λ y. below_or_begins y ≡ false) pairs end → AreWithin search_prefix pairs start end
     stand_within start end first last i d l b = (from (cases_lt i start), to (cases_lt i end))
       where
         p : Name × V
@@ -159,10 +156,10 @@ module _ {V : Type 0} where
         from (inr k) = k
         from (inl k) =
             let h : below p ≡ true = first.0 i d (omega arith) k in
-            absurd (true≢false (sym h ∙ ap (λ (n : Name). is_lt (name_cmp n front)) b.is ∙ not_before front b.rest))
+            absurd (true≢false (sym h ∙ ap (λ (n : Name). is_lt (name_cmp n search_prefix)) b.is ∙ not_before search_prefix b.rest))
 
         to : (i < end) ⊎ (end ≤ i) → i < end
         to (inl k) = k
         to (inr k) =
             let h : below_or_begins p ≡ false = last.1 i d k l in
-            absurd (true≢false (sym ((starts p.0).1 b) ∙ (or_parts (below p) (begins_so front p.0) h).1))
+            absurd (true≢false (sym ((starts p.0).1 b) ∙ (or_parts (below p) (begins_so search_prefix p.0) h).1))

@@ -1,51 +1,20 @@
 -- What stays of a load where some places changed.
-use Rattle.std.proofs.Common.{Bor, ◌≡◌, ◌<◌, ◌≤◌, ◌+◌, ℕ, zero, suc, Bool, false, true, Option, Some, None, List, [], ◌∷◌, ◌++◌, length, get_or, take, IsTrue, refl, ap, sym, ◌∙◌, subst, inl, inr, arith}
-use Rattle.std.specs.Prelude.{◌↔◌, ◌⊎◌, IfSome, is_some}
-use Rattle.std.specs.FinMap.{is_sorted, nat_cmp-IsAntisymmetric, slice_cmp-IsAntisymmetric}
-use Rattle.std.specs.List.{All}
-use Rattle.std.specs.Map.{keys_of}
-use Rattle.std.specs.Option.{option_copied}
-use Rattle.std.specs.List.Sorted.{IsStrictlySortedBy}
-use Rattle.std.specs.Ordering.{nat_cmp}
+use Rattle.std.proofs.Common.{[], ◌++◌, ◌+◌, ◌<◌, ◌↔◌, ◌∙◌, ◌∷◌, ◌≡◌, ◌≤◌, ◌⊎◌, All, ap, arith, Bool, Bor, false, get_or, inl, inr, is_some, IsTrue, length, List, None, Option, refl, Some, subst, suc, sym, take, true, zero, ℕ}
 use Rattle.std.proofs.lemmas.Bool.{cases_lt}
 use Rattle.std.proofs.lemmas.List.{map-append, take_all, take_more}
+use Rattle.std.proofs.lemmas.List.Elements.{All-append, All-cons, All-head, All-nil, All-tail, All-weaker}
 use Rattle.std.proofs.lemmas.Map.Keys.{below_from_sorted}
-use Rattle.std.proofs.lemmas.List.Elements.{All-append, All-nil, All-cons, All-head, All-tail, All-weaker}
-use Rattle.list_laws.specs.Members.{IsAmong, IsAmong-append_left, IsAmong-append_right}
-use Rattle.load_places.specs.Levels.{Looker, level_for}
-use Rattle.load_places.specs.Places.{PlaceParts}
-use Rattle.edit_sums.specs.Sums.{EntryMap, visible_at}
-use Rattle.path_maps.specs.Views.{View, view_of}
-use Rattle.sorted_pairs.specs.PlaceLaws.{find_at}
-use Rattle.sorted_pairs.specs.Places.{IsAt}
-use Rattle.unit_name.specs.Names.{Name, name_cmp}
-use Rattle.setting_rules.specs.declared.dependency_lists.DependencyList.{DependencyList}
-use Rattle.fragment_choice.specs.AliasWordLaws.{SameWords, alias_words_decide}
-use Rattle.fragment_choice.specs.LeadsLaws.{SameLeads, leads_decide_mains}
-use Rattle.fragment_choice.specs.Resolutions.{main}
-use Rattle.unit_loads.specs.declared.units.Unit.{Unit as LoadedUnit}
-use Rattle.unit_loads.specs.FootprintLaws.{store_footprints_decide}
-use Rattle.unit_loads.specs.Footprints.{StoresAgreeIn, footprint}
-use Rattle.unit_loads.specs.Footprints.StartsIn.{alone, within}
-use Rattle.parallel_load.specs.declared.loaded.NameLoad.{NameLoad}
-use Rattle.parallel_load.specs.declared.loaded.NameLoad.TheVariants.{Unit as OfUnit, Alias as OfAlias}
-use Rattle.parallel_load.specs.Alone.{IsAliasOf, IsLoadAlone}
-use Rattle.parallel_load.specs.Hits.{AreHit}
-use Rattle.parallel_load.specs.KeyLaws.{sorted_by_keys}
-use Rattle.parallel_load.specs.Loads.{AreNamedAlone, IsNamedAlone, LoadMap, with_lists}
-use Rattle.parallel_load.specs.OwnWordLaws.{words_again, words_are}
-use Rattle.parallel_load.specs.OwnWords.{AreOwnWords, NamedWords}
-use Rattle.parallel_load.specs.PairLaws.{find_among}
-use Rattle.parallel_load.specs.Refreshes.{AreStill, IsBefore, IsHeldOn, IsMissed, IsStill}
-use Rattle.parallel_load.specs.Touched.{AddsParts, HasParts, KeepsWords}
-use Rattle.parallel_load.specs.Sources.{AreSourcesBy}
-use Rattle.parallel_load.specs.TouchedLaws.{touched_words_decide}
-use Rattle.parallel_load.specs.Universe.{IsSource}
-use Rattle.parallel_load.specs.UniverseLaws.{all_among}
+use Rattle.std.specs.FinMap.{is_sorted, nat_cmp-IsAntisymmetric, slice_cmp-IsAntisymmetric}
+use Rattle.std.specs.List.Sorted.{IsStrictlySortedBy}
+use Rattle.std.specs.Map.{keys_of}
+use Rattle.std.specs.Option.{option_copied}
+use Rattle.std.specs.Ordering.{nat_cmp}
+use Rattle.std.specs.Prelude.{IfSome}
+use Rattle.parallel_load.proofs.Prelude.{AddsParts, all_among, alone, AreAffected, AreNamedAlone, AreOwnLinkTargets, AreSourcesBy, AreStill, DependencyList, EntryMap, find_among, find_at, footprint, HasParts, host_view_of, HostViewMap, IsAliasOf, IsAmong, IsAmong-append_left, IsAmong-append_right, IsAt, IsBefore, IsHeldOn, IsLoadAlone, IsMissed, IsNamedAlone, IsSource, IsStill, KeepsLinkTargets, leads_decide_mains, level_for, link_targets_decide, LoadedUnit, LoadMap, main, Name, name_cmp, NamedWords, NameLoad, OfAlias, OfUnit, PlaceParts, SameLeads, SameWords, sorted_by_keys, store_footprints_decide, StoresAgreeIn, touched_words_decide, Viewer, visible_at, with_lists, within, words_again, words_are}
 use Rattle.parallel_load.proofs.Keeping.{all_more, any_at, place_among}
 
--- what is named alone by the name that has a number
-named_at : (s : View) (names : List (Name × NameLoad)) (named : List (List DependencyList)) (i : ℕ) (p : Name × NameLoad) → AreNamedAlone s names named → i < length names
+-- what is named by the name with an index
+named_at : (s : HostViewMap) (names : List (Name × NameLoad)) (named : List (List DependencyList)) (i : ℕ) (p : Name × NameLoad) → AreNamedAlone s names named → i < length names
     → IsNamedAlone s (get_or names i p).0 (get_or names i p).1 (get_or named i [])
 named_at s [] [] i p h l = absurd (omega arith)
 named_at s [] (x ∷ named) i p h l = absurd h
@@ -53,20 +22,20 @@ named_at s (q ∷ names) [] i p h l = absurd h
 named_at s (q ∷ names) (x ∷ named) zero p h l = h.0
 named_at s (q ∷ names) (x ∷ named) (suc i) p h l = named_at s names named i p h.1 (omega arith)
 
--- what has none of the numbers that are hit is missed
-pub missed_unless : (folders : List (List ℕ)) (names : List (Name × NameLoad)) (hit : List ℕ) (i : ℕ) (p : Name × NameLoad) (one : NameLoad) → AreHit folders names hit → i < length names
-    → ¬ IsAmong i hit → (get_or names i p).1 ≡ one → IsMissed folders (get_or names i p).0 one
-missed_unless folders names hit i p (OfUnit u) all l none e = λ f a k. none (all f a i l p (record { unit = u; load_is = e; there = k }))
-missed_unless folders names hit i p (OfAlias m) all l none e = tt
+-- a name with none of the affected indices is not affected
+pub missed_unless : (folders : List (List ℕ)) (names : List (Name × NameLoad)) (affected : List ℕ) (i : ℕ) (p : Name × NameLoad) (one : NameLoad) → AreAffected folders names affected → i < length names
+    → ¬ IsAmong i affected → (get_or names i p).1 ≡ one → IsMissed folders (get_or names i p).0 one
+missed_unless folders names affected i p (OfUnit u) all l none e = λ f a k. none (all f a i l p (record { unit = u; load_is = e; there = k }))
+missed_unless folders names affected i p (OfAlias m) all l none e = tt
 
-module _ (load : LoadMap) (now : EntryMap) (touched : List PlaceParts) (b : IsBefore load now touched) (keep : All (KeepsWords load.host load.words (view_of now load.host)) touched) where
-  abbrev s : View
-  s = view_of b.before load.host
+module _ (load : LoadMap) (now : EntryMap) (touched : List PlaceParts) (b : IsBefore load now touched) (keep : All (KeepsLinkTargets load.host load.words (host_view_of now load.host)) touched) where
+  abbrev s : HostViewMap
+  s = host_view_of b.before load.host
 
-  abbrev t : View
-  t = view_of now load.host
+  abbrev t : HostViewMap
+  t = host_view_of now load.host
 
-  -- a place that is looked at and no touched one shows the same
+  -- a place that the host sees and that didn't change shows the same
   untouched : (p : PlaceParts) → (IsAmong p touched → ⊥) → visible_at b.before p ≡ visible_at now p
   untouched p spared = by (b.rest p)
     where
@@ -74,25 +43,25 @@ module _ (load : LoadMap) (now : EntryMap) (touched : List PlaceParts) (b : IsBe
       by (inl a) = absurd (spared a)
       by (inr e) = e
 
-  -- the words of all names stay
+  -- the link targets of all names stay
   pub same_words : SameWords s t
   same_words =
       touched_words_decide b.before now load.host touched b.rest
-      (λ p a e l. sym (words_are s load.words b.load_is.words p.path.name) ∙ all_among (KeepsWords load.host load.words t) touched p keep a l e)
+      (λ p a e l. sym (words_are s load.words b.load_is.words p.path.name) ∙ all_among (KeepsLinkTargets load.host load.words t) touched p keep a l e)
 
-  -- and what is kept of them
-  pub words_stay : AreOwnWords t load.words
+  -- and so do the cached ones
+  pub words_stay : AreOwnLinkTargets t load.words
   words_stay = words_again s t load.words same_words b.load_is.words
 
-  -- and what leads to what
+  -- and so does what each name is an alias of
   pub same_leads : SameLeads s t
-  same_leads = alias_words_decide s t same_words
+  same_leads = link_targets_decide s t same_words
 
   pub same_mains : (n : Name) → main s n ≡ main t n
   same_mains = leads_decide_mains s t same_leads
 
   module _ (folders : List (List ℕ)) (has : All (HasParts load.host folders) touched) where
-    -- what misses the touched parts shows the same
+    -- the views agree on what the changed parts don't affect
     agree : (parts : List (List ℕ)) → ((f : List ℕ) → IsAmong f folders → ¬ IsAmong f parts) → StoresAgreeIn b.before now load.host parts
     agree parts missed p (alone e a) l = untouched p (λ h. missed p.path.name ((all_among (HasParts load.host folders) touched p has h l).1 e) a)
     agree parts missed p (within a) l = untouched p (λ h. missed p.path.folder (all_among (HasParts load.host folders) touched p has h l).0 a)
@@ -107,24 +76,24 @@ module _ (load : LoadMap) (now : EntryMap) (touched : List PlaceParts) (b : IsBe
     one_stays n (OfUnit u) lists missed is = unit_stays n (record u { deps = lists }) missed is
     one_stays n (OfAlias m) lists missed is = alias_stays n m is
 
-    -- what has none of the numbers that are hit is held on
-    module _ (hit : List ℕ) (all : AreHit folders load.names hit) where
-      still_loaded : (n : Name) (one : NameLoad) → IsStill hit load.names load.named n one → IsLoadAlone t n one
+    -- what has none of the affected indices stays held
+    module _ (affected : List ℕ) (all : AreAffected folders load.names affected) where
+      still_loaded : (n : Name) (one : NameLoad) → IsStill affected load.names load.named n one → IsLoadAlone t n one
       still_loaded n one h =
-          let there = named_at s load.names load.named h.number (n, h.load) b.load_is.named h.below in
-          let P : Name × NameLoad → Type 0 = λ q. IsNamedAlone s q.0 q.1 (get_or load.named h.number []) in
+          let there = named_at s load.names load.named h.index (n, h.load) b.load_is.named h.below in
+          let P : Name × NameLoad → Type 0 = λ q. IsNamedAlone s q.0 q.1 (get_or load.named h.index []) in
           let Q : Name × NameLoad → Type 0 = λ q. IsMissed folders q.0 q.1 in
           let here = subst P h.at there in
-          let missed = subst Q h.at (missed_unless folders load.names hit h.number (n, h.load) (get_or load.names h.number (n, h.load)).1 all h.below h.left refl) in
-          subst (IsLoadAlone t n) (sym h.is) (one_stays n h.load (get_or load.named h.number []) missed here.alone)
+          let missed = subst Q h.at (missed_unless folders load.names affected h.index (n, h.load) (get_or load.names h.index (n, h.load)).1 all h.below h.left refl) in
+          subst (IsLoadAlone t n) (sym h.is) (one_stays n h.load (get_or load.named h.index []) missed here.alone)
 
-      pub held_loaded : (still : List (Name × Option NameLoad)) → All (λ (p : Name × Option NameLoad). IfSome p.1 (IsStill hit load.names load.named p.0)) still → All (IsHeldOn t) still
+      pub held_loaded : (still : List (Name × Option NameLoad)) → All (λ (p : Name × Option NameLoad). IfSome p.1 (IsStill affected load.names load.named p.0)) still → All (IsHeldOn t) still
       held_loaded [] h = All-nil (IsHeldOn t)
       held_loaded (p ∷ still) h =
-          let P : Name × Option NameLoad → Type 0 = λ q. IfSome q.1 (IsStill hit load.names load.named q.0) in
+          let P : Name × Option NameLoad → Type 0 = λ q. IfSome q.1 (IsStill affected load.names load.named q.0) in
           All-cons (IsHeldOn t) p still (first p.0 p.1 (All-head P p still h)) (held_loaded still (All-tail P p still h))
         where
-          first : (n : Name) (o : Option NameLoad) → IfSome o (IsStill hit load.names load.named n) → IfSome o (IsLoadAlone t n)
+          first : (n : Name) (o : Option NameLoad) → IfSome o (IsStill affected load.names load.named n) → IfSome o (IsLoadAlone t n)
           first n None k = tt
           first n (Some one) k = still_loaded n one k
 
@@ -133,7 +102,7 @@ pub held_sorted : (names : List (Name × NameLoad)) (still : List (Name × Optio
 held_sorted names still e h = let B : Bool → Type 0 = λ b. IsTrue b in subst B (sym (sorted_by_keys name_cmp still names e)) h
 
 -- what is held for a name that is found
-pub held_is : (s : View) (n : Name) (held : List (Name × Option NameLoad)) (at : ℕ) (x : Name × Option NameLoad) (r : Option (Bor NameLoad)) → IsAt name_cmp n held at → x ≡ get_or held at x
+pub held_is : (s : HostViewMap) (n : Name) (held : List (Name × Option NameLoad)) (at : ℕ) (x : Name × Option NameLoad) (r : Option (Bor NameLoad)) → IsAt name_cmp n held at → x ≡ get_or held at x
     → All (IsHeldOn s) held → option_copied r ≡ x.1 → IfSome r (λ one. IsLoadAlone s n one.now)
 held_is s n held at x None found e loaded v = tt
 held_is s n held at x (Some one) found e loaded v =
@@ -143,7 +112,7 @@ held_is s n held at x (Some one) found e loaded v =
     subst P (sym v) (all_among (IsHeldOn s) held (n, x.1) loaded there)
 
 -- the parts of one more place
-pub parts_more : (host : Looker) (old new : List (List ℕ)) (touched : List PlaceParts) (i : ℕ) (d x : PlaceParts) → i < length touched → x ≡ get_or touched i d
+pub parts_more : (host : Viewer) (old new : List (List ℕ)) (touched : List PlaceParts) (i : ℕ) (d x : PlaceParts) → i < length touched → x ≡ get_or touched i d
     → AddsParts x.path old new → All (HasParts host old) (take i touched) → All (HasParts host new) (take (i + 1) touched)
 parts_more host old new touched i d x l e adds h =
     let there : (f : List ℕ) → IsAmong f (old ++ adds.more) → IsAmong f new = λ f a. subst (λ (fs : List (List ℕ)). IsAmong f fs) (sym adds.added) a in
@@ -152,15 +121,15 @@ parts_more host old new touched i d x l e adds h =
     (λ p k s. (there p.path.folder (IsAmong-append_left p.path.folder old adds.more (k s).0), λ z. there p.path.name (IsAmong-append_left p.path.name old adds.more ((k s).1 z)))) (take i touched) h)
     (λ s. (there x.path.folder (IsAmong-append_right x.path.folder old adds.more adds.folder), λ z. there x.path.name (IsAmong-append_right x.path.name old adds.more (adds.name z))))
 
--- or of one that isn't looked at
-pub parts_same : (host : Looker) (parts : List (List ℕ)) (touched : List PlaceParts) (i : ℕ) (d x : PlaceParts) → i < length touched → x ≡ get_or touched i d
+-- or of one that the host doesn't see
+pub parts_same : (host : Viewer) (parts : List (List ℕ)) (touched : List PlaceParts) (i : ℕ) (d x : PlaceParts) → i < length touched → x ≡ get_or touched i d
     → is_some (level_for host x) ≡ false → All (HasParts host parts) (take i touched) → All (HasParts host parts) (take (i + 1) touched)
 parts_same host parts touched i d x l e f h =
     all_more (HasParts host parts) touched i d x l e h (λ s. absurd (let wrong : false ≡ true = sym f ∙ s in cc (wrong)))
 
--- numbers that rise don't fall
-pub numbers_rise : (xs : List ℕ) → IsStrictlySortedBy nat_cmp xs → (i j : ℕ) → i ≤ j → j < length xs → get_or xs i 0 ≤ get_or xs j 0
-numbers_rise xs h i j l m = by (cases_lt i j)
+-- ascending numbers don't descend
+pub indices_ascend : (xs : List ℕ) → IsStrictlySortedBy nat_cmp xs → (i j : ℕ) → i ≤ j → j < length xs → get_or xs i 0 ≤ get_or xs j 0
+indices_ascend xs h i j l m = by (cases_lt i j)
   where
     by : (i < j) ⊎ (j ≤ i) → get_or xs i 0 ≤ get_or xs j 0
     by (inl k) = let b = below_from_sorted xs i j 0 h k m in omega (arith, b)
@@ -168,7 +137,7 @@ numbers_rise xs h i j l m = by (cases_lt i j)
         let e : j ≡ i = omega (arith, k, l) in
         subst (λ (n : ℕ). get_or xs n 0 ≤ get_or xs j 0) e (omega arith)
 
--- a number with lesser ones before a place and greater ones from there on is none of them
+-- a number with lesser ones before a place and greater ones from there on is not among them
 pub none_where : (xs : List ℕ) (x at : ℕ) → ((k : ℕ) → k < at → get_or xs k 0 < x) → ((k : ℕ) → at ≤ k → k < length xs → x < get_or xs k 0) → ¬ IsAmong x xs
 none_where xs x at below above a = by (place_among x 0 xs a)
   where
@@ -179,13 +148,13 @@ none_where xs x at below above a = by (place_among x 0 xs a)
         which (inl k) = let b = below i k in omega (arith, b, e)
         which (inr k) = let b = above i k l in omega (arith, b, e)
 
--- what stays of the name that has a number
-pub still_one : (hit : List ℕ) (names : List (Name × NameLoad)) (named : List (List DependencyList)) (i : ℕ) (x : Name × NameLoad) (lists : List DependencyList) (k : Option NameLoad)
-    → i < length names → length named ≡ length names → x ≡ get_or names i x → lists ≡ get_or named i lists → IfSome k (λ one. one ≡ with_lists x.1 lists) → IfSome k (λ _. ¬ IsAmong i hit)
-    → IfSome k (IsStill hit names named x.0)
-still_one hit names named i x lists None l each e f same left = tt
-still_one hit names named i x lists (Some one) l each e f same left = record {
-  number = i;
+-- what stays of the name with an index
+pub still_one : (affected : List ℕ) (names : List (Name × NameLoad)) (named : List (List DependencyList)) (i : ℕ) (x : Name × NameLoad) (lists : List DependencyList) (k : Option NameLoad)
+    → i < length names → length named ≡ length names → x ≡ get_or names i x → lists ≡ get_or named i lists → IfSome k (λ one. one ≡ with_lists x.1 lists) → IfSome k (λ _. ¬ IsAmong i affected)
+    → IfSome k (IsStill affected names named x.0)
+still_one affected names named i x lists None l each e f same left = tt
+still_one affected names named i x lists (Some one) l each e f same left = record {
+  index = i;
   below = l;
   load = x.1;
   at = sym e;
@@ -193,14 +162,14 @@ still_one hit names named i x lists (Some one) l each e f same left = record {
   left = left;
 }
 
--- so a name more
-pub still_more : (hit : List ℕ) (names : List (Name × NameLoad)) (named : List (List DependencyList)) (i : ℕ) (x : Name × NameLoad) (n : Name) (k : Option NameLoad) (now new : List (Name × Option NameLoad))
-    → i < length names → x ≡ get_or names i x → n ≡ x.0 → IfSome k (IsStill hit names named x.0) → new ≡ now ++ (n, k) ∷ []
-    → (keys_of now ≡ keys_of (take i names)) × All (λ (p : Name × Option NameLoad). IfSome p.1 (IsStill hit names named p.0)) now
-    → (keys_of new ≡ keys_of (take (i + 1) names)) × All (λ (p : Name × Option NameLoad). IfSome p.1 (IsStill hit names named p.0)) new
-still_more hit names named i x n k now new l e key one is h =
-    let P : Name × Option NameLoad → Type 0 = λ p. IfSome p.1 (IsStill hit names named p.0) in
-    let Q : Name → Type 0 = λ m. IfSome k (IsStill hit names named m) in
+-- the same for one more name
+pub still_more : (affected : List ℕ) (names : List (Name × NameLoad)) (named : List (List DependencyList)) (i : ℕ) (x : Name × NameLoad) (n : Name) (k : Option NameLoad) (now new : List (Name × Option NameLoad))
+    → i < length names → x ≡ get_or names i x → n ≡ x.0 → IfSome k (IsStill affected names named x.0) → new ≡ now ++ (n, k) ∷ []
+    → (keys_of now ≡ keys_of (take i names)) × All (λ (p : Name × Option NameLoad). IfSome p.1 (IsStill affected names named p.0)) now
+    → (keys_of new ≡ keys_of (take (i + 1) names)) × All (λ (p : Name × Option NameLoad). IfSome p.1 (IsStill affected names named p.0)) new
+still_more affected names named i x n k now new l e key one is h =
+    let P : Name × Option NameLoad → Type 0 = λ p. IfSome p.1 (IsStill affected names named p.0) in
+    let Q : Name → Type 0 = λ m. IfSome k (IsStill affected names named m) in
     let key_of : Name × Option NameLoad → Name = λ p. p.0 in
     let name_of : Name × NameLoad → Name = λ p. p.0 in
     let taken : take (i + 1) names ≡ take i names ++ x ∷ [] = take_more names i x l ∙ ap (λ (y : Name × NameLoad). take i names ++ y ∷ []) (sym e) in (
@@ -210,24 +179,24 @@ still_more hit names named i x n k now new l e key one is h =
     )
 
 -- before the first name
-pub still_none : (hit : List ℕ) (names : List (Name × NameLoad)) (named : List (List DependencyList)) (now : List (Name × Option NameLoad)) → now ≡ []
-    → (keys_of now ≡ keys_of (take 0 names)) × All (λ (p : Name × Option NameLoad). IfSome p.1 (IsStill hit names named p.0)) now
-still_none hit names named now e =
-    let P : Name × Option NameLoad → Type 0 = λ p. IfSome p.1 (IsStill hit names named p.0) in
+pub still_none : (affected : List ℕ) (names : List (Name × NameLoad)) (named : List (List DependencyList)) (now : List (Name × Option NameLoad)) → now ≡ []
+    → (keys_of now ≡ keys_of (take 0 names)) × All (λ (p : Name × Option NameLoad). IfSome p.1 (IsStill affected names named p.0)) now
+still_none affected names named now e =
+    let P : Name × Option NameLoad → Type 0 = λ p. IfSome p.1 (IsStill affected names named p.0) in
     (ap (λ (ps : List (Name × Option NameLoad)). keys_of ps) e, subst (All P) (sym e) (All-nil P))
 
--- behind the last
-pub still_all : (hit : List ℕ) (names names' : List (Name × NameLoad)) (named named' : List (List DependencyList)) (i : ℕ) (now : List (Name × Option NameLoad))
+-- after the last
+pub still_all : (affected : List ℕ) (names names' : List (Name × NameLoad)) (named named' : List (List DependencyList)) (i : ℕ) (now : List (Name × Option NameLoad))
     → names ≡ names' → named ≡ named' → length names ≤ i
-    → (keys_of now ≡ keys_of (take i names)) × All (λ (p : Name × Option NameLoad). IfSome p.1 (IsStill hit names named p.0)) now → AreStill hit names' named' now
-still_all hit names names' named named' i now e f l h =
-    let P : List (Name × NameLoad) → Type 0 = λ ns. AreStill hit ns named' now in
-    let Q : List (List DependencyList) → Type 0 = λ ls. AreStill hit names ls now in
+    → (keys_of now ≡ keys_of (take i names)) × All (λ (p : Name × Option NameLoad). IfSome p.1 (IsStill affected names named p.0)) now → AreStill affected names' named' now
+still_all affected names names' named named' i now e f l h =
+    let P : List (Name × NameLoad) → Type 0 = λ ns. AreStill affected ns named' now in
+    let Q : List (List DependencyList) → Type 0 = λ ls. AreStill affected names ls now in
     subst P e (subst Q f (record { keys_are = h.0 ∙ ap (λ (ps : List (Name × NameLoad)). keys_of ps) (take_all i names l); each = h.1 }))
 
--- the sources of what is asked for, where the words that are kept are those of the view
-pub same_sources : (v : View) (words kept : NamedWords) (asked extra sources : List Name) → kept ≡ words → asked ≡ extra → AreOwnWords v words → AreSourcesBy kept asked sources
+-- the sources of what is asked for, if the cached link targets are those of the view
+pub same_sources : (v : HostViewMap) (words kept : NamedWords) (asked extra sources : List Name) → kept ≡ words → asked ≡ extra → AreOwnLinkTargets v words → AreSourcesBy kept asked sources
     → (n : Name) → IsAmong n sources ↔ IsSource v extra n
 same_sources v words kept asked extra sources e f own h =
     let P : List Name → Type 0 = λ ns. (n : Name) → IsAmong n sources ↔ IsSource v ns n in
-    subst P f (h v (subst (AreOwnWords v) (sym e) own))
+    subst P f (h v (subst (AreOwnLinkTargets v) (sym e) own))

@@ -1,29 +1,11 @@
--- A type's folder of drop-ins is in the footprints of units that have a name of the type alone.
-use Rattle.std.proofs.Common.{◌≡◌, ℕ, true, Some, List, [], ◌∷◌, ◌++◌, codes, refl, ap, sym, ◌∙◌, subst, inl, inr, arith, append_assoc}
-use Rattle.std.specs.Prelude.{◌⊎◌, map}
-use Rattle.std.specs.List.{All, list_any}
+-- A type's drop-in folder is only in the footprints of units that have a name of the type.
+use Rattle.std.proofs.Common.{[], ◌++◌, ◌∙◌, ◌∷◌, ◌≡◌, ◌⊎◌, All, ap, append_assoc, arith, codes, inl, inr, List, map, refl, Some, subst, sym, true, ℕ}
 use Rattle.std.proofs.lemmas.Bool.{or_left, or_right, true≢false}
 use Rattle.std.proofs.lemmas.List.{append_cancel_right}
-use Rattle.list_laws.specs.Members.{IsAmong, IsAmong-append_cases}
-use Rattle.unit_name.specs.declared.kinds.Kind.{Kind}
-use Rattle.unit_name.specs.declared.kinds.Kind.TheVariants.{Service, Socket, Device, Mount, Automount, Swap, Target, Path, Timer, Slice, Scope}
-use Rattle.unit_name.specs.declared.names.Shape.{Shape}
-use Rattle.unit_name.specs.declared.names.Shape.TheVariants.{Plain, Template, Instance}
-use Rattle.unit_name.specs.Forms.{name_with, template_at, template_name, template_of}
-use Rattle.unit_name.specs.NameLaws.{made_of_name, names_are_their_parts, suffix_is_word}
-use Rattle.unit_name.specs.Names.{IsName, Name, instance, is_dot, prefix, shape, suffix, word}
-use Rattle.dropins.specs.FolderJoinLaws.{among_firsts}
-use Rattle.dropins.specs.FolderLaws.{folders_are_names}
-use Rattle.dropins.specs.FolderLists.{folders, types_of, with_template}
-use Rattle.dropins.specs.Taken.{dirs_with, ending, name_dirs, type_dirs}
-use Rattle.dropins.specs.TypeLaws.{folders_keep_types}
-use Rattle.dropins.specs.declared.link_names.Folder.TheVariants.{Wants, Requires}
-use Rattle.unit_loads.specs.Elsewhere.{unit_folders}
-use Rattle.unit_loads.specs.Footprints.{footprint}
-use Rattle.unit_loads.specs.MemberLaws.{among_map}
-use Rattle.parallel_load.specs.Fronts.{EndsWith, IsOfType}
-use Rattle.parallel_load.specs.UniverseLaws.{all_among}
+use Rattle.std.specs.List.{list_any}
+use Rattle.parallel_load.proofs.Prelude.{all_among, among_firsts, among_map, Automount, Device, dirs_with, ending, EndsWith, folders, folders_are_names, folders_keep_types, footprint, Instance, instance, is_dot, IsAmong, IsAmong-append_cases, IsName, IsOfType, Kind, made_of_name, Mount, Name, name_dirs, name_with, names_are_their_parts, Path, Plain, prefix, Requires, Scope, Service, Shape, shape, Slice, Socket, suffix, suffix_is_word, Swap, Template, template_at, template_name, template_of, Timer, type_dirs, types_of, unit_folders, Wants, with_template, word}
 use Rattle.parallel_load.proofs.Begins.{listed_is}
+use Rattle.unit_name.specs.declared.kinds.Kind.TheVariants.{Target}
 
 -- ---- last bytes
 
@@ -32,13 +14,13 @@ last [] = 0
 last (x ∷ []) = x
 last (x ∷ y ∷ ys) = last (y ∷ ys)
 
-last_behind : (xs : List ℕ) (y : ℕ) (ys : List ℕ) → last (xs ++ y ∷ ys) ≡ last (y ∷ ys)
-last_behind [] y ys = refl
-last_behind (x ∷ []) y ys = refl
-last_behind (x ∷ z ∷ xs) y ys = last_behind (z ∷ xs) y ys
+last_after : (xs : List ℕ) (y : ℕ) (ys : List ℕ) → last (xs ++ y ∷ ys) ≡ last (y ∷ ys)
+last_after [] y ys = refl
+last_after (x ∷ []) y ys = refl
+last_after (x ∷ z ∷ xs) y ys = last_after (z ∷ xs) y ys
 
 ends_so : (start w : List ℕ) (x : ℕ) (xs : List ℕ) → start ++ x ∷ xs ≡ w ++ codes ".d" → last (x ∷ xs) ≡ 100
-ends_so start w x xs e = sym (last_behind start x xs) ∙ ap last e ∙ last_behind w 46 (100 ∷ [])
+ends_so start w x xs e = sym (last_after start x xs) ∙ ap last e ∙ last_after w 46 (100 ∷ [])
 
 -- what ends in a type's word isn't a type's folder
 no_word_ends_so : (k : Kind) (start w : List ℕ) → start ++ word k ≡ w ++ codes ".d" → ⊥
@@ -81,7 +63,7 @@ no_name_ends_so n h start w e =
 
 -- ---- the footprint
 
-module _ (part w : List ℕ) (is : IsOfType part w) (names : List Name) (lawful : All IsName names) where
+module _ (part w : List ℕ) (is : IsOfType part w) (names : List Name) (well_formed : All IsName names) where
   no_own : (name : Name) → IsName name → IsAmong part (with_template name) → ⊥
   no_own name own (inl e) = let n = name_ends name own in no_name_ends_so name own n.start w (sym n.is ∙ e ∙ is.is)
   no_own name own (inr a) = by (shape name) (listed_is part (template_of name) a)
@@ -98,19 +80,19 @@ module _ (part w : List ℕ) (is : IsOfType part w) (names : List Name) (lawful 
   no_drop_ins a =
       let r = among_map (λ (n : Name). n ++ codes ".d") (folders names) part a in
       let same : r.source ≡ w = append_cancel_right r.source w (codes ".d") (r.makes ∙ is.is) in
-      let n = name_ends r.source (all_among IsName (folders names) r.source (folders_are_names names lawful) r.there) in
+      let n = name_ends r.source (all_among IsName (folders names) r.source (folders_are_names names well_formed) r.there) in
       true≢false (sym (has_dot n.start (suffix r.source)) ∙ ap (list_any is_dot) (sym n.is ∙ same) ∙ is.dotless)
 
   no_links : (x : ℕ) (end : List ℕ) → ¬ (last (x ∷ end) ≡ 100) → IsAmong part (dirs_with (x ∷ end) (folders names)) → ⊥
   no_links x end other a =
       let r = among_map (λ (n : Name). n ++ x ∷ end) (folders names) part a in
-      other (sym (last_behind r.source x end) ∙ ap last (r.makes ∙ is.is) ∙ last_behind w 46 (100 ∷ []))
+      other (sym (last_after r.source x end) ∙ ap last (r.makes ∙ is.is) ∙ last_after w 46 (100 ∷ []))
 
   of_type : IsAmong part (type_dirs (folders names)) → (m : Name) × (IsAmong m names × (suffix m ≡ w))
   of_type a =
       let r = among_map (λ (n : Name). n ++ codes ".d") (types_of (folders names)) part a in
       let same : r.source ≡ w = append_cancel_right r.source w (codes ".d") (r.makes ∙ is.is) in
-      let there = subst (λ (ts : List (List ℕ)). IsAmong r.source ts) (folders_keep_types names lawful) r.there in
+      let there = subst (λ (ts : List (List ℕ)). IsAmong r.source ts) (folders_keep_types names well_formed) r.there in
       let q = among_map suffix names r.source (among_firsts r.source (map suffix names) there) in
       (q.source, (q.there, q.makes ∙ same))
 
@@ -138,7 +120,7 @@ module _ (part w : List ℕ) (is : IsOfType part w) (names : List Name) (lawful 
 -- so one of the unit's names ends in the type's word
 pub names_of_type : (part w : List ℕ) (name : Name) (names : List Name) → IsOfType part w → IsName name → All IsName names → IsAmong part (footprint name names)
     → (m : Name) × (IsAmong m names × EndsWith w m)
-names_of_type part w name names is own lawful a =
-    let m = names_of_type_by part w is names lawful name own a in
-    let n = name_ends m.0 (all_among IsName names m.0 lawful m.1.0) in
+names_of_type part w name names is own well_formed a =
+    let m = names_of_type_by part w is names well_formed name own a in
+    let n = name_ends m.0 (all_among IsName names m.0 well_formed m.1.0) in
     (m.0, (m.1.0, record { start = n.start ++ 46 ∷ []; is = n.is ∙ ap (λ (k : List ℕ). n.start ++ 46 ∷ k) m.1.1 ∙ sym (append_assoc n.start (46 ∷ []) w) }))

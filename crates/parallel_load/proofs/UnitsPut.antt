@@ -1,32 +1,13 @@
--- Names with some units put in place of others.
-use Rattle.std.proofs.Common.{◌≡◌, ◌≢◌, ◌<◌, ℕ, zero, suc, Bool, true, false, not, Some, List, [], ◌∷◌, ◌++◌, set, get_or, length, refl, ap, sym, ◌∙◌, subst, inl, inr, arith}
-use Rattle.std.specs.Prelude.{◌⊎◌}
+-- Names, in which some units replace others.
+use Rattle.std.proofs.Common.{[], ◌++◌, ◌<◌, ◌∙◌, ◌∷◌, ◌≡◌, ◌≢◌, ◌⊎◌, All, ap, arith, Bool, false, get_or, inl, inr, length, List, not, refl, set, Some, subst, suc, sym, true, zero, ℕ}
+use Rattle.std.proofs.lemmas.Bool.{cases_eq}
+use Rattle.std.proofs.lemmas.List.Elements.{All-head, All-tail}
 use Rattle.std.specs.Iterator.{Yields}
-use Rattle.std.specs.List.{All}
 use Rattle.std.specs.Map.{keys_of}
 use Rattle.std.specs.Vec.Iter.{into_iter_items, into_iter_steps}
 use Rattle.std.specs.declared.vec.IntoIter.{IntoIter}
-use Rattle.std.proofs.lemmas.Bool.{cases_eq}
-use Rattle.std.proofs.lemmas.List.Elements.{All-head, All-tail}
-use Rattle.list_laws.specs.Members.{IsAmong, IsAmong-append_cases}
-use Rattle.load_places.specs.Places.{PlaceParts}
-use Rattle.edit_sums.specs.Sums.{EntryMap}
-use Rattle.path_maps.specs.Views.{View, view_of}
-use Rattle.unit_name.specs.Names.{Name}
-use Rattle.setting_rules.specs.declared.dependency_lists.DependencyList.{DependencyList}
-use Rattle.parallel_load.specs.declared.loaded.NameLoad.{NameLoad}
-use Rattle.parallel_load.specs.declared.loaded.Patches.{Patches}
-use Rattle.parallel_load.specs.Hits.{AreHit}
-use Rattle.parallel_load.specs.LoadRows.{AreLoadsAgain, AreReadOrLeft, IsKept, IsLoadAgain, IsReadAgain, IsReadOrLeft}
-use Rattle.parallel_load.specs.Loads.{LoadMap}
-use Rattle.parallel_load.specs.Patched.{AreUnitsOf, patched_load, put_load, with_loads}
-use Rattle.parallel_load.specs.Refreshes.{IsBefore}
-use Rattle.parallel_load.specs.SecondNames.{AreSecondNames}
-use Rattle.parallel_load.specs.Touched.{HasParts, KeepsWords}
-use Rattle.parallel_load.proofs.Again.{few_is, kept_again, load_again, one_each, owns}
-use Rattle.parallel_load.proofs.Keeping.{any_at}
-use Rattle.parallel_load.proofs.SecondNames.{second_again}
-use Rattle.parallel_load.proofs.Staying.{missed_unless}
+use Rattle.parallel_load.proofs.Prelude.{AreAffected, AreLoadsAgain, AreReadOrLeft, AreSecondaryNames, AreUnitsOf, DependencyList, EntryMap, HasParts, host_view_of, HostViewMap, IsAmong, IsAmong-append_cases, IsBefore, IsKept, IsLoadAgain, IsReadAgain, IsReadOrLeft, KeepsLinkTargets, LoadMap, Name, NameLoad, patched_load, Patches, PlaceParts, put_load, with_loads}
+use Rattle.parallel_load.proofs.{Again.few_is, Again.kept_again, Again.load_again, Again.one_each, Again.owns, Keeping.any_at, SecondaryNames.second_again, Staying.missed_unless}
 
 -- ---- what is put
 
@@ -58,7 +39,7 @@ pub with_more : (names : List (Name × NameLoad)) (units : List (ℕ × NameLoad
 with_more names [] u = refl
 with_more names (v ∷ units) u = with_more (put_load names v.0 v.1) units u
 
--- what stands at a number that is put, and at others
+-- what is at an index that is replaced, and at others
 put_there : (names : List (Name × NameLoad)) (n : ℕ) (load : NameLoad) (d : Name × NameLoad) → n < length names → get_or (put_load names n load) n d ≡ ((get_or names n d).0, load)
 put_there [] n load d l = absurd (omega arith)
 put_there (p ∷ names) zero load d l = refl
@@ -71,9 +52,9 @@ put_elsewhere (p ∷ names) zero (suc i) load d other = refl
 put_elsewhere (p ∷ names) (suc n) zero load d other = refl
 put_elsewhere (p ∷ names) (suc n) (suc i) load d other = put_elsewhere names n i load d (λ e. other (ap suc e))
 
--- ---- units that are read again, one behind the other
+-- ---- units that are read again, one after the other
 
-module _ (t : View) (ms : List (Name × ℕ)) (names : List (Name × NameLoad)) (named : List (List DependencyList)) where
+module _ (t : HostViewMap) (ms : List (Name × ℕ)) (names : List (Name × NameLoad)) (named : List (List DependencyList)) where
   pub none_read : (units : List (ℕ × NameLoad)) → units ≡ [] → AreReadOrLeft t ms [] names named (with_loads names units)
   none_read units e =
       let P : List (ℕ × NameLoad) → Type 0 = λ us. AreReadOrLeft t ms [] names named (with_loads names us) in
@@ -114,14 +95,14 @@ module _ (t : View) (ms : List (Name × ℕ)) (names : List (Name × NameLoad)) 
       by (inl e) = here e
       by (inr other) = subst R (sym (put_elsewhere news u.0 i u.1 p other)) (left other (h i p m))
 
--- so where all that are hit were read, each stays or is read again
-pub loads_again : (t : View) (folders : List (List ℕ)) (ms : List (Name × ℕ)) (hit : List ℕ) (names : List (Name × NameLoad)) (named : List (List DependencyList)) (news : List (Name × NameLoad))
-    → length named ≡ length names → length news ≡ length names → AreHit folders names hit → AreReadOrLeft t ms hit names named news → AreLoadsAgain t folders ms names named news
-loads_again t folders ms hit names named news each count all read = by names named news each count (λ i p l. one i p l (read i p l))
+-- so if all affected units were read, each name stays or its unit was read again
+pub loads_again : (t : HostViewMap) (folders : List (List ℕ)) (ms : List (Name × ℕ)) (affected : List ℕ) (names : List (Name × NameLoad)) (named : List (List DependencyList)) (news : List (Name × NameLoad))
+    → length named ≡ length names → length news ≡ length names → AreAffected folders names affected → AreReadOrLeft t ms affected names named news → AreLoadsAgain t folders ms names named news
+loads_again t folders ms affected names named news each count all read = by names named news each count (λ i p l. one i p l (read i p l))
   where
-    one : (i : ℕ) (p : Name × NameLoad) → i < length names → IsReadOrLeft t ms hit i (get_or names i p) (get_or named i []) (get_or news i p)
+    one : (i : ℕ) (p : Name × NameLoad) → i < length names → IsReadOrLeft t ms affected i (get_or names i p) (get_or named i []) (get_or news i p)
         → ((get_or news i p).0 ≡ (get_or names i p).0) × IsLoadAgain t folders ms (get_or names i p) (get_or named i []) (get_or news i p).1
-    one i p l (same, inl k) = (same, inl (k.0, missed_unless folders names hit i p (get_or names i p).1 all l k.1 refl))
+    one i p l (same, inl k) = (same, inl (k.0, missed_unless folders names affected i p (get_or names i p).1 all l k.1 refl))
     one i p l (same, inr r) = (same, inr r)
 
     by : (olds : List (Name × NameLoad)) (lists : List (List DependencyList)) (ws : List (Name × NameLoad)) → length lists ≡ length olds → length ws ≡ length olds
@@ -135,15 +116,15 @@ loads_again t folders ms hit names named news each count all read = by names nam
 
 -- ---- the load with them
 
-pub units_of : (load : LoadMap) (now : EntryMap) (touched : List PlaceParts) → IsBefore load now touched → All (KeepsWords load.host load.words (view_of now load.host)) touched
+pub units_of : (load : LoadMap) (now : EntryMap) (touched : List PlaceParts) → IsBefore load now touched → All (KeepsLinkTargets load.host load.words (host_view_of now load.host)) touched
     → (folders : List (List ℕ)) → All (HasParts load.host folders) touched → (p : Patches) → p.kept.named.items ≡ load.named → p.kept.words ≡ load.words
     → IsKept load.names load.named p.kept.deps.items p.kept.mains → All (λ u. u.0 < length load.names) p.units.items
-    → (hit : List ℕ) → AreHit folders load.names hit → AreReadOrLeft (view_of now load.host) p.kept.mains hit load.names load.named (with_loads load.names p.units.items) → AreSecondNames load.names p.kept.second
-    → AreUnitsOf (view_of now load.host) load p
-units_of load now touched b keep folders has p named words kept within hit all read second =
+    → (affected : List ℕ) → AreAffected folders load.names affected → AreReadOrLeft (host_view_of now load.host) p.kept.mains affected load.names load.named (with_loads load.names p.units.items) → AreSecondaryNames load.names p.kept.second
+    → AreUnitsOf (host_view_of now load.host) load p
+units_of load now touched b keep folders has p named words kept within affected all read second =
     let news : List (Name × NameLoad) = with_loads load.names p.units.items in
-    let again : AreLoadsAgain (view_of now load.host) folders p.kept.mains load.names load.named news =
-    loads_again (view_of now load.host) folders p.kept.mains hit load.names load.named news (one_each load.names load.named p.kept.deps.items p.kept.mains kept) (with_length load.names p.units.items) all read in
+    let again : AreLoadsAgain (host_view_of now load.host) folders p.kept.mains load.names load.named news =
+    loads_again (host_view_of now load.host) folders p.kept.mains affected load.names load.named news (one_each load.names load.named p.kept.deps.items p.kept.mains kept) (with_length load.names p.units.items) all read in
     let stays : IsKept news load.named p.kept.deps.items p.kept.mains = kept_again load now touched b keep folders has p.kept.deps.items p.kept.mains kept news again in
     record {
       fit = record {
@@ -152,7 +133,7 @@ units_of load now touched b keep folders has p named words kept within hit all r
         within = within;
         kept = stays;
         second =
-            second_again (view_of now load.host) p.kept.mains hit load.names load.named news p.kept.second
+            second_again (host_view_of now load.host) p.kept.mains affected load.names load.named news p.kept.second
             (owns load now touched b keep folders has p.kept.deps.items p.kept.mains kept) (with_length load.names p.units.items) read second;
       };
       is_load = load_again load now touched b keep folders has p.kept.deps.items p.kept.mains kept news again (patched_load load p.units.items) refl refl refl refl refl;
@@ -167,23 +148,23 @@ units_of load now touched b keep folders has p named words kept within hit all r
       };
     }
 
--- ---- what is read off
+-- ---- what an iterator yields
 
--- what the iterator of a vector has given is a front of its items
-taken_front : {X A : Type 0} (s : IntoIter X A) (xs : List X) (t : IntoIter X A) → Yields into_iter_steps s xs t → into_iter_items s ≡ xs ++ into_iter_items t
-taken_front s [] t y = ap into_iter_items y
-taken_front s (x ∷ xs) t y = y.1.0 ∙ ap (λ ys. x ∷ ys) (taken_front y.0 xs t y.2)
+-- what a vector's iterator has yielded is a prefix of its items
+taken_search_prefix : {X A : Type 0} (s : IntoIter X A) (xs : List X) (t : IntoIter X A) → Yields into_iter_steps s xs t → into_iter_items s ≡ xs ++ into_iter_items t
+taken_search_prefix s [] t y = ap into_iter_items y
+taken_search_prefix s (x ∷ xs) t y = y.1.0 ∙ ap (λ ys. x ∷ ys) (taken_search_prefix y.0 xs t y.2)
 
-holds_behind : {X : Type 0} (P : X → Type 0) (xs ys : List X) → All P (xs ++ ys) → All P ys
-holds_behind P [] ys h = h
-holds_behind P (x ∷ xs) ys h = holds_behind P xs ys (All-tail P x (xs ++ ys) h)
+holds_after : {X : Type 0} (P : X → Type 0) (xs ys : List X) → All P (xs ++ ys) → All P ys
+holds_after P [] ys h = h
+holds_after P (x ∷ xs) ys h = holds_after P xs ys (All-tail P x (xs ++ ys) h)
 
 -- what holds of all items holds of the next one
 pub next_holds : {X A : Type 0} (P : X → Type 0) (all : List X) (s t u : IntoIter X A) (xs : List X) (x : X) → into_iter_items s ≡ all → Yields into_iter_steps s xs t
     → into_iter_steps t (Some x) u → All P all → P x
 next_holds P all s t u xs x start y step h =
-    let items : all ≡ xs ++ x ∷ into_iter_items u = sym start ∙ taken_front s xs t y ∙ ap (λ l. xs ++ l) step.0 in
-    All-head P x (into_iter_items u) (holds_behind P xs (x ∷ into_iter_items u) (subst (All P) items h))
+    let items : all ≡ xs ++ x ∷ into_iter_items u = sym start ∙ taken_search_prefix s xs t y ∙ ap (λ l. xs ++ l) step.0 in
+    All-head P x (into_iter_items u) (holds_after P xs (x ∷ into_iter_items u) (subst (All P) items h))
 
 pub not_false : (b : Bool) → not b ≡ false → b ≡ true
 not_false true h = refl

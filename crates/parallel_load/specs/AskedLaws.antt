@@ -1,32 +1,28 @@
--- Which names are asked for counts only for those at which nothing is visible: lists that make the same sources have the same load.
+-- Names that are asked for count only where nothing is visible: lists with the same sources give the same load.
 -- Source: this project's own.
-use Rattle.std.proofs.Common.{List, refl, inl, inr}
-use Rattle.std.specs.Prelude.{◌↔◌}
-use Rattle.list_laws.specs.Members.{IsAmong}
-use Rattle.name_closure.specs.SourceLaws.{same_closure, same_reached}
-use Rattle.path_maps.specs.Views.{View}
-use Rattle.unit_name.specs.Names.{Name, name_cmp}
-use Rattle.parallel_load.specs.Loads.{IsLoad, LoadMap}
-use Rattle.parallel_load.specs.Universe.{AreUniverse, IsSource, IsTooLarge, LeadsTo}
+use Rattle.std.proofs.Common.{◌↔◌, inl, inr, List, refl}
+use Rattle.parallel_load.specs.Prelude.{HostViewMap, IsAmong, Name, name_cmp, same_closure, same_reached}
+use Rattle.parallel_load.specs.{Loads.IsLoad, Loads.LoadMap, Universe.AreUniverse, Universe.IsSource, Universe.IsTooLarge, Universe.LeadsTo}
 
--- each of the names is visible, or is one of the others
-abbrev pub AreSources : View → List Name → List Name → Type 0
+-- each of these names is visible, or is one of the others
+abbrev pub AreSources : HostViewMap → List Name → List Name → Type 0
 AreSources s others names = (n : Name) → IsAmong n names → IsSource s others n
 
--- a load in which these names were asked for in place of those that were
+-- the load, with these as the names that were asked for
 abbrev pub asked_for : List Name → LoadMap → LoadMap
 asked_for extra load = record load { extra = extra }
 
--- lists of names each of which is visible, or is in the other list, have the same load, but for themselves
+-- if each name of either list is visible or is in the other list, both lists give the same load, but for the list
+-- itself
 abbrev pub SourcesMakeTheLoad : Type 0
 SourcesMakeTheLoad =
-    (s : View) (a b : List Name) (load : LoadMap) → AreSources s a b → AreSources s b a → IsLoad s a load → IsLoad s b (asked_for b load)
+    (s : HostViewMap) (a b : List Name) (load : LoadMap) → AreSources s a b → AreSources s b a → IsLoad s a load → IsLoad s b (asked_for b load)
 
--- and are too large alike
+-- and both universes are too large, or neither is
 abbrev pub SourcesMakeTheSize : Type 0
-SourcesMakeTheSize = (s : View) (a b : List Name) → AreSources s a b → AreSources s b a → IsTooLarge s a → IsTooLarge s b
+SourcesMakeTheSize = (s : HostViewMap) (a b : List Name) → AreSources s a b → AreSources s b a → IsTooLarge s a → IsTooLarge s b
 
-module _ (s : View) (a b : List Name) (there : AreSources s a b) (back : AreSources s b a) where
+module _ (s : HostViewMap) (a b : List Name) (there : AreSources s a b) (back : AreSources s b a) where
   same_sources : (n : Name) → IsSource s a n ↔ IsSource s b n
   same_sources n = (to, from)
     where
@@ -47,7 +43,7 @@ module _ (s : View) (a b : List Name) (there : AreSources s a b) (back : AreSour
   same_size : IsTooLarge s a → IsTooLarge s b
   same_size h = record {
     nodes = h.nodes;
-    rising = h.rising;
+    ascending = h.ascending;
     reached = λ n among. (same_reached (IsSource s a) (IsSource s b) (LeadsTo s) (LeadsTo s) same_sources same_steps n).0 (h.reached n among);
     over = h.over;
   }

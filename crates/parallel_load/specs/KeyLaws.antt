@@ -1,20 +1,20 @@
--- Pairs in the order of their keys: places of keys, and what keys alone tell.
-use Rattle.std.proofs.Common.{◌≡◌, ◌<◌, ◌&&◌, ℕ, zero, suc, List, [], ◌∷◌, length, get_or, cond, IsTrue, Some, refl, ap, sym, ◌∙◌, arith}
-use Rattle.std.specs.Map.{keys_of}
+-- Pairs in ascending order of keys: the places of keys, and what follows from the keys alone.
+use Rattle.std.proofs.Common.{[], ◌&&◌, ◌<◌, ◌∙◌, ◌∷◌, ◌≡◌, ap, arith, cond, get_or, IsTrue, length, List, refl, Some, suc, sym, zero, ℕ}
+use Rattle.std.proofs.lemmas.Bool.{and_from, and_parts}
+use Rattle.std.proofs.lemmas.Cmp.{tied_itself}
+use Rattle.std.proofs.lemmas.Map.Keys.{sorted_head, sorted_tail}
+use Rattle.std.proofs.lemmas.Option.{none-some}
 use Rattle.std.specs.Cmp.{IsTotalOrder}
 use Rattle.std.specs.FinMap.{IsAntisymmetric}
-use Rattle.std.specs.FinMap.Entries.{find, is_sorted, below_all}
-use Rattle.std.specs.Ordering.{is_eq, is_lt}
-use Rattle.std.specs.declared.cmp.Ordering.{Ordering}
-use Rattle.std.specs.declared.cmp.Ordering.TheVariants.{Less, Equal, Greater}
+use Rattle.std.specs.FinMap.Entries.{below_all}
 use Rattle.std.specs.List.{AllByRecursion}
 use Rattle.std.specs.List.Sorted.{IsStrictlySortedBy}
-use Rattle.std.proofs.lemmas.Bool.{and_from, and_parts}
-use Rattle.std.proofs.lemmas.Map.Keys.{sorted_head, sorted_tail}
-use Rattle.std.proofs.lemmas.Cmp.{tied_itself}
-use Rattle.std.proofs.lemmas.Option.{none-some}
-use Rattle.list_laws.specs.Orderings.{is_less, turned}
-use Rattle.sorted_pairs.specs.Places.{IsAt}
+use Rattle.std.specs.Map.{keys_of}
+use Rattle.std.specs.Ordering.{is_eq, is_lt}
+use Rattle.std.specs.declared.cmp.Ordering.{Ordering}
+use Rattle.std.specs.declared.cmp.Ordering.TheVariants.{Equal, Greater, Less}
+use Rattle.parallel_load.specs.Prelude.{is_less, IsAt, turned}
+use Rattle.std.specs.FinMap.Entries.{find, is_sorted}
 
 -- the key at a place
 pub key_at_place : {K V : Type 0} (es : List (K × V)) (i : ℕ) (d : K × V) (k : K) → i < length es → (get_or es i d).0 ≡ get_or (keys_of es) i k
@@ -32,13 +32,13 @@ module _ {K V : Type 0} (R : K → K → Ordering) where
   below_key x (e ∷ es) zero d h l = is_less _ (and_parts _ _ h).0
   below_key x (e ∷ es) (suc j) d h l = below_key x es j d (and_parts _ _ h).1 (omega arith)
 
-  pub keys_rise : (es : List (K × V)) (i j : ℕ) (d : K) → IsTrue (is_sorted R es) → i < j → j < length es → R (get_or (keys_of es) i d) (get_or (keys_of es) j d) ≡ Less
-  keys_rise [] i j d s l m = absurd (omega arith)
-  keys_rise (e ∷ es) i zero d s l m = absurd (omega arith)
-  keys_rise (e ∷ es) zero (suc j) d s l m = below_key e.0 es j d (and_parts _ _ s).0 (omega arith)
-  keys_rise (e ∷ es) (suc i) (suc j) d s l m = keys_rise es i j d (and_parts _ _ s).1 (omega arith) (omega arith)
+  pub keys_ascend : (es : List (K × V)) (i j : ℕ) (d : K) → IsTrue (is_sorted R es) → i < j → j < length es → R (get_or (keys_of es) i d) (get_or (keys_of es) j d) ≡ Less
+  keys_ascend [] i j d s l m = absurd (omega arith)
+  keys_ascend (e ∷ es) i zero d s l m = absurd (omega arith)
+  keys_ascend (e ∷ es) zero (suc j) d s l m = below_key e.0 es j d (and_parts _ _ s).0 (omega arith)
+  keys_ascend (e ∷ es) (suc i) (suc j) d s l m = keys_ascend es i j d (and_parts _ _ s).1 (omega arith) (omega arith)
 
-  -- what is found at the key of a place stands there
+  -- a search for the key at a place finds the value there
   pub find_place : IsTotalOrder R → (es : List (K × V)) (i : ℕ) (k : K) (d : K × V) → IsTrue (is_sorted R es) → i < length es
       → find R (get_or (keys_of es) i k) es ≡ Some (get_or es i d).1
   find_place o [] i k d s l = absurd (omega arith)
@@ -49,7 +49,7 @@ module _ {K V : Type 0} (R : K → K → Ordering) where
       ap (λ r. cond (is_eq r) (Some e.1) (find R key es)) (turned R o e.0 key Less below)
       ∙ find_place o es i k d (and_parts _ _ s).1 (omega arith)
 
-  -- what is found has a place
+  -- a key that is found has a place
   pub place_of_found : IsAntisymmetric R → (k : K) (es : List (K × V)) (v : V) (d : K) → find R k es ≡ Some v
       → (i : ℕ) × ((i < length es) × (get_or (keys_of es) i d ≡ k))
   place_of_found exact k [] v d h = absurd (none-some _ h)
@@ -65,7 +65,7 @@ module _ {K V : Type 0} (R : K → K → Ordering) where
       by Equal c f more = (0, (omega arith, sym (exact k e.0 c)))
       by Greater c f more = later (more f)
 
--- whether pairs are in the order of their keys is told by the keys
+-- the keys alone decide whether pairs are sorted
 module _ {K V W : Type 0} (R : K → K → Ordering) where
   below_by_keys : (x : K) (es : List (K × V)) (fs : List (K × W)) → keys_of es ≡ keys_of fs → below_all R x es ≡ below_all R x fs
   below_by_keys x [] [] h = refl
@@ -87,7 +87,7 @@ module _ {K V W : Type 0} (R : K → K → Ordering) where
       let rest : is_sorted R es ≡ is_sorted R fs = sorted_by_keys es fs keys in
       ap (λ b. b && is_sorted R es) below ∙ ap (λ b. below_all R f.0 fs && b) rest
 
--- so are pairs whose keys rise
+-- pairs with strictly ascending keys are sorted
 module _ {K V : Type 0} (R : K → K → Ordering) where
   below_from : (x : K) (es : List (K × V)) → AllByRecursion (λ y. R x y ≡ Less) (keys_of es) → IsTrue (below_all R x es)
   below_from x [] h = refl
@@ -97,7 +97,7 @@ module _ {K V : Type 0} (R : K → K → Ordering) where
   sorted_from_keys [] h = refl
   sorted_from_keys (e ∷ es) h = and_from _ _ (below_from e.0 es (sorted_head R e.0 (keys_of es) h)) (sorted_from_keys es (sorted_tail R e.0 (keys_of es) h))
 
--- the key that a search finds stands at the place
+-- the key that a search finds is the one at that place
 pub key_found : {K V : Type 0} (R : K → K → Ordering) → IsAntisymmetric R → (k : K) (es : List (K × V)) (i : ℕ) (d : K) → IsAt R k es i → get_or (keys_of es) i d ≡ k
 key_found R exact k [] i d a = absurd a
 key_found R exact k (e ∷ es) zero d a = sym (exact k e.0 a)

@@ -1,11 +1,10 @@
--- Where a load holds what its units name: words for private clauses.
+-- Where a load holds what its units name: definitions for private clauses.
 -- Source: this project's own.
-use Rattle.std.specs.Prelude.{List, []}
+use Rattle.std.proofs.Common.{[], List}
 use Rattle.std.specs.Coded.{Coded, coded_list}
-use Rattle.setting_rules.specs.declared.dependency_lists.DependencyList.{DependencyList}
+use Rattle.parallel_load.specs.Prelude.{DependencyList}
+use Rattle.parallel_load.specs.{declared.kept.ListsHeld.ListsHeld, declared.kept.ListsHeld.TheVariants.Alone, declared.kept.ListsHeld.TheVariants.Nowhere, declared.kept.ListsHeld.TheVariants.Unit as OfUnit}
 use Rattle.setting_rules.specs.contracts.dependency_lists.DependencyList as list
-use Rattle.parallel_load.specs.declared.kept.ListsHeld.{ListsHeld}
-use Rattle.parallel_load.specs.declared.kept.ListsHeld.TheVariants.{Unit as OfUnit, Alone, Nowhere}
 
 abbrev pub coded_lists : Coded (List DependencyList)
 coded_lists = coded_list (list.the_row).coded

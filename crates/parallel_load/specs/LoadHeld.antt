@@ -1,20 +1,17 @@
--- Where what was loaded for a name is held: words for private clauses.
+-- Where what is loaded for a name is held: definitions for private clauses.
 -- Source: this project's own.
-use Rattle.std.specs.Prelude.{Option, Some, None}
-use Rattle.unit_name.specs.Names.{Name}
-use Rattle.parallel_load.specs.declared.kept.LoadHeld.{LoadHeld}
+use Rattle.std.proofs.Common.{None, Option, Some}
+use Rattle.parallel_load.specs.Prelude.{Name}
+use Rattle.parallel_load.specs.{declared.kept.LoadHeld.LoadHeld, declared.loaded.NameLoad.NameLoad, declared.loaded.NameLoad.TheVariants.Alias as OfAlias, declared.loaded.NameLoad.TheVariants.Unit as OfUnit, Loads.with_lists}
 use Rattle.parallel_load.specs.declared.kept.LoadHeld.TheVariants as held
-use Rattle.parallel_load.specs.declared.loaded.NameLoad.{NameLoad}
-use Rattle.parallel_load.specs.declared.loaded.NameLoad.TheVariants.{Unit as OfUnit, Alias as OfAlias}
-use Rattle.parallel_load.specs.Loads.{with_lists}
 
--- what it is
+-- the value that is held
 abbrev pub load_held : LoadHeld → NameLoad
 load_held (held.Fresh unit) = OfUnit unit.value
 load_held (held.Alias of) = OfAlias of
 load_held (held.Unit unit lists) = with_lists (OfUnit unit) lists
 
--- the main name, where it is an alias
+-- the main name, for an alias
 abbrev pub alias_in : NameLoad → Option Name
 alias_in (OfUnit unit) = None
 alias_in (OfAlias of) = Some of

@@ -1,39 +1,27 @@
--- Laws of loads: a store has one.
-use Rattle.std.specs.Prelude.{◌≡◌, List, [], ◌∷◌}
-use Rattle.std.specs.Map.{keys_of}
+-- A store has one load.
+use Rattle.std.proofs.Common.{[], ◌∙◌, ◌∷◌, ◌≡◌, ap, List, refl, subst, sym}
 use Rattle.std.specs.Cmp.Lexicographic.{nat_list_cmp_total}
-use Rattle.std.proofs.Common.{refl, ap, subst, sym, ◌∙◌}
-use Rattle.path_maps.specs.Views.{View}
-use Rattle.unit_name.specs.Names.{Name, name_cmp}
-use Rattle.fragment_choice.specs.Resolutions.{main}
-use Rattle.name_closure.specs.ClosureLaws.{one_closure}
-use Rattle.name_closure.specs.LoadingLaws.{one_load_of_nodes}
-use Rattle.setting_rules.specs.declared.dependency_lists.DependencyList.{DependencyList}
-use Rattle.unit_loads.specs.UnitLaws.{one_unit}
-use Rattle.parallel_load.specs.declared.loaded.NameLoad.{NameLoad}
-use Rattle.parallel_load.specs.declared.loaded.NameLoad.TheVariants.{Unit as OfUnit, Alias as OfAlias}
-use Rattle.parallel_load.specs.AloneLaws.{one_of_name}
-use Rattle.parallel_load.specs.Loads.{AreNamedAlone, IsLoad, IsNameLoad, IsNamedAlone, LoadMap, by_mains, lists_in, with_lists}
-use Rattle.parallel_load.specs.OwnWordLaws.{one_list_of_words}
-use Rattle.parallel_load.specs.Universe.{IsSource, LeadsTo}
+use Rattle.std.specs.Map.{keys_of}
+use Rattle.parallel_load.specs.Prelude.{DependencyList, HostViewMap, main, Name, name_cmp, one_closure, one_load_of_nodes, one_unit}
+use Rattle.parallel_load.specs.{AloneLaws.one_of_name, declared.loaded.NameLoad.NameLoad, declared.loaded.NameLoad.TheVariants.Alias as OfAlias, declared.loaded.NameLoad.TheVariants.Unit as OfUnit, Loads.AreNamedAlone, Loads.by_mains, Loads.IsLoad, Loads.IsNamedAlone, Loads.IsNameLoad, Loads.lists_in, Loads.LoadMap, Loads.with_lists, OwnWordLaws.one_list_of_words, Universe.IsSource, Universe.LeadsTo}
 
 -- A store and names that are asked for have one load.
 abbrev pub OneLoad : Type 0
-OneLoad = (s : View) (extra : List Name) (a b : LoadMap) → IsLoad s extra a → IsLoad s extra b → a ≡ b
+OneLoad = (s : HostViewMap) (extra : List Name) (a b : LoadMap) → IsLoad s extra a → IsLoad s extra b → a ≡ b
 
--- and a name stands for one thing
-pub one_name_load : (s : View) (name : Name) (x y : NameLoad) → IsNameLoad s name x → IsNameLoad s name y → x ≡ y
+-- and a name resolves to one thing
+pub one_name_load : (s : HostViewMap) (name : Name) (x y : NameLoad) → IsNameLoad s name x → IsNameLoad s name y → x ≡ y
 one_name_load s name (OfUnit u) (OfUnit v) p q =
     ap OfUnit (p.by_mains_is ∙ ap (by_mains (main s)) (one_unit s name p.alone q.alone p.is_unit q.is_unit) ∙ sym q.by_mains_is)
 one_name_load s name (OfUnit u) (OfAlias m) p q = absurd (q.other (sym q.main_is ∙ p.is_unit.main_is))
 one_name_load s name (OfAlias m) (OfUnit v) p q = absurd (p.other (sym p.main_is ∙ q.is_unit.main_is))
 one_name_load s name (OfAlias m) (OfAlias k) p q = ap OfAlias (sym p.main_is ∙ q.main_is)
 
--- and names one list a kind
-one_list : (s : View) (name : Name) (one : NameLoad) (a b : List DependencyList) → IsNamedAlone s name one a → IsNamedAlone s name one b → a ≡ b
+-- and has one list for each kind
+one_list : (s : HostViewMap) (name : Name) (one : NameLoad) (a b : List DependencyList) → IsNamedAlone s name one a → IsNamedAlone s name one b → a ≡ b
 one_list s name one a b p q = p.lists_are ∙ ap lists_in (one_of_name s name (with_lists one a) (with_lists one b) p.alone q.alone) ∙ sym q.lists_are
 
-one_named : (s : View) (names : List (Name × NameLoad)) (a b : List (List DependencyList)) → AreNamedAlone s names a → AreNamedAlone s names b → a ≡ b
+one_named : (s : HostViewMap) (names : List (Name × NameLoad)) (a b : List (List DependencyList)) → AreNamedAlone s names a → AreNamedAlone s names b → a ≡ b
 one_named s [] [] [] p q = refl
 one_named s [] (x ∷ a) b p q = absurd p
 one_named s [] [] (y ∷ b) p q = absurd q

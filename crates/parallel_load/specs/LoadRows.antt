@@ -1,80 +1,65 @@
--- What a load keeps of each name: words for private clauses.
+-- The rows of a load: what it caches for each name. Definitions for private clauses.
 -- Source: this project's own.
-use Rattle.std.specs.Prelude.{◌≡◌, ◌⊎◌, ◌<◌, ◌≤◌, ℕ, IsTrue, List, [], ◌∷◌, length}
+use Rattle.std.proofs.Common.{[], ◌<◌, ◌∷◌, ◌≡◌, ◌≤◌, ◌⊎◌, All, IsTrue, length, List, ℕ}
 use Rattle.std.specs.FinMap.{is_sorted}
-use Rattle.std.specs.List.{All, slice_index_or}
-use Rattle.list_laws.specs.Members.{IsAmong}
-use Rattle.path_maps.specs.Views.{View}
-use Rattle.unit_name.specs.Names.{Name, name_cmp}
-use Rattle.setting_rules.specs.declared.dependency_lists.DependencyList.{DependencyList}
-use Rattle.fragment_choice.specs.Resolutions.{main}
-use Rattle.fragment_choice.specs.UnitNames.{AreNames}
-use Rattle.unit_loads.specs.declared.units.Unit.{Unit as LoadedUnit}
-use Rattle.unit_loads.specs.Units.{IsUnit}
-use Rattle.parallel_load.specs.declared.loaded.Dependency.{Dependency}
-use Rattle.parallel_load.specs.declared.loaded.NameLoad.{NameLoad}
-use Rattle.parallel_load.specs.declared.loaded.NameLoad.TheVariants.{Unit as OfUnit}
-use Rattle.parallel_load.specs.declared.mains.Settled.{Settled}
-use Rattle.parallel_load.specs.Loads.{with_lists}
-use Rattle.parallel_load.specs.Numbering.{AreNumbered}
-use Rattle.parallel_load.specs.Numbers.{AreDependencyRows}
-use Rattle.parallel_load.specs.Refreshes.{IsMissed}
-use Rattle.parallel_load.specs.Settled.{load_settled, name_lists, name_loads, name_numbers, settled_name}
+use Rattle.std.specs.Prelude.{slice_index_or}
+use Rattle.parallel_load.specs.Prelude.{AreNames, DependencyList, HostViewMap, IsAmong, IsUnit, LoadedUnit, main, Name, name_cmp}
+use Rattle.parallel_load.specs.{declared.loaded.Dependency.Dependency, declared.loaded.NameLoad.NameLoad, declared.loaded.NameLoad.TheVariants.Unit as OfUnit, declared.mains.Normalized.Normalized, Indexing.AreIndexed, Indices.AreDependencyAdjacency, Loads.with_lists, Normalized.load_normalized, Normalized.name_indices, Normalized.name_lists, Normalized.name_loads, Normalized.normalized_name, Refreshes.IsMissed}
 
--- a row's name with what stands for it before main names are put in
-abbrev pub row_alone : Settled → Name × NameLoad
+-- the row's name with what was loaded for it, before names were replaced by main names
+abbrev pub row_alone : Normalized → Name × NameLoad
 row_alone row = (row.name, with_lists row.load row.lists)
 
--- the row has main names and numbers by these
-abbrev pub IsSettledRow : List (Name × ℕ) → Settled → Type 0
-IsSettledRow mains row = row ≡ settled_name mains (row_alone row)
+-- the row's main names and indices are those by this table
+abbrev pub IsNormalizedRow : List (Name × ℕ) → Normalized → Type 0
+IsNormalizedRow mains row = row ≡ normalized_name mains (row_alone row)
 
--- these are the rows of names in order, with the numbers of their main names
-pub record AreRows (names : List (Name × NameLoad)) (named : List (List DependencyList)) (mains : List (Name × ℕ)) (rows : List Settled) : Type 0 where
+-- these are the rows of names in order, with the indices of their main names
+pub record AreRows (names : List (Name × NameLoad)) (named : List (List DependencyList)) (mains : List (Name × ℕ)) (rows : List Normalized) : Type 0 where
   pub names_are : names ≡ name_loads rows
   pub named_are : named ≡ name_lists rows
-  pub numbered : AreNumbered names names mains
-  pub settled : All (IsSettledRow mains) rows
+  pub indexed : AreIndexed names names mains
+  pub normalized : All (IsNormalizedRow mains) rows
   pub few : length names ≤ 4096
 
--- What a load keeps: its names in byte order, dependencies by numbers, and what rows are made of.
+-- What a load caches: its names in byte order, dependencies by indices, and what rows are made of.
 pub record IsKept (names : List (Name × NameLoad)) (named : List (List DependencyList)) (table : List (List Dependency)) (mains : List (Name × ℕ)) : Type 0 where
-  pub all : List Settled
+  pub all : List Normalized
   pub are_rows : AreRows names named mains all
-  pub table_is : table ≡ name_numbers all
+  pub table_is : table ≡ name_indices all
   pub sorted : IsTrue (is_sorted name_cmp names)
-  pub rows : AreDependencyRows names table
+  pub rows : AreDependencyAdjacency names table
 
--- ---- what names stand for, where units are read again
+-- ---- what names resolve to, where units are read again
 
--- where a unit stands for the name, that is its main name, and the unit has its names
-abbrev pub IsOwnUnit : View → Name × NameLoad → Type 0
+-- if a name has a unit, it is the unit's main name, and the unit has its names
+abbrev pub IsOwnUnit : HostViewMap → Name × NameLoad → Type 0
 IsOwnUnit t p = (unit : LoadedUnit) → p.1 ≡ OfUnit unit → (main t p.0 ≡ p.0) × AreNames t p.0 unit.names
 
--- a unit is read again that names what it named
-pub record IsReadAgain (t : View) (mains : List (Name × ℕ)) (old : Name × NameLoad) (lists : List DependencyList) (new : NameLoad) : Type 0 where
+-- a unit that was read again and names what it named before
+pub record IsReadAgain (t : HostViewMap) (mains : List (Name × ℕ)) (old : Name × NameLoad) (lists : List DependencyList) (new : NameLoad) : Type 0 where
   pub was : LoadedUnit
   pub load_is : old.1 ≡ OfUnit was
   pub unit : LoadedUnit
   pub is_unit : IsUnit t old.0 unit
   pub names_stay : unit.deps ≡ lists
-  pub is : new ≡ load_settled mains (OfUnit unit)
+  pub is : new ≡ load_normalized mains (OfUnit unit)
 
--- what stands for the name stays, as these folders miss it, or its unit is read again
-abbrev pub IsLoadAgain : View → List (List ℕ) → List (Name × ℕ) → Name × NameLoad → List DependencyList → NameLoad → Type 0
+-- what the name resolves to stays, since none of these folders affects it, or its unit was read again
+abbrev pub IsLoadAgain : HostViewMap → List (List ℕ) → List (Name × ℕ) → Name × NameLoad → List DependencyList → NameLoad → Type 0
 IsLoadAgain t folders mains old lists new = ((new ≡ old.1) × IsMissed folders old.0 old.1) ⊎ IsReadAgain t mains old lists new
 
--- a unit that has one of these numbers is read again, and what stands for each other name is left
-abbrev pub IsReadOrLeft : View → List (Name × ℕ) → List ℕ → ℕ → Name × NameLoad → List DependencyList → Name × NameLoad → Type 0
-IsReadOrLeft t mains hit i old lists new = (new.0 ≡ old.0) × (((new.1 ≡ old.1) × ¬ IsAmong i hit) ⊎ IsReadAgain t mains old lists new.1)
+-- a unit with one of these indices was read again; every other name resolves to what it did
+abbrev pub IsReadOrLeft : HostViewMap → List (Name × ℕ) → List ℕ → ℕ → Name × NameLoad → List DependencyList → Name × NameLoad → Type 0
+IsReadOrLeft t mains affected i old lists new = (new.0 ≡ old.0) × (((new.1 ≡ old.1) × ¬ IsAmong i affected) ⊎ IsReadAgain t mains old lists new.1)
 
--- the same of all names, by their numbers
-abbrev pub AreReadOrLeft : View → List (Name × ℕ) → List ℕ → List (Name × NameLoad) → List (List DependencyList) → List (Name × NameLoad) → Type 0
-AreReadOrLeft t mains hit names named news =
-    (i : ℕ) (p : Name × NameLoad) → i < length names → IsReadOrLeft t mains hit i (slice_index_or names i p) (slice_index_or named i []) (slice_index_or news i p)
+-- the same for all names, by their indices
+abbrev pub AreReadOrLeft : HostViewMap → List (Name × ℕ) → List ℕ → List (Name × NameLoad) → List (List DependencyList) → List (Name × NameLoad) → Type 0
+AreReadOrLeft t mains affected names named news =
+    (i : ℕ) (p : Name × NameLoad) → i < length names → IsReadOrLeft t mains affected i (slice_index_or names i p) (slice_index_or named i []) (slice_index_or news i p)
 
--- what stands for all names stays or is read again, each with its lists
-abbrev pub AreLoadsAgain : View → List (List ℕ) → List (Name × ℕ) → List (Name × NameLoad) → List (List DependencyList) → List (Name × NameLoad) → Type 0
+-- each name, with its lists, resolves to what it did, or its unit was read again
+abbrev pub AreLoadsAgain : HostViewMap → List (List ℕ) → List (Name × ℕ) → List (Name × NameLoad) → List (List DependencyList) → List (Name × NameLoad) → Type 0
 AreLoadsAgain t folders mains [] named [] = Unit {0}
 AreLoadsAgain t folders mains [] named (new ∷ news) = ⊥
 AreLoadsAgain t folders mains (old ∷ olds) named [] = ⊥

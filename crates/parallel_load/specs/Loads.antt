@@ -1,32 +1,19 @@
--- What a load of a store is: for each name of the universe its unit, or the main name of which it is an alias.
--- Source: systemd.unit(5), "Description"; that dependencies are told by main names is this project's own.
-use Rattle.std.specs.Prelude.{◌≡◌, not, Option, Some, None, List, [], ◌∷◌, map, filter, refl}
-use Rattle.std.specs.Coded.{Coded, code_by, coded×, coded_list, coded_option, coded_ℕ}
-use Rattle.std.specs.List.{filter_map}
+-- The load of a store: for each name of the universe its unit, or the main name of which it is an alias.
+-- Source: systemd.unit(5), "Description"; that dependencies are given by main names is this project's own.
+use Rattle.std.proofs.Common.{[], ◌∷◌, ◌≡◌, filter, List, map, None, not, Option, refl, Some}
+use Rattle.std.specs.Coded.{code_by, Coded, coded_list, coded_option, coded_ℕ, coded×}
 use Rattle.std.specs.FinMap.{find}
+use Rattle.std.specs.List.{filter_map}
 use Rattle.std.specs.Map.{keys_of}
 use Rattle.std.specs.Option.{option_and_then, option_map}
-use Rattle.load_places.specs.Levels.{Looker}
-use Rattle.path_maps.specs.Views.{View, looker_of}
-use Rattle.unit_name.specs.Names.{Name, name_cmp}
-use Rattle.setting_rules.specs.declared.dependency_lists.DependencyList.{DependencyList}
+use Rattle.parallel_load.specs.Prelude.{AreLoaded, DependencyList, HostViewMap, in_byte_order, is_same, IsUnit, LoadedUnit, main, Name, name_cmp, Viewer, viewer_of}
+use Rattle.parallel_load.specs.{Alone.IsAliasOf, Alone.IsLoadAlone, declared.loaded.NameLoad.NameLoad, declared.loaded.NameLoad.TheVariants.Alias as OfAlias, declared.loaded.NameLoad.TheVariants.Unit as OfUnit, OwnLinkTargets.AreOwnLinkTargets, OwnLinkTargets.coded_named_words, OwnLinkTargets.NamedWords, Universe.AreUniverse}
 use Rattle.setting_rules.specs.contracts.dependency_lists.DependencyList as list
-use Rattle.setting_rules.specs.Dependencies.{in_byte_order}
-use Rattle.fragment_choice.specs.Choices.{is_same}
-use Rattle.fragment_choice.specs.Resolutions.{main}
-use Rattle.name_closure.specs.Loading.{AreLoaded}
-use Rattle.unit_loads.specs.declared.units.Unit.{Unit as LoadedUnit}
-use Rattle.unit_loads.specs.Units.{IsUnit}
 use Rattle.parallel_load.specs.contracts.loaded.NameLoad as one
-use Rattle.parallel_load.specs.declared.loaded.NameLoad.{NameLoad}
-use Rattle.parallel_load.specs.declared.loaded.NameLoad.TheVariants.{Unit as OfUnit, Alias as OfAlias}
-use Rattle.parallel_load.specs.Alone.{IsAliasOf, IsLoadAlone}
-use Rattle.parallel_load.specs.OwnWords.{AreOwnWords, NamedWords, coded_named_words}
-use Rattle.parallel_load.specs.Universe.{AreUniverse}
 
 -- ---- dependencies by main names
 
--- names as they stand in a unit's dependencies: the main name of each, without the unit, in byte order
+-- names as they are in a unit's dependencies: the main name of each, without the unit itself, in byte order
 abbrev pub mains_of : (Name → Name) → Name → List Name → List Name
 mains_of main_of unit names = in_byte_order (filter (λ m. not (is_same m unit)) (map main_of names))
 
@@ -37,22 +24,22 @@ list_by_mains main_of unit list = record { kind = list.kind; names = mains_of ma
 abbrev pub by_mains : (Name → Name) → LoadedUnit → LoadedUnit
 by_mains main_of unit = record unit { deps = map (list_by_mains main_of unit.name) unit.deps }
 
--- ---- what a name stands for
+-- ---- what a name resolves to
 
--- This is the unit of a main name in a load: as it is loaded alone, but that its dependencies are main names.
-pub record IsLoadedUnit (s : View) (name : Name) (unit : LoadedUnit) : Type 0 where
+-- This is the unit of a main name in a load: as it is loaded alone, except that its dependencies are main names.
+pub record IsLoadedUnit (s : HostViewMap) (name : Name) (unit : LoadedUnit) : Type 0 where
   pub alone : LoadedUnit
   pub is_unit : IsUnit s name alone
   pub by_mains_is : unit ≡ by_mains (main s) alone
 
--- This is what a name stands for.
-abbrev pub IsNameLoad : View → Name → NameLoad → Type 0
+-- This is what a name resolves to.
+abbrev pub IsNameLoad : HostViewMap → Name → NameLoad → Type 0
 IsNameLoad s name (OfUnit unit) = IsLoadedUnit s name unit
 IsNameLoad s name (OfAlias of) = IsAliasOf s name of
 
 -- ---- what is named
 
--- the lists of dependencies of what a name stands for: an alias has none
+-- the dependency lists of what a name resolves to: an alias has none
 abbrev pub lists_in : NameLoad → List DependencyList
 lists_in (OfUnit unit) = unit.deps
 lists_in (OfAlias of) = []
@@ -62,13 +49,13 @@ abbrev pub with_lists : NameLoad → List DependencyList → NameLoad
 with_lists (OfUnit unit) lists = OfUnit (record unit { deps = lists })
 with_lists (OfAlias of) lists = OfAlias of
 
--- These are the lists of what the name stands for as it is loaded alone.
-pub record IsNamedAlone (s : View) (name : Name) (one : NameLoad) (lists : List DependencyList) : Type 0 where
+-- These are the dependency lists of the name's unit, as it is loaded alone.
+pub record IsNamedAlone (s : HostViewMap) (name : Name) (one : NameLoad) (lists : List DependencyList) : Type 0 where
   pub alone : IsLoadAlone s name (with_lists one lists)
   pub lists_are : lists ≡ lists_in (with_lists one lists)
 
--- the same of each name
-abbrev pub AreNamedAlone : View → List (Name × NameLoad) → List (List DependencyList) → Type 0
+-- the same for each name
+abbrev pub AreNamedAlone : HostViewMap → List (Name × NameLoad) → List (List DependencyList) → Type 0
 AreNamedAlone s [] [] = Unit {0}
 AreNamedAlone s [] (l ∷ ls) = ⊥
 AreNamedAlone s (p ∷ ps) [] = ⊥
@@ -76,10 +63,11 @@ AreNamedAlone s (p ∷ ps) (l ∷ ls) = IsNamedAlone s p.0 p.1 l × AreNamedAlon
 
 -- ---- the load
 
--- What is loaded: for which host, if for one, the names that were asked for, all names in byte order, each with what it stands for, and for each name the
--- lists of what that names itself, before main names are put in; beside it what the places of one component say of aliases.
+-- A load: its host, if it is for one; the names that were asked for; all names in byte order, each with what it
+-- resolves to; for each name the lists of what it names, before names are replaced by main names; and the link targets
+-- at paths of one component.
 pub record LoadMap : Type 0 where
-  pub host : Looker
+  pub host : Viewer
   pub extra : List Name
   pub names : List (Name × NameLoad)
   pub named : List (List DependencyList)
@@ -90,20 +78,20 @@ coded_name_load = (one.the_row).coded
 
 abbrev pub coded_load : Coded LoadMap
 coded_load =
-    code_by (Looker × (List Name × (List (Name × NameLoad) × (List (List DependencyList) × NamedWords))))
+    code_by (Viewer × (List Name × (List (Name × NameLoad) × (List (List DependencyList) × NamedWords))))
     (coded× (coded_option (coded_list coded_ℕ))
     (coded× (coded_list (coded_list coded_ℕ)) (coded× (coded_list (coded× (coded_list coded_ℕ) (one.the_row).coded)) (coded× (coded_list (coded_list (list.the_row).coded)) coded_named_words))))
     (λ l. (l.host, (l.extra, (l.names, (l.named, l.words)))))
     (λ p. record { host = p.0; extra = p.1.0; names = p.1.1.0; named = p.1.1.1.0; words = p.1.1.1.1 }) (λ _. refl)
 
--- This is the load of what is looked at of a store, with the names that are asked for.
-pub record IsLoad (s : View) (extra : List Name) (load : LoadMap) : Type 0 where
-  pub host_is : load.host ≡ looker_of s
+-- This is the load of what a host sees of a store, with these names asked for.
+pub record IsLoad (s : HostViewMap) (extra : List Name) (load : LoadMap) : Type 0 where
+  pub host_is : load.host ≡ viewer_of s
   pub extra_is : load.extra ≡ extra
   pub universe : AreUniverse s extra (keys_of load.names)
   pub loaded : AreLoaded (IsNameLoad s) load.names
   pub named : AreNamedAlone s load.names load.named
-  pub words : AreOwnWords s load.words
+  pub words : AreOwnLinkTargets s load.words
 
 -- ---- what is read from it
 
@@ -115,18 +103,18 @@ abbrev pub main_part : NameLoad → Name
 main_part (OfUnit unit) = unit.name
 main_part (OfAlias of) = of
 
--- what a load has for a name
+-- what a name resolves to in a load
 abbrev pub load_at : LoadMap → Name → Option NameLoad
 load_at load name = find name_cmp name load.names
 
--- the unit of a main name; none for an alias, and for a name that isn't there
+-- the unit of a main name; none for an alias, and for a name outside the load
 abbrev pub unit_in : LoadMap → Name → Option LoadedUnit
 unit_in load name = option_and_then unit_part (load_at load name)
 
--- the main name of a name; none for one that isn't there
+-- the main name of a name; none for a name outside the load
 abbrev pub main_in : LoadMap → Name → Option Name
 main_in load name = option_map main_part (load_at load name)
 
--- all units, in the byte order of their names
+-- all units, in byte order of their names
 abbrev pub units_in : LoadMap → List LoadedUnit
 units_in load = filter_map (λ p. unit_part p.1) load.names

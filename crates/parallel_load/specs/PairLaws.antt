@@ -1,19 +1,19 @@
--- Sorted pairs: what is found at a key is what stands there.
-use Rattle.std.proofs.Common.{◌≡◌, cond, Some, List, [], ◌∷◌, IsTrue, refl, ap, sym, ◌∙◌, inl, inr}
-use Rattle.std.specs.Cmp.{IsTotalOrder}
-use Rattle.std.specs.FinMap.{IsAntisymmetric}
-use Rattle.std.specs.FinMap.Entries.{find, is_sorted, below_all}
-use Rattle.std.specs.Ordering.{is_eq}
-use Rattle.std.specs.declared.cmp.Ordering.{Ordering}
-use Rattle.std.specs.declared.cmp.Ordering.TheVariants.{Less, Equal, Greater}
+-- Sorted pairs: a search for a key finds the value that the list has for it.
+use Rattle.std.proofs.Common.{[], ◌∙◌, ◌∷◌, ◌≡◌, ap, cond, inl, inr, IsTrue, List, refl, Some, sym}
 use Rattle.std.proofs.lemmas.Bool.{and_parts}
 use Rattle.std.proofs.lemmas.Cmp.{tied_itself}
 use Rattle.std.proofs.lemmas.Option.{same_Some}
-use Rattle.list_laws.specs.Members.{IsAmong}
-use Rattle.list_laws.specs.Orderings.{is_less, turned}
+use Rattle.std.specs.Cmp.{IsTotalOrder}
+use Rattle.std.specs.FinMap.{IsAntisymmetric}
+use Rattle.std.specs.FinMap.Entries.{below_all}
+use Rattle.std.specs.Ordering.{is_eq}
+use Rattle.std.specs.declared.cmp.Ordering.{Ordering}
+use Rattle.std.specs.declared.cmp.Ordering.TheVariants.{Equal, Greater, Less}
+use Rattle.parallel_load.specs.Prelude.{is_less, IsAmong, turned}
+use Rattle.std.specs.FinMap.Entries.{find, is_sorted}
 
 module _ {K V : Type 0} (R : K → K → Ordering) where
-  -- what is found stands there
+  -- what is found is in the list
   pub find_among : IsAntisymmetric R → (k : K) (es : List (K × V)) (v : V) → find R k es ≡ Some v → IsAmong {X = K × V} (k, v) es
   find_among exact k [] v h = cc (h)
   find_among exact k (e ∷ es) v h = by (R k e.0) refl h (find_among exact k es v)
@@ -30,7 +30,7 @@ module _ {K V : Type 0} (R : K → K → Ordering) where
   below_among x k v (e ∷ es) b (inl f) = ap (λ (p : K × V). R x p.0) (sym f) ∙ is_less _ (and_parts _ _ b).0
   below_among x k v (e ∷ es) b (inr h) = below_among x k v es (and_parts _ _ b).1 h
 
-  -- and what stands there is found
+  -- what is in the list is found
   pub among_find : IsTotalOrder R → (k : K) (v : V) (es : List (K × V)) → IsTrue (is_sorted R es) → IsAmong {X = K × V} (k, v) es → find R k es ≡ Some v
   among_find o k v [] s h = absurd h
   among_find o k v (e ∷ es) s (inl f) =

@@ -1,9 +1,9 @@
--- Lists that a test of their elements, one by one, finds the same.
+-- Lists that a pairwise test of their elements finds equal.
 -- Source: this project's own.
-use Rattle.std.proofs.Common.{◌≡◌, ◌&&◌, Bool, true, false, List, [], ◌∷◌, refl, ap, ◌∙◌}
+use Rattle.std.proofs.Common.{[], ◌&&◌, ◌∙◌, ◌∷◌, ◌≡◌, ap, Bool, false, List, refl, true}
 use Rattle.std.specs.Cmp.Lexicographic.{pointwise}
 
--- both tests of two are true
+-- the first of two true tests
 pub first_true : (a b : Bool) → (a && b) ≡ true → a ≡ true
 first_true true b h = refl
 first_true false b h = cc (h)
@@ -12,7 +12,7 @@ pub second_true : (a b : Bool) → (a && b) ≡ true → b ≡ true
 second_true true b h = h
 second_true false b h = cc (h)
 
--- what a test of all elements has told
+-- what a test of all elements shows
 pub same_by : {X : Type 0} (E : X → X → Bool) → ((x y : X) → E x y ≡ true → x ≡ y) → (xs ys : List X) → pointwise E xs ys ≡ true → xs ≡ ys
 same_by E f [] [] h = refl
 same_by E f [] (y ∷ ys) h = cc (h)

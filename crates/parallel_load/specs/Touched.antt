@@ -1,23 +1,18 @@
--- The places that changed, as they are looked at: words for private clauses.
+-- The changed places that a host sees: definitions for private clauses.
 -- Source: this project's own.
-use Rattle.std.specs.Prelude.{◌≡◌, ℕ, IsSome, List, [], ◌++◌}
-use Rattle.list_laws.specs.Members.{IsAmong}
-use Rattle.load_path.specs.Paths.{PathParts}
-use Rattle.load_places.specs.Levels.{Looker, level_for}
-use Rattle.load_places.specs.Places.{PlaceParts}
-use Rattle.path_maps.specs.Views.{View}
-use Rattle.fragment_choice.specs.AliasWords.{alias_words}
-use Rattle.parallel_load.specs.OwnWords.{NamedWords, words_in}
+use Rattle.std.proofs.Common.{[], ◌++◌, ◌≡◌, IsSome, List, ℕ}
+use Rattle.parallel_load.specs.Prelude.{HostViewMap, IsAmong, level_for, link_targets, PathParts, PlaceParts, Viewer}
+use Rattle.parallel_load.specs.OwnLinkTargets.{NamedWords, words_in}
 
--- a place that is looked at, if it is of one component, leaves its name the words that are kept of it
-abbrev pub KeepsWords : Looker → NamedWords → View → PlaceParts → Type 0
-KeepsWords host words now p = IsSome (level_for host p) → p.path.folder ≡ [] → words_in words p.path.name ≡ alias_words now p.path.name
+-- if the host sees the place and it is of one component, its name has the link targets that are cached for it
+abbrev pub KeepsLinkTargets : Viewer → NamedWords → HostViewMap → PlaceParts → Type 0
+KeepsLinkTargets host words now p = IsSome (level_for host p) → p.path.folder ≡ [] → words_in words p.path.name ≡ link_targets now p.path.name
 
--- the folder of a place that is looked at is one of these, which may be the empty one, and where it is that, the name is
-abbrev pub HasParts : Looker → List (List ℕ) → PlaceParts → Type 0
+-- if the host sees the place, its folder is among these; if that is empty, its name is too
+abbrev pub HasParts : Viewer → List (List ℕ) → PlaceParts → Type 0
 HasParts host parts p = IsSome (level_for host p) → IsAmong p.path.folder parts × (p.path.folder ≡ [] → IsAmong p.path.name parts)
 
--- the same of one path, where these are added
+-- these parts of one path are appended
 pub record AddsParts (path : PathParts) (old new : List (List ℕ)) : Type 0 where
   pub more : List (List ℕ)
   pub added : new ≡ old ++ more

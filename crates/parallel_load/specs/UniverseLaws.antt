@@ -1,71 +1,53 @@
--- Laws of what is in a load: each name of the universe, each with its main name, whose unit is there; and what a unit's dependencies are.
-use Rattle.std.proofs.Common.{◌≡◌, suc, Bool, true, false, not, Option, Some, None, List, [], ◌∷◌, map, filter, IsTrue, refl, ap, sym, ◌∙◌, subst, inl, inr}
-use Rattle.std.specs.Prelude.{◌↔◌, ◌≢◌}
+-- Laws of loads: each name of the universe is there with its main name, and each main name with its unit; what a unit's
+-- dependencies are.
+use Rattle.std.proofs.Common.{[], ◌↔◌, ◌∙◌, ◌∷◌, ◌≡◌, ◌≢◌, All, ap, Bool, false, filter, inl, inr, IsTrue, List, map, None, not, Option, refl, Some, subst, suc, sym, true}
+use Rattle.std.proofs.lemmas.List.Elements.{All-head, All-tail}
 use Rattle.std.specs.Cmp.Lexicographic.{nat_list_cmp_total}
-use Rattle.std.specs.FinMap.{slice_cmp-IsAntisymmetric, nat_cmp-IsAntisymmetric}
-use Rattle.std.specs.FinMap.Entries.{is_sorted}
-use Rattle.std.specs.List.{All, Contains}
+use Rattle.std.specs.FinMap.{nat_cmp-IsAntisymmetric, slice_cmp-IsAntisymmetric}
+use Rattle.std.specs.List.{Contains}
 use Rattle.std.specs.List.Sorted.{IsStrictlySortedBy}
 use Rattle.std.specs.Map.{keys_of}
 use Rattle.std.specs.Option.{option_and_then, option_map}
-use Rattle.std.proofs.lemmas.List.Elements.{All-head, All-tail}
-use Rattle.list_laws.specs.Members.{IsAmong, among_from_contains, contains_from_among}
-use Rattle.path_maps.specs.Views.{View}
-use Rattle.unit_name.specs.Names.{Name, name_cmp}
-use Rattle.unit_name.specs.NameLaws.{name_eq-Decides}
-use Rattle.setting_rules.specs.declared.dependency_lists.DependencyList.{DependencyList}
-use Rattle.setting_rules.specs.declared.kinds.DepKind.{DepKind}
-use Rattle.setting_rules.specs.OrderLaws.{names_stay}
-use Rattle.fragment_choice.specs.Choices.{is_same}
-use Rattle.fragment_choice.specs.Resolutions.{main}
-use Rattle.fragment_choice.specs.ResolutionLaws.{mains_are_their_own}
-use Rattle.unit_loads.specs.declared.units.Unit.{Unit as LoadedUnit}
-use Rattle.unit_loads.specs.MemberLaws.{HasSource, among_filter, among_map, filter_among, map_among}
-use Rattle.unit_loads.specs.NameLaws.{lists_have_what_is_named}
-use Rattle.unit_loads.specs.NamedUnits.{IsListed, IsNamed}
-use Rattle.parallel_load.specs.declared.loaded.NameLoad.{NameLoad}
-use Rattle.parallel_load.specs.declared.loaded.NameLoad.TheVariants.{Unit as OfUnit, Alias as OfAlias}
-use Rattle.parallel_load.specs.KeyLaws.{sorted_from_keys}
-use Rattle.parallel_load.specs.Loads.{IsLoad, IsLoadedUnit, IsNameLoad, LoadMap, list_by_mains, load_at, main_in, main_part, unit_in, unit_part}
-use Rattle.parallel_load.specs.PairLaws.{among_find, find_among}
-use Rattle.parallel_load.specs.Universe.{IsInUniverse}
+use Rattle.parallel_load.specs.Prelude.{among_filter, among_from_contains, among_map, contains_from_among, DependencyList, DepKind, filter_among, HasSource, HostViewMap, is_same, IsAmong, IsListed, IsNamed, lists_have_what_is_named, LoadedUnit, main, mains_are_their_own, map_among, Name, name_cmp, name_eq-Decides, names_stay}
+use Rattle.parallel_load.specs.{declared.loaded.NameLoad.NameLoad, declared.loaded.NameLoad.TheVariants.Alias as OfAlias, declared.loaded.NameLoad.TheVariants.Unit as OfUnit, KeyLaws.sorted_from_keys, Loads.IsLoad, Loads.IsLoadedUnit, Loads.IsNameLoad, Loads.list_by_mains, Loads.load_at, Loads.LoadMap, Loads.main_in, Loads.main_part, Loads.unit_in, Loads.unit_part, PairLaws.among_find, PairLaws.find_among, Universe.IsInUniverse}
+use Rattle.std.specs.FinMap.Entries.{is_sorted}
 
 -- this is the unit of a main name of the load
-pub record HasUnit (s : View) (load : LoadMap) (name : Name) : Type 0 where
+pub record HasUnit (s : HostViewMap) (load : LoadMap) (name : Name) : Type 0 where
   pub unit : LoadedUnit
   pub there : unit_in load name ≡ Some unit
   pub is_unit : IsLoadedUnit s name unit
 
--- the unit names v in a way of this kind, by a name of v, and is another unit
-pub record IsDependency (s : View) (name : Name) (dep : DepKind) (v : Name) : Type 0 where
+-- the unit names v for this kind, by one of v's names, and is another unit
+pub record IsDependency (s : HostViewMap) (name : Name) (dep : DepKind) (v : Name) : Type 0 where
   pub word : Name
   pub named : IsNamed s name dep word
   pub main_is : main s word ≡ v
   pub other : v ≢ name
 
--- Each name of the universe has its main name in the load, whose unit is there, and no other name has one.
+-- Exactly the names of the universe have a main name in the load, and its unit is there.
 abbrev pub NamesHaveMains : Type 0
-NamesHaveMains = (s : View) (extra : List Name) (load : LoadMap) (n m : Name) → IsLoad s extra load → (main_in load n ≡ Some m) ↔ (IsInUniverse s extra n × (main s n ≡ m))
+NamesHaveMains = (s : HostViewMap) (extra : List Name) (load : LoadMap) (n m : Name) → IsLoad s extra load → (main_in load n ≡ Some m) ↔ (IsInUniverse s extra n × (main s n ≡ m))
 
 abbrev pub MainsHaveUnits : Type 0
-MainsHaveUnits = (s : View) (extra : List Name) (load : LoadMap) (n : Name) → IsLoad s extra load → IsInUniverse s extra n → HasUnit s load (main s n)
+MainsHaveUnits = (s : HostViewMap) (extra : List Name) (load : LoadMap) (n : Name) → IsLoad s extra load → IsInUniverse s extra n → HasUnit s load (main s n)
 
 -- The units of a load are those of its names that are their own mains.
 abbrev pub UnitsAreTheirOwnMains : Type 0
-UnitsAreTheirOwnMains = (s : View) (extra : List Name) (load : LoadMap) (n : Name) (unit : LoadedUnit) → IsLoad s extra load → unit_in load n ≡ Some unit
+UnitsAreTheirOwnMains = (s : HostViewMap) (extra : List Name) (load : LoadMap) (n : Name) (unit : LoadedUnit) → IsLoad s extra load → unit_in load n ≡ Some unit
     → IsInUniverse s extra n × (main s n ≡ n) × IsLoadedUnit s n unit
 
--- A unit's dependencies in a load are the main names of what it names, without itself.
+-- A unit's dependencies in a load are the main names of what it names, without the unit itself.
 abbrev pub DependenciesAreMains : Type 0
-DependenciesAreMains = (s : View) (extra : List Name) (load : LoadMap) (n : Name) (unit : LoadedUnit) (dep : DepKind) (v : Name) → IsLoad s extra load → unit_in load n ≡ Some unit
+DependenciesAreMains = (s : HostViewMap) (extra : List Name) (load : LoadMap) (n : Name) (unit : LoadedUnit) (dep : DepKind) (v : Name) → IsLoad s extra load → unit_in load n ≡ Some unit
     → IsListed unit.deps dep v ↔ IsDependency s n dep v
 
--- And their units are in the load.
+-- The units of these dependencies are in the load.
 abbrev pub DependenciesAreLoaded : Type 0
-DependenciesAreLoaded = (s : View) (extra : List Name) (load : LoadMap) (n : Name) (unit : LoadedUnit) (dep : DepKind) (v : Name) → IsLoad s extra load → unit_in load n ≡ Some unit
+DependenciesAreLoaded = (s : HostViewMap) (extra : List Name) (load : LoadMap) (n : Name) (unit : LoadedUnit) (dep : DepKind) (v : Name) → IsLoad s extra load → unit_in load n ≡ Some unit
     → IsListed unit.deps dep v → HasUnit s load v
 
--- ---- what stands in a load
+-- ---- what is in a load
 
 pub sorted_from : (es : List (Name × NameLoad)) → IsStrictlySortedBy name_cmp (keys_of es) → IsTrue (is_sorted name_cmp es)
 sorted_from es h = sorted_from_keys name_cmp es h
@@ -76,14 +58,14 @@ all_among P [] x a h = absurd h
 all_among P (y ∷ ys) x a (inl e) = subst P e (All-head P y ys a)
 all_among P (y ∷ ys) x a (inr h) = all_among P ys x (All-tail P y ys a) h
 
--- what a name of the load stands for
-record StandsFor (s : View) (load : LoadMap) (n : Name) (one : NameLoad) : Type 0 where
+-- what a name of the load resolves to
+record ResolvesTo (s : HostViewMap) (load : LoadMap) (n : Name) (one : NameLoad) : Type 0 where
   at : load_at load n ≡ Some one
   is : IsNameLoad s n one
 
-module _ (s : View) (extra : List Name) (load : LoadMap) (l : IsLoad s extra load) where
+module _ (s : HostViewMap) (extra : List Name) (load : LoadMap) (l : IsLoad s extra load) where
   sorted : IsTrue (is_sorted name_cmp load.names)
-  sorted = sorted_from load.names l.universe.rising
+  sorted = sorted_from load.names l.universe.ascending
 
   is_load : (n : Name) (one : NameLoad) → load_at load n ≡ Some one → IsNameLoad s n one
   is_load n one e =
@@ -152,7 +134,7 @@ module _ (s : View) (extra : List Name) (load : LoadMap) (l : IsLoad s extra loa
 
 -- ---- dependencies
 
-module _ (s : View) (n : Name) where
+module _ (s : HostViewMap) (n : Name) where
   not_same : (m : Name) → not (is_same m n) ≡ true → m ≢ n
   not_same m h e = differ (sym (ap not ((name_eq-Decides m n).1 e)) ∙ h)
     where
@@ -166,7 +148,7 @@ module _ (s : View) (n : Name) where
       by true e = absurd (d ((name_eq-Decides m n).0 e))
       by false e = refl
 
-  -- a name in a list by mains is the main name of one in the list, and not the unit's
+  -- a name in a list by main names is the main name of one in the list, and not the unit's
   from_mains : (names : List Name) (v : Name) → IsAmong v (filter (λ m. not (is_same m n)) (map (main s) names)) → HasSource (λ w z. main s w ≡ z) names v × (v ≢ n)
   from_mains names v h =
       let r = among_filter (λ m. not (is_same m n)) (map (main s) names) v h in
@@ -203,7 +185,7 @@ module _ (s : View) (n : Name) where
         (contains_from_among v _ (to_mains l.list.names w v (among_from_contains w l.list.names l.has_name) e d));
   }
 
-dependencies_of : (s : View) (n : Name) (unit : LoadedUnit) (dep : DepKind) (v : Name) → IsLoadedUnit s n unit → IsListed unit.deps dep v ↔ IsDependency s n dep v
+dependencies_of : (s : HostViewMap) (n : Name) (unit : LoadedUnit) (dep : DepKind) (v : Name) → IsLoadedUnit s n unit → IsListed unit.deps dep v ↔ IsDependency s n dep v
 dependencies_of s n unit dep v p = (there, back)
   where
     lists : List DependencyList

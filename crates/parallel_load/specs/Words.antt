@@ -1,22 +1,17 @@
--- How the words that a load keeps are found: words for private clauses.
+-- How link targets are found: definitions for private clauses.
 -- Source: this project's own.
-use Rattle.std.specs.Prelude.{◌≡◌, ℕ, if◌then◌else◌, Option, Some, None, List}
+use Rattle.std.proofs.Common.{◌≡◌, if◌then◌else◌, List, None, Option, Some, ℕ}
 use Rattle.std.specs.Option.{option_and_then}
-use Rattle.edit_sums.specs.declared.contents.Content.{Content}
-use Rattle.path_maps.specs.Views.{View, seen_at}
-use Rattle.unit_name.specs.Names.{Name}
-use Rattle.fragment_choice.specs.AliasWords.{Target, alias_words, target_part}
-use Rattle.fragment_choice.specs.Choices.{is_null, own_path}
-use Rattle.parallel_load.specs.declared.words.Word.{Word}
-use Rattle.parallel_load.specs.declared.words.Word.TheVariants.{Nothing, Link, End}
+use Rattle.parallel_load.specs.Prelude.{Content, HostViewMap, is_null, link_targets, Name, own_path, Target, target_part, viewed_at}
+use Rattle.parallel_load.specs.{declared.words.OwnLink.OwnLink, declared.words.OwnLink.TheVariants.End, declared.words.OwnLink.TheVariants.Link, declared.words.OwnLink.TheVariants.Nothing}
 
--- the target that a word has, if it has one
-abbrev pub target_in : Word → Option Target
+-- the target that this value has, if it has one
+abbrev pub target_in : OwnLink → Option Target
 target_in Nothing = None
 target_in (Link target) = Some (Some target)
 target_in End = Some None
 
--- a target, where a link to /dev/null is as a file
+-- a target, where a link to /dev/null counts as a file
 abbrev pub ended : Target → Target
 ended None = None
 ended (Some target) = if is_null target then None else Some target
@@ -25,14 +20,14 @@ abbrev pub ended_part : Option Target → Option Target
 ended_part None = None
 ended_part (Some target) = Some (ended target)
 
--- this is what is said by what is visible
-abbrev pub IsWordOf : Option Content → Word → Type 0
-IsWordOf content word = target_in word ≡ ended_part (option_and_then target_part content)
+-- this is what visible content means
+abbrev pub IsOwnLinkOf : Option Content → OwnLink → Type 0
+IsOwnLinkOf content word = target_in word ≡ ended_part (option_and_then target_part content)
 
--- this is what the name's path of the level says
-abbrev pub IsWordAt : View → Name → ℕ → Word → Type 0
-IsWordAt s n level word = IsWordOf (seen_at s (own_path n level)) word
+-- this is what is at the name's path of the level
+abbrev pub IsOwnLinkAt : HostViewMap → Name → ℕ → OwnLink → Type 0
+IsOwnLinkAt s n level word = IsOwnLinkOf (viewed_at s (own_path n level)) word
 
--- a name with its own words
-abbrev pub with_own_words : View → Name → Name × List Target
-with_own_words s n = (n, alias_words s n)
+-- a name with its link targets
+abbrev pub with_own_link_targets : HostViewMap → Name → Name × List Target
+with_own_link_targets s n = (n, link_targets s n)

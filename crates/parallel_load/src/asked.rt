@@ -1,55 +1,56 @@
-//! Names that are loaded whether they are asked for or not.
+//! The names that are loaded whether or not a request asks for them.
 ghost use Rattle.std.specs.Prelude.{◌≡◌, IsTrue, is_some};
-ghost use Rattle.path_maps.specs.Views.{seen_at};
+ghost use Rattle.path_maps.specs.HostViews.{viewed_at};
 ghost use Rattle.unit_name.specs.Names.{IsName};
 ghost use Rattle.fragment_choice.specs.Choices.{own_path};
 ghost use Rattle.parallel_load.specs.{AskedLaws.{AreSources}, Universe.{IsSource, IsVisibleName}};
 
 use load_places::LEVELS;
-use replica_store::Seen;
+use replica_store::HostView;
 use unit_name::UnitName;
 
-/// Whether each of these names is seen to be loaded where the others are asked for: it is one of them, or no template and
-/// visible. It takes no memory; for each name it costs a walk over the others and a look-up at each level.
-pub fn are_sources(seen: &Seen, others: &[UnitName], names: &[UnitName]) -> bool
-    ensures sources { IsTrue result → AreSources seen.now others.now names.now }
+/// Whether a load that asks for the others has each of these names among its sources: the name is one of the others, or
+/// it is no template and is visible. Allocates nothing. For each name it walks the others and looks up one path at each
+/// level.
+pub fn are_sources(view: &HostView, others: &[UnitName], names: &[UnitName]) -> bool
+    ensures sources { IsTrue result → AreSources view.now others.now names.now }
 {
     for name in names {
-        if !is_source(seen, others, name) {
+        if !is_source(view, others, name) {
             return false;
         }
     }
     true
 }
 
-// Whether a name is one of the others, or no template and visible.
-fn is_source(seen: &Seen, others: &[UnitName], name: &UnitName) -> bool
-    ensures source { IsTrue result → IsSource seen.now others.now name.now }
+// Whether a name is one of the others, or is visible and no template.
+fn is_source(view: &HostView, others: &[UnitName], name: &UnitName) -> bool
+    ensures source { IsTrue result → IsSource view.now others.now name.now }
 {
-    others.contains(name) || is_visible(seen, name)
+    others.contains(name) || is_visible(view, name)
 }
 
-// Whether a name is no template, and something is visible at it.
-fn is_visible(seen: &Seen, name: &UnitName) -> bool
-    ensures visible { IsTrue result → IsVisibleName seen.now name.now }
+// Whether a name is no template and something is visible at it.
+fn is_visible(view: &HostView, name: &UnitName) -> bool
+    ensures visible { IsTrue result → IsVisibleName view.now name.now }
 {
     if name.is_template() {
         return false;
     }
     for level in 0..LEVELS {
-        if is_shown(seen, name, level) {
+        if is_shown(view, name, level) {
             return true;
         }
     }
     false
 }
 
-// Whether something is visible at a name's own path of a level.
-fn is_shown(seen: &Seen, name: &UnitName, level: u8) -> bool
-    ensures shown { result ≡ is_some (seen_at seen.now (own_path name.now level)) }
-    ensures lawful { IsName name.now }
+// Whether something is visible at the name's own path of a level.
+fn is_shown(view: &HostView, name: &UnitName, level: u8) -> bool
+    ensures shown { result ≡ is_some (viewed_at view.now (own_path name.now level)) }
+    ensures well_formed { IsName name.now }
 {
-    match seen.entry_at(level, b"", name.bytes()) {
+    match view.entry_at(level, b"", name.bytes()) {
         Some(placed) => placed.visible().is_some(),
         None => false,
     }

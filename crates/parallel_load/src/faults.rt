@@ -9,13 +9,13 @@ use thiserror::Error;
 /// Why there is no load.
 #[derive(Clone, Copy, Debug, PartialEq, Eq, Error)]
 pub enum LoadFault {
-    /// L1: the workers aren't 1 to 64.
+    /// L1: the number of workers isn't 1 to 64.
     #[error("L1 Workers")]
     Workers,
-    /// L2: the names that must be loaded are more than 4,096.
+    /// L2: more than 4,096 names must be loaded, aliases included.
     #[error("L2 TooManyUnits")]
     TooManyUnits,
-    /// Memory was refused.
+    /// Memory ran out.
     #[error("out of memory")]
     Memory,
 }

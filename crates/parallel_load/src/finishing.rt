@@ -1,91 +1,92 @@
-//! A load made of what was found: its names in order, dependencies by main names and by numbers.
+//! Makes a load of what the closure found: names in byte order, and dependencies both by main names and by indices.
 ghost use Rattle.std.specs.{Prelude.{◌≡◌, ◌<◌, ◌≤◌, length, map, IfOk, IsTrue}, BTreeMap.{keys}, FinMap.{is_sorted}};
 ghost use Rattle.std.specs.{Option.{option_copied}, List.Sorted.{IsStrictlySortedBy}};
 ghost use Rattle.unit_name.specs.Names.{name_cmp};
-ghost use Rattle.parallel_load.specs.{LoadRows.{IsKept}, Numbering.{AreNumbered}, SecondNames.{AreSecondNames}};
-ghost use Rattle.parallel_load.specs.Settled.{IsSettledLoad, IsWhole, name_lists, name_loads, name_numbers, settled_name};
+ghost use Rattle.parallel_load.specs.{LoadRows.{IsKept}, Indexing.{AreIndexed}, SecondaryNames.{AreSecondaryNames}};
+ghost use Rattle.parallel_load.specs.Normalized.{IsNormalizedLoad, IsWhole, name_lists, name_loads, name_indices, normalized_name};
 
-use crate::kept::{Kept, NamedLists};
-use crate::loaded::{Dependency, KeptRows, Loaded, NameLoad};
+use crate::kept::{NamedLists, RawLoad};
+use crate::loaded::{CachedRows, Dependency, Loaded, NameLoad};
 use crate::loader::add_names;
-use crate::mains::{Mains, Settled};
-use crate::second_names::SecondNames;
-use crate::words::KeptWords;
+use crate::mains::{Mains, Normalized};
+use crate::secondary_names::SecondaryNames;
+use crate::words::CachedLinkTargets;
 use plain_values::{Items, Shared, TryClone};
 use replica_store::HostName;
 use std::alloc::{AllocError, Global};
 use std::collections::BTreeMap;
 use std::thread::Threads;
 use unit_name::UnitName;
-use worker_rounds::{Share, work_by_shares};
+use worker_rounds::{Chunk, work_by_chunks};
 
-// A name with what it stands for.
+// A name with its unit or its main name.
 type Named = (UnitName, NameLoad);
 
-/// The load of what was found, with dependencies by main names. It fails for want of memory alone.
-pub(crate) fn settled(
+/// The load of what was found, with dependencies by main names. Fails only if memory runs out.
+pub(crate) fn normalized(
     alloc: Global,
     host: Option<&HostName>,
     extra: &[UnitName],
-    words: Shared<KeptWords>,
-    found: BTreeMap<UnitName, Kept>,
+    words: Shared<CachedLinkTargets>,
+    found: BTreeMap<UnitName, RawLoad>,
 ) -> Result<Loaded, AllocError>
-    requires rising { IsStrictlySortedBy name_cmp (keys found) }
+    requires ascending { IsStrictlySortedBy name_cmp (keys found) }
     requires whole { IsWhole found.entries }
     requires few { length found.entries ≤ 4096 }
-    ensures load { IfOk result (IsSettledLoad found.entries (option_copied host.entry) extra.now words) }
+    ensures load { IfOk result (IsNormalizedLoad found.entries (option_copied host.entry) extra.now words) }
 {
-    let Found { pairs, mains, read } = found_of(alloc, found)?;
-    let names = mains.settle_all(alloc, pairs)?;
+    let FoundNames { pairs, mains, read } = found_of(alloc, found)?;
+    let names = mains.normalize_all(alloc, pairs)?;
     load_of(alloc, host, extra, words, names, mains, read)
 }
 
-/// The same, where so many workers put the main names in, each for a share of the names. It may wait for threads.
-pub(crate) fn settled_by_workers<R: Threads + Sync>(
+/// The same load. Worker threads replace names by main names, each in one chunk of the load's names. May wait for
+/// threads.
+pub(crate) fn normalized_by_workers<R: Threads + Sync>(
     rt: &R,
     alloc: Global,
     host: Option<&HostName>,
     extra: &[UnitName],
-    words: Shared<KeptWords>,
-    found: BTreeMap<UnitName, Kept>,
+    words: Shared<CachedLinkTargets>,
+    found: BTreeMap<UnitName, RawLoad>,
     workers: usize,
 ) -> Result<Loaded, AllocError>
     requires some { 0 < workers }
-    requires rising { IsStrictlySortedBy name_cmp (keys found) }
+    requires ascending { IsStrictlySortedBy name_cmp (keys found) }
     requires whole { IsWhole found.entries }
     requires few { length found.entries ≤ 4096 }
-    ensures load { IfOk result (IsSettledLoad found.entries (option_copied host.entry) extra.now words) }
+    ensures load { IfOk result (IsNormalizedLoad found.entries (option_copied host.entry) extra.now words) }
 {
-    let Found { pairs, mains, read } = found_of(alloc, found)?;
-    let names = settle_by_workers(rt, alloc, &mains, pairs, workers)?;
+    let FoundNames { pairs, mains, read } = found_of(alloc, found)?;
+    let names = normalize_by_workers(rt, alloc, &mains, pairs, workers)?;
     load_of(alloc, host, extra, words, names, mains, read)
 }
 
-// What was found, in order, the numbers of main names, and how many units were read.
+// What was found, in order, with the indices of the main names and the count of units that were read.
 #[derive(Drop)]
-struct Found {
-    pairs: Vec<(UnitName, Kept)>,
+struct FoundNames {
+    pairs: Vec<(UnitName, RawLoad)>,
     mains: Mains,
     read: u64,
 }
 
 // What was found, in order.
-fn found_of(alloc: Global, found: BTreeMap<UnitName, Kept>) -> Result<Found, AllocError>
-    requires rising { IsStrictlySortedBy name_cmp (keys found) }
+fn found_of(alloc: Global, found: BTreeMap<UnitName, RawLoad>) -> Result<FoundNames, AllocError>
+    requires ascending { IsStrictlySortedBy name_cmp (keys found) }
     ensures pairs { IfOk result (λ all. all.pairs.items ≡ found.entries) }
-    ensures mains { IfOk result (λ all. AreNumbered found.entries found.entries all.mains) }
+    ensures mains { IfOk result (λ all. AreIndexed found.entries found.entries all.mains) }
 {
     let pairs = pairs_of(alloc, found)?;
     let mains = Mains::of(alloc, pairs.as_slice())?;
     let read = fresh_among(&pairs);
-    Ok(Found { pairs, mains, read })
+    Ok(FoundNames { pairs, mains, read })
 }
 
-// The entries of a map in the order of their keys.
+// The entries of a map, in ascending order of their keys.
 fn pairs_of(
     alloc: Global,
-    found: BTreeMap<UnitName, Kept>,
-) -> Result<Vec<(UnitName, Kept)>, AllocError>
+    found: BTreeMap<UnitName, RawLoad>,
+) -> Result<Vec<(UnitName, RawLoad)>, AllocError>
     ensures pairs { IfOk result (λ pairs. pairs.items ≡ found.entries) }
 {
     let mut pairs = Vec::with_capacity(alloc, found.len())?;
@@ -96,7 +97,7 @@ fn pairs_of(
 }
 
 // How many of these are units that were read.
-fn fresh_among(pairs: &[(UnitName, Kept)]) -> u64 {
+fn fresh_among(pairs: &[(UnitName, RawLoad)]) -> u64 {
     let mut fresh: u64 = 0;
     for (_, kept) in pairs {
         if kept.is_fresh() {
@@ -106,46 +107,47 @@ fn fresh_among(pairs: &[(UnitName, Kept)]) -> u64 {
     fresh
 }
 
-// Names with what they stand for, dependencies by main names and by numbers, each share of them by a worker of its own.
-fn settle_by_workers<R: Threads + Sync>(
+// Names with their units or main names, and with dependencies by main names and by indices. Each chunk has its own
+// worker.
+fn normalize_by_workers<R: Threads + Sync>(
     rt: &R,
     alloc: Global,
     mains: &Mains,
-    pairs: Vec<(UnitName, Kept)>,
+    pairs: Vec<(UnitName, RawLoad)>,
     workers: usize,
-) -> Result<Vec<Settled>, AllocError>
+) -> Result<Vec<Normalized>, AllocError>
     requires some { 0 < workers }
-    ensures names { IfOk result (λ names. names.items ≡ map (settled_name mains.now) pairs.items) }
+    ensures names { IfOk result (λ names. names.items ≡ map (normalized_name mains.now) pairs.items) }
 {
     if workers == 1 {
-        return mains.settle_all(alloc, pairs);
+        return mains.normalize_all(alloc, pairs);
     }
-    let settle = |share: Share<(UnitName, Kept)>| -> Result<Vec<Settled>, AllocError>
-        ensures { IfOk result (λ names. names.items ≡ map (settled_name mains.entry.now) share.nodes.items) }
-    { mains.settle_all(alloc, share.nodes) };
-    work_by_shares(rt, alloc, pairs, workers, &settle)
+    let normalize = |chunk: Chunk<(UnitName, RawLoad)>| -> Result<Vec<Normalized>, AllocError>
+        ensures { IfOk result (λ names. names.items ≡ map (normalized_name mains.entry.now) chunk.nodes.items) }
+    { mains.normalize_all(alloc, chunk.nodes) };
+    work_by_chunks(rt, alloc, pairs, workers, &normalize)
 }
 
-// The load of these names, which are in byte order, with the numbers of their main names.
+// The load of these names, which are in byte order, with the indices of their main names.
 fn load_of(
     alloc: Global,
     host: Option<&HostName>,
     extra: &[UnitName],
-    words: Shared<KeptWords>,
-    settled: Vec<Settled>,
+    words: Shared<CachedLinkTargets>,
+    normalized: Vec<Normalized>,
     mains: Mains,
     fresh: u64,
 ) -> Result<Loaded, AllocError>
-    requires kept { IsKept (name_loads settled.items) (name_lists settled.items) (name_numbers settled.items) mains }
+    requires kept { IsKept (name_loads normalized.items) (name_lists normalized.items) (name_indices normalized.items) mains }
     ensures host { IfOk result (λ load. load.host ≡ option_copied host.entry) }
     ensures extra { IfOk result (λ load. load.extra ≡ extra.now) }
-    ensures names { IfOk result (λ load. load.names ≡ name_loads settled.items) }
-    ensures named { IfOk result (λ load. load.named ≡ name_lists settled.items) }
+    ensures names { IfOk result (λ load. load.names ≡ name_loads normalized.items) }
+    ensures named { IfOk result (λ load. load.named ≡ name_lists normalized.items) }
     ensures words { IfOk result (λ load. load.words ≡ words) }
 {
-    let Parts { names, named, deps } = parts_of(alloc, settled)?;
-    let second = SecondNames::of(alloc, &names)?;
-    let kept = KeptRows {
+    let LoadParts { names, named, deps } = parts_of(alloc, normalized)?;
+    let second = SecondaryNames::of(alloc, &names)?;
+    let kept = CachedRows {
         named,
         deps,
         mains,
@@ -156,17 +158,17 @@ fn load_of(
     load_with(alloc, host, extra, names, kept, fresh)
 }
 
-// The load of these names, which are in byte order, with what is kept beside them.
+// The load of these names, which are in byte order, with the data that is cached for them.
 fn load_with(
     alloc: Global,
     host: Option<&HostName>,
     extra: &[UnitName],
     names: Vec<Named>,
-    kept: Shared<KeptRows>,
+    kept: Shared<CachedRows>,
     fresh: u64,
 ) -> Result<Loaded, AllocError>
     requires kept { IsKept names.items kept.named.items kept.deps.items kept.mains }
-    requires second { AreSecondNames names.items kept.second }
+    requires second { AreSecondaryNames names.items kept.second }
     ensures host { IfOk result (λ load. load.host ≡ option_copied host.entry) }
     ensures extra { IfOk result (λ load. load.extra ≡ extra.now) }
     ensures names { IfOk result (λ load. load.names ≡ names.items) }
@@ -180,7 +182,7 @@ fn load_with(
     Ok(Loaded::new(host, extra, names, kept, fresh))
 }
 
-/// The same load again. Its names are copied, and all that stands for them is shared. It fails for want of memory alone.
+/// A copy of a load: the names are copied, their units are shared. Fails only if memory runs out.
 pub(crate) fn copy_of_load(loaded: &Loaded) -> Result<Loaded, AllocError>
     ensures copy { IfOk result (λ copy. copy ≡ loaded.now) }
 {
@@ -196,7 +198,7 @@ pub(crate) fn copy_of_load(loaded: &Loaded) -> Result<Loaded, AllocError>
     )
 }
 
-// Copies of names, with what stands for them, which is shared.
+// Copies of names with their units, which are shared.
 fn copies_of(alloc: Global, names: &[Named]) -> Result<Vec<Named>, AllocError>
     ensures copies { IfOk result (λ copies. copies.items ≡ names.now) }
 {
@@ -207,7 +209,7 @@ fn copies_of(alloc: Global, names: &[Named]) -> Result<Vec<Named>, AllocError>
     Ok(copies)
 }
 
-// The name of a host, if there is one. It shares its bytes.
+// The name of a host, if there is one. The copy shares its bytes.
 fn copy_of(host: Option<&HostName>) -> Result<Option<HostName>, AllocError>
     ensures copy { IfOk result (λ copy. copy ≡ option_copied host.entry) }
 {
@@ -217,27 +219,28 @@ fn copy_of(host: Option<&HostName>) -> Result<Option<HostName>, AllocError>
     }
 }
 
-// Names with what they stand for, and beside them what they name, and their dependencies by numbers.
+// Names with their units or main names, and in the same order the lists of what they name and their dependencies by
+// indices.
 #[derive(Drop)]
-struct Parts {
+struct LoadParts {
     names: Vec<Named>,
     named: Vec<NamedLists>,
     deps: Vec<Shared<Items<Dependency>>>,
 }
 
-// The parts of names.
-fn parts_of(alloc: Global, settled: Vec<Settled>) -> Result<Parts, AllocError>
-    ensures names { IfOk result (λ parts. parts.names.items ≡ name_loads settled.items) }
-    ensures named { IfOk result (λ parts. parts.named.items ≡ name_lists settled.items) }
-    ensures deps { IfOk result (λ parts. parts.deps.items ≡ name_numbers settled.items) }
+// Splits rows into these parts.
+fn parts_of(alloc: Global, normalized: Vec<Normalized>) -> Result<LoadParts, AllocError>
+    ensures names { IfOk result (λ parts. parts.names.items ≡ name_loads normalized.items) }
+    ensures named { IfOk result (λ parts. parts.named.items ≡ name_lists normalized.items) }
+    ensures deps { IfOk result (λ parts. parts.deps.items ≡ name_indices normalized.items) }
 {
-    let mut names = Vec::with_capacity(alloc, settled.len())?;
-    let mut named = Vec::with_capacity(alloc, settled.len())?;
-    let mut deps = Vec::with_capacity(alloc, settled.len())?;
-    for one in settled {
+    let mut names = Vec::with_capacity(alloc, normalized.len())?;
+    let mut named = Vec::with_capacity(alloc, normalized.len())?;
+    let mut deps = Vec::with_capacity(alloc, normalized.len())?;
+    for one in normalized {
         names.push((one.name, one.load))?;
         named.push(one.lists)?;
         deps.push(one.deps)?;
     }
-    Ok(Parts { names, named, deps })
+    Ok(LoadParts { names, named, deps })
 }

@@ -1,4 +1,4 @@
-//! The first components of the paths at which what stands for a unit is decided.
+//! Footprints: the first components of the paths that decide a unit.
 ghost use Rattle.std.specs.{Prelude.{◌≡◌, IfOk, IsSome}, List.Sorted.{IsStrictlySortedBy}};
 ghost use Rattle.unit_name.specs.Names.{name_cmp};
 ghost use Rattle.unit_loads.specs.Footprints.{footprint};
@@ -10,12 +10,12 @@ use plain_values::Bytes;
 use std::alloc::{AllocError, Global};
 use unit_name::UnitName;
 
-/// The footprint of a unit of a load, in byte order: the first components of all paths that say something of it while what
-/// names lead to stays. They are its name and its template's, and the `.d`, `.wants` and `.requires` folders of its names,
-/// `.d` alone of their types (systemd.unit(5), "Description"). It fails for want of memory alone.
+/// The footprint of a unit of a load, in byte order: the first components of all paths that can change the unit while
+/// aliases stay the same. These are the unit's name and its template's, the `.d`, `.wants` and `.requires` folders of
+/// its names, and the `.d` folders of their types (systemd.unit(5), "Description"). Fails only if memory runs out.
 pub fn footprint(loaded: &Loaded, name: &UnitName) -> Result<Vec<Bytes>, AllocError>
     requires unit { IsSome (unit_in loaded.now name.now) }
-    ensures rising { IfOk result (λ parts. IsStrictlySortedBy name_cmp parts.items) }
+    ensures ascending { IfOk result (λ parts. IsStrictlySortedBy name_cmp parts.items) }
     ensures exact { IfOk result (λ parts. IsFootprintIn loaded.now name.now parts.items) }
 {
     let alloc = loaded.allocator();
@@ -28,7 +28,7 @@ pub fn footprint(loaded: &Loaded, name: &UnitName) -> Result<Vec<Bytes>, AllocEr
     Ok(parts)
 }
 
-/// The same of a unit of this name and these names, in the order in which they are made.
+/// The same components for a unit with this name and these names, in the order in which they are made.
 pub(crate) fn parts_of(
     alloc: Global,
     name: &UnitName,

@@ -1,4 +1,4 @@
-//! What was loaded for a name, while names are found.
+//! What is loaded for one name while the closure runs.
 ghost use Rattle.std.specs.{Prelude.{◌≡◌, [], IfOk}, Option.{option_copied}};
 
 use crate::loaded::NameLoad;
@@ -9,18 +9,18 @@ use std::marker::Model;
 use unit_loads::Unit;
 use unit_name::UnitName;
 
-/// What a unit names before main names are put in: lists of its own, or those that stand in a unit.
+/// Where the lists of what a unit names are held, before names are replaced by main names.
 #[derive(Debug, Drop)]
 pub(crate) enum ListsHeld {
-    /// Those of this unit.
+    /// In this unit.
     Unit(Shared<Unit>),
-    /// These.
+    /// In these lists.
     Alone(Shared<Items<DependencyList>>),
-    /// None at all, as of an alias.
+    /// There are none, as for an alias.
     Nowhere,
 }
 
-/// The lists of dependencies of what a name stands for, as they are before main names are put in. A copy shares them.
+/// The dependency lists of a name's unit, before names are replaced by main names. A copy shares them.
 #[derive(Debug, Drop)]
 pub(crate) struct NamedLists {
     held: ListsHeld,
@@ -39,7 +39,7 @@ impl Model for NamedLists {
 }
 
 impl NamedLists {
-    /// No lists. It takes no memory.
+    /// No lists. Allocates nothing.
     pub fn nowhere() -> NamedLists
         ensures none { result ≡ [] }
     {
@@ -48,7 +48,7 @@ impl NamedLists {
         }
     }
 
-    /// Those of a unit. It takes no memory.
+    /// The lists of a unit. Allocates nothing.
     pub fn of_unit(unit: Shared<Unit>) -> NamedLists
         ensures lists { result ≡ unit.deps }
     {
@@ -57,7 +57,7 @@ impl NamedLists {
         }
     }
 
-    /// These lists. It fails for want of memory alone.
+    /// These lists. Fails only if memory runs out.
     pub fn alone(alloc: Global, lists: Items<DependencyList>) -> Result<NamedLists, AllocError>
         ensures lists { IfOk result (λ made. made ≡ lists) }
     {
@@ -66,7 +66,7 @@ impl NamedLists {
         })
     }
 
-    /// The lists. It takes no memory.
+    /// The lists. Allocates nothing.
     pub fn as_slice(&self) -> &[DependencyList]
         ensures lists { result.now ≡ self.now }
     {
@@ -78,7 +78,7 @@ impl NamedLists {
     }
 }
 
-/// The same lists again, shared.
+/// A copy shares the lists.
 impl TryClone for NamedLists {
     fn try_clone(&self) -> Result<NamedLists, AllocError> {
         let held = match &self.held {
@@ -90,24 +90,24 @@ impl TryClone for NamedLists {
     }
 }
 
-/// What a name stands for before main names are put in, and where that is held.
+/// What a name resolves to before names are replaced by main names, and where that is held.
 #[derive(Debug, Drop)]
 pub(crate) enum LoadHeld {
-    /// A unit that was read for it. It stays where it was made, so it is moved at the cost of a number.
+    /// A unit that was read for the name. It is boxed, so moving it costs one word.
     Fresh(Box<Unit>),
-    /// The main name of which it is an alias.
+    /// The main name of which the name is an alias.
     Alias(UnitName),
-    /// A unit of another load, with what it named there before main names were put in.
+    /// A unit of another load, with what it named there before names were replaced by main names.
     Unit(Shared<Unit>, NamedLists),
 }
 
-/// What a name stands for, as contracts see it: before main names are put in.
+/// What a name resolves to before names are replaced by main names. Contracts see that value, not where it is held.
 #[derive(Debug, Drop)]
-pub(crate) struct Kept {
+pub(crate) struct RawLoad {
     pub held: LoadHeld,
 }
 
-impl Model for Kept {
+impl Model for RawLoad {
     ghost use Rattle.parallel_load.specs.{Loads.{coded_name_load}, LoadHeld.{load_held}, declared.loaded.NameLoad.{NameLoad}};
 
     ghost Value = { NameLoad };
@@ -117,40 +117,41 @@ impl Model for Kept {
     ghost view = { λ k. load_held k.held };
 }
 
-impl Kept {
+impl RawLoad {
     ghost use Rattle.parallel_load.specs.declared.loaded.NameLoad.TheVariants.{Unit as OfUnit, Alias as OfAlias};
     ghost use Rattle.parallel_load.specs.{Loads.{lists_in, with_lists}, LoadHeld.{alias_in}};
 
-    /// A unit that was read. It fails for want of memory alone.
-    pub fn fresh(alloc: Global, unit: Unit) -> Result<Kept, AllocError>
+    /// A unit that was read. Fails only if memory runs out.
+    pub fn fresh(alloc: Global, unit: Unit) -> Result<RawLoad, AllocError>
         ensures kept { IfOk result (λ kept. kept ≡ OfUnit unit) }
     {
-        Ok(Kept {
+        Ok(RawLoad {
             held: LoadHeld::Fresh(Box::new(alloc, unit)?),
         })
     }
 
-    /// A main name. It takes no memory.
-    pub fn alias(main: UnitName) -> Kept
+    /// A main name. Allocates nothing.
+    pub fn alias(main: UnitName) -> RawLoad
         ensures kept { result ≡ OfAlias main }
     {
-        Kept {
+        RawLoad {
             held: LoadHeld::Alias(main),
         }
     }
 
-    /// What a name stands for in a load, with what it named there before main names were put in: shared.
-    pub fn again(load: &NameLoad, lists: &NamedLists) -> Result<Kept, AllocError>
+    /// What a name resolves to in a load, with the lists that it had before names were replaced by main names. Both are
+    /// shared.
+    pub fn again(load: &NameLoad, lists: &NamedLists) -> Result<RawLoad, AllocError>
         ensures kept { IfOk result (λ kept. kept ≡ with_lists load.now lists.now) }
     {
         let held = match load {
             NameLoad::Unit(unit) => LoadHeld::Unit(unit.try_clone()?, lists.try_clone()?),
             NameLoad::Alias(main) => LoadHeld::Alias(main.try_clone()?),
         };
-        Ok(Kept { held })
+        Ok(RawLoad { held })
     }
 
-    /// The main name, where this is an alias.
+    /// The main name, for an alias.
     pub fn main(&self) -> Option<&UnitName>
         ensures alias { option_copied result ≡ alias_in self.now }
     {
@@ -160,7 +161,7 @@ impl Kept {
         }
     }
 
-    /// The lists of what it names: none of an alias.
+    /// The lists of what it names. An alias has none.
     pub fn lists(&self) -> &[DependencyList]
         ensures lists { result.now ≡ lists_in self.now }
     {
@@ -171,15 +172,15 @@ impl Kept {
         }
     }
 
-    /// Whether it is a unit that was read. No other than a count of these asks it.
+    /// Whether it is a unit that was read. Only the count of units that were read uses this.
     pub fn is_fresh(&self) -> bool {
         matches!(&self.held, LoadHeld::Fresh(_))
     }
 }
 
-/// The same again. A unit that was read is copied; what is held of another load is shared.
-impl TryClone for Kept {
-    fn try_clone(&self) -> Result<Kept, AllocError> {
+/// A unit that was read is copied; what another load holds is shared.
+impl TryClone for RawLoad {
+    fn try_clone(&self) -> Result<RawLoad, AllocError> {
         let held = match &self.held {
             LoadHeld::Fresh(unit) => {
                 let alloc = *Box::allocator(unit);
@@ -188,6 +189,6 @@ impl TryClone for Kept {
             LoadHeld::Alias(main) => LoadHeld::Alias(main.try_clone()?),
             LoadHeld::Unit(unit, lists) => LoadHeld::Unit(unit.try_clone()?, lists.try_clone()?),
         };
-        Ok(Kept { held })
+        Ok(RawLoad { held })
     }
 }

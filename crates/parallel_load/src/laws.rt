@@ -1,6 +1,7 @@
 //! What is true of all loads: laws, each the contract of a function that does nothing.
 ghost use Rattle.parallel_load.specs.AskedLaws.{SourcesMakeTheLoad, SourcesMakeTheSize};
-ghost use Rattle.parallel_load.specs.KeptLoadLaws.{NameLoadsStay, SameNamesKeepTheUniverse, UniverseStays, WordsKeepVisibleNames};
+ghost use Rattle.parallel_load.specs.HostLaws.{HostsWithoutPlacesAreAsLarge, HostsWithoutPlacesLoadAlike, SameUnitsMakeTheLoad};
+ghost use Rattle.parallel_load.specs.StableLoadLaws.{NameLoadsStay, SameNamesKeepTheUniverse, UniverseStays, WordsKeepVisibleNames};
 ghost use Rattle.parallel_load.specs.{LoadLaws.{OneLoad}, TouchedLaws.{TouchedWordsDecide, UntouchedAgree}};
 ghost use Rattle.parallel_load.specs.UniverseLaws.{DependenciesAreLoaded, DependenciesAreMains, MainsHaveUnits, NamesHaveMains, UnitsAreTheirOwnMains};
 
@@ -29,7 +30,7 @@ pub fn load_laws()
 /// Where aliases and visible names are the same, and each unit of the universe names nothing beyond it and loses no name
 /// but sources, the universe stays; so it does where each names the same. Equal alias words show the same visible names.
 /// What stands for a name stays where its unit's footprint shows the same.
-pub fn kept_load_laws()
+pub fn stable_load_laws()
     ensures visible { WordsKeepVisibleNames }
     ensures universe { UniverseStays }
     ensures same { SameNamesKeepTheUniverse }
@@ -41,4 +42,12 @@ pub fn kept_load_laws()
 pub fn touched_laws()
     ensures words { TouchedWordsDecide }
     ensures agree { UntouchedAgree }
+{}
+
+/// A host at whose places nothing is visible loads what is loaded without one, and as much of it must be loaded. For where
+/// alias words are equal and units are the same, loads are, but for the host that they are for.
+pub fn host_laws()
+    ensures units { SameUnitsMakeTheLoad }
+    ensures loads { HostsWithoutPlacesLoadAlike }
+    ensures size { HostsWithoutPlacesAreAsLarge }
 {}

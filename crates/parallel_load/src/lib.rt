@@ -8,13 +8,12 @@
 //! it is an alias.
 #![tactic(auto)]
 
+mod affected_units;
 mod asked;
 mod faults;
 mod finishing;
 mod footprints;
-mod fronts;
 mod held;
-mod hits;
 mod kept;
 mod laws;
 mod loaded;
@@ -23,7 +22,8 @@ mod loads;
 mod mains;
 mod patching;
 mod refreshing;
-mod second_names;
+mod search_prefixes;
+mod secondary_names;
 mod sources;
 mod touched;
 mod words;
@@ -31,9 +31,9 @@ mod words;
 pub use asked::are_sources;
 pub use faults::LoadFault;
 pub use footprints::footprint;
-pub use laws::{asked_laws, kept_load_laws, load_laws, one_load, touched_laws};
+pub use laws::{asked_laws, host_laws, load_laws, one_load, stable_load_laws, touched_laws};
 pub use loaded::{Dependency, Loaded, NameLoad};
 pub use loads::{MOST_NAMES, load_fleet, load_here};
 pub use refreshing::{Refreshed, refresh, refresh_in_place};
 pub use unit_loads::{Status, Unit, UnitNote, load_one};
-pub use worker_rounds::{Gate, MOST_WORKERS, TURNS, is_crew};
+pub use worker_rounds::{Gate, MOST_WORKERS, TURNS, is_worker_count};

@@ -1,8 +1,8 @@
-//! What is loaded for one name.
+//! Loads one name.
 ghost use Rattle.std.specs.Prelude.{◌≡◌, ◌++◌, ◌∷◌, [], IfOk, OnOk};
 ghost use Rattle.parallel_load.specs.Alone.{named_in, names_in_lists};
 
-use crate::kept::Kept;
+use crate::kept::RawLoad;
 use fragment_choice::AliasIndex;
 use name_closure::Loads;
 use setting_rules::DependencyList;
@@ -17,7 +17,7 @@ pub(crate) struct UnitLoader<'a> {
 }
 
 impl<'a> UnitLoader<'a> {
-    /// The loader of the store of an index. It takes no memory.
+    /// The loader for the store of an index. Allocates nothing.
     pub fn new(index: AliasIndex<'a>) -> UnitLoader<'a>
         ensures index { result.index ≡ index.entry }
     {
@@ -28,7 +28,7 @@ impl<'a> UnitLoader<'a> {
 impl<'a> Loads<UnitName> for UnitLoader<'a> {
     ghost use Rattle.parallel_load.specs.{Alone.{IsLoadAlone, named_in}, AloneLaws.{one_alone}};
 
-    type Loaded = Kept;
+    type Loaded = RawLoad;
 
     ghost is_node = { λ _ _. Unit {0} };
 
@@ -36,25 +36,25 @@ impl<'a> Loads<UnitName> for UnitLoader<'a> {
 
     ghost named = { λ _ one. named_in one };
 
-    fn load(&self, alloc: Global, node: &UnitName) -> Result<Kept, AllocError> {
+    fn load(&self, alloc: Global, node: &UnitName) -> Result<RawLoad, AllocError> {
         let resolved = self.index.resolve(alloc, node)?;
         if resolved.main == *node {
             let unit = load_resolved(alloc, &self.index, resolved)?;
-            Kept::fresh(alloc, unit)
+            RawLoad::fresh(alloc, unit)
         } else {
-            Ok(Kept::alias(resolved.main))
+            Ok(RawLoad::alias(resolved.main))
         }
     }
 
-    fn names(&self, alloc: Global, one: &Kept) -> Result<Vec<UnitName>, AllocError> {
+    fn names(&self, alloc: Global, one: &RawLoad) -> Result<Vec<UnitName>, AllocError> {
         kept_names(alloc, one)
     }
 
     ghost one = { one_alone };
 }
 
-/// The names that must be loaded with what a name stands for. It fails for want of memory alone.
-pub(crate) fn kept_names(alloc: Global, one: &Kept) -> Result<Vec<UnitName>, AllocError>
+/// The names that the closure has to load because of this one. Fails only if memory runs out.
+pub(crate) fn kept_names(alloc: Global, one: &RawLoad) -> Result<Vec<UnitName>, AllocError>
     ensures names { IfOk result (λ names. names.items ≡ named_in one.now) }
 {
     let mut names = Vec::new(alloc);
@@ -65,7 +65,7 @@ pub(crate) fn kept_names(alloc: Global, one: &Kept) -> Result<Vec<UnitName>, All
     Ok(names)
 }
 
-// Adds all names in lists of dependencies.
+// Appends all names in dependency lists.
 fn add_lists(names: &mut Vec<UnitName>, lists: &[DependencyList]) -> Result<(), AllocError>
     ensures added { OnOk result (names.new.items ≡ names.old.items ++ names_in_lists lists.now) }
 {
@@ -75,7 +75,7 @@ fn add_lists(names: &mut Vec<UnitName>, lists: &[DependencyList]) -> Result<(), 
     Ok(())
 }
 
-// Adds names to names.
+// Appends names.
 pub(crate) fn add_names(names: &mut Vec<UnitName>, more: &[UnitName]) -> Result<(), AllocError>
     ensures added { OnOk result (names.new.items ≡ names.old.items ++ more.now) }
 {

@@ -1,16 +1,16 @@
-//! Loads of a store.
+//! Loads a store, in one thread or by several workers.
 ghost use Rattle.std.specs.{Prelude.{◌≡◌, ◌↔◌, ◌⊎◌, ◌<◌, Err, IfOk, IfErr}, Option.{option_copied}};
-ghost use Rattle.path_maps.specs.Views.{view_of};
+ghost use Rattle.path_maps.specs.HostViews.{host_view_of};
 ghost use Rattle.list_laws.specs.Members.{IsAmong};
-ghost use Rattle.parallel_load.specs.{Loads.{IsLoad}, OwnWords.{AreOwnWords}, Refusals.{OnTooMany, OnWorkers}};
+ghost use Rattle.parallel_load.specs.{Loads.{IsLoad}, OwnLinkTargets.{AreOwnLinkTargets}, Refusals.{OnTooMany, OnWorkers}};
 ghost use Rattle.parallel_load.specs.{Universe.{IsSource, IsTooLarge}, declared.faults.LoadFault.TheVariants.{Workers}};
 
 use crate::faults::LoadFault;
-use crate::finishing::{settled, settled_by_workers};
+use crate::finishing::{normalized, normalized_by_workers};
 use crate::loaded::Loaded;
 use crate::loader::UnitLoader;
 use crate::sources::sources;
-use crate::words::KeptWords;
+use crate::words::CachedLinkTargets;
 use fragment_choice::AliasIndex;
 use name_closure::close_loaded;
 use plain_values::Shared;
@@ -18,26 +18,27 @@ use replica_store::{HostName, Store};
 use std::alloc::{AllocError, Global};
 use std::thread::Threads;
 use unit_name::UnitName;
-use worker_rounds::{Gate, close_loaded_by_workers, is_crew};
+use worker_rounds::{Gate, close_loaded_by_workers, is_worker_count};
 
-/// So many names are loaded at most, aliases counted.
+/// The most names that a load may have, aliases included.
 pub const MOST_NAMES: usize = 4096;
 
-/// All units that a host's manager must load from a store, or one without a host, with these names asked for beside all
-/// at which something is visible to it:
-/// the load of the least set of names that is closed under main names and under what units name (systemd.unit(5)).
+/// Loads all units that the manager of a host, or a manager without one, must load from a store: the universe of the
+/// names that are asked for and of all names at which something is visible, closed under main names and under what
+/// units name (systemd.unit(5)).
 ///
-/// `TooManyUnits` exactly where these names are more than 4,096, aliases counted; or `Memory` for want of memory, and
-/// `Workers` never. Linear in the bytes of the units' files, beside the logarithm of the number of names and of paths.
+/// `TooManyUnits` exactly if the universe has more than 4,096 names, aliases included. `Memory` if memory runs out.
+/// Never `Workers`. Linear in the bytes of the units' files, apart from a factor logarithmic in the numbers of names
+/// and paths.
 pub fn load_here(
     alloc: Global,
     store: &Store,
     host: Option<&HostName>,
     extra: &[UnitName],
 ) -> Result<Loaded, LoadFault>
-    ensures load { IfOk result (IsLoad (view_of store.now (option_copied host.entry)) extra.now) }
-    ensures over { IfErr result (λ fault. OnTooMany fault (IsTooLarge (view_of store.now (option_copied host.entry)) extra.now)) }
-    ensures not_over { IfOk result (λ _. ¬ IsTooLarge (view_of store.now (option_copied host.entry)) extra.now) }
+    ensures load { IfOk result (IsLoad (host_view_of store.now (option_copied host.entry)) extra.now) }
+    ensures over { IfErr result (λ fault. OnTooMany fault (IsTooLarge (host_view_of store.now (option_copied host.entry)) extra.now)) }
+    ensures not_over { IfOk result (λ _. ¬ IsTooLarge (host_view_of store.now (option_copied host.entry)) extra.now) }
     ensures no_workers { IfErr result (λ fault. OnWorkers fault ⊥) }
 {
     let Start {
@@ -46,15 +47,17 @@ pub fn load_here(
         loader,
     } = start_of(alloc, store, host, extra)?;
     let found = close_loaded(alloc, &loader, &sources, MOST_NAMES)?;
-    Ok(settled(alloc, host, extra, words, found)?)
+    Ok(normalized(alloc, host, extra, words, found)?)
 }
 
-/// The same load by 1 to 64 workers, whatever their number and whatever the gate answers; refusals too.
+/// The same load, and the same refusals, by 1 to 64 workers. Neither the number of workers nor the gate's answers
+/// change the result.
 ///
-/// `Workers` exactly where they aren't 1 to 64, before anything else. The new names of a round are cut in byte order into
-/// shares, none empty, as many as the lesser of the workers and the names, numbered from 0 in that round. Each share has a
-/// worker of its own, which asks the gate before it loads, at most 1,000,000 times. Workers also gather what a round names,
-/// and put main names in at the end, and ask no gate for it. It may wait for threads.
+/// `Workers`, before anything else, exactly if the number isn't 1 to 64. The closure runs in rounds. The new names of a
+/// round are cut, in byte order, into chunks that aren't empty: as many as there are workers, or as names if those are
+/// fewer, with indices from 0 in each round. Each chunk has its own worker, which asks the gate before it loads, at
+/// most 1,000,000 times. Workers also collect what a round names, and at the end replace names by main names; for that
+/// they ask no gate. May wait for threads.
 pub fn load_fleet<R: Threads + Sync, G: Gate + Sync>(
     rt: &R,
     alloc: Global,
@@ -65,11 +68,11 @@ pub fn load_fleet<R: Threads + Sync, G: Gate + Sync>(
     gate: &G,
 ) -> Result<Loaded, LoadFault>
     ensures workers { (result ≡ Err Workers) ↔ ((workers ≡ 0) ⊎ (64 < workers)) }
-    ensures load { IfOk result (IsLoad (view_of store.now (option_copied host.entry)) extra.now) }
-    ensures over { IfErr result (λ fault. OnTooMany fault (IsTooLarge (view_of store.now (option_copied host.entry)) extra.now)) }
-    ensures not_over { IfOk result (λ _. ¬ IsTooLarge (view_of store.now (option_copied host.entry)) extra.now) }
+    ensures load { IfOk result (IsLoad (host_view_of store.now (option_copied host.entry)) extra.now) }
+    ensures over { IfErr result (λ fault. OnTooMany fault (IsTooLarge (host_view_of store.now (option_copied host.entry)) extra.now)) }
+    ensures not_over { IfOk result (λ _. ¬ IsTooLarge (host_view_of store.now (option_copied host.entry)) extra.now) }
 {
-    if !is_crew(workers) {
+    if !is_worker_count(workers) {
         return Err(LoadFault::Workers);
     }
     let Start {
@@ -78,31 +81,30 @@ pub fn load_fleet<R: Threads + Sync, G: Gate + Sync>(
         loader,
     } = start_of(alloc, store, host, extra)?;
     let found = close_loaded_by_workers(rt, alloc, &loader, &sources, MOST_NAMES, workers, gate)?;
-    Ok(settled_by_workers(rt, alloc, host, extra, words, found, workers)?)
+    Ok(normalized_by_workers(rt, alloc, host, extra, words, found, workers)?)
 }
 
-// Where a load begins: the words of what is seen, the names that are asked for and all at which something is visible, and what
-// loads names.
+// Where a load begins: the link targets that are seen, the source names, and the loader.
 #[derive(Drop)]
 struct Start<'a> {
-    words: Shared<KeptWords>,
+    words: Shared<CachedLinkTargets>,
     sources: Vec<UnitName>,
     loader: UnitLoader<'a>,
 }
 
-// Where the load of a store begins for a host, or without one. It fails for want of memory alone.
+// The start of a load for a host, or without one. Fails only if memory runs out.
 fn start_of<'a>(
     alloc: Global,
     store: &'a Store,
     host: Option<&'a HostName>,
     extra: &[UnitName],
 ) -> Result<Start<'a>, AllocError>
-    ensures words { IfOk result (λ start. AreOwnWords (view_of store.now (option_copied host.entry)) start.words) }
+    ensures words { IfOk result (λ start. AreOwnLinkTargets (host_view_of store.now (option_copied host.entry)) start.words) }
     ensures sources { IfOk result (λ start. (n : _) → IsAmong n start.sources.items
-        ↔ IsSource (view_of store.now (option_copied host.entry)) extra.now n) }
-    ensures seen { IfOk result (λ start. start.loader.index ≡ view_of store.now (option_copied host.entry)) }
+        ↔ IsSource (host_view_of store.now (option_copied host.entry)) extra.now n) }
+    ensures view { IfOk result (λ start. start.loader.index ≡ host_view_of store.now (option_copied host.entry)) }
 {
-    let words = KeptWords::of(alloc, &store.seen_by(host))?;
+    let words = CachedLinkTargets::of(alloc, &store.host_view(host))?;
     let sources = sources(alloc, &words, extra)?;
     let words = Shared::new(alloc, words)?;
     let index = AliasIndex::of(alloc, store, host)?;

@@ -1,11 +1,11 @@
-//! Dependencies by main names and by their numbers.
+//! Dependencies by main names and by indices.
 ghost use Rattle.std.specs.{Prelude.{◌≡◌, ◌<◌, ◌++◌, IfOk, IfSome, IsTrue, OnOk, length, map}, FinMap.{is_sorted}, List.{flat_map}};
 ghost use Rattle.unit_name.specs.Names.{name_cmp};
-ghost use Rattle.parallel_load.specs.{Indexes.{key_at}, Numbers.{name_of}, Loads.{with_lists}, Numbering.{AreNumbered, IsMainNumber}};
-ghost use Rattle.parallel_load.specs.Settled.{list_numbers, list_settled, other_number, settled_name};
+ghost use Rattle.parallel_load.specs.{Indexes.{key_at}, Indices.{name_of}, Loads.{with_lists}, Indexing.{AreIndexed, IsMainIndex}};
+ghost use Rattle.parallel_load.specs.Normalized.{list_indices, list_normalized, other_index, normalized_name};
 ghost use Rattle.parallel_load.specs.declared.loaded.NameLoad.TheVariants.{Unit as OfUnit};
 
-use crate::kept::{Kept, LoadHeld, NamedLists};
+use crate::kept::{LoadHeld, NamedLists, RawLoad};
 use crate::loaded::{Dependency, NameLoad};
 use plain_values::{Items, Shared, TryClone};
 use setting_rules::{DependencyList, in_byte_order};
@@ -16,7 +16,7 @@ use std::mem;
 use unit_loads::Unit;
 use unit_name::UnitName;
 
-/// The names of a load in byte order, each with the number of its main name: that name's place among them.
+/// The names of a load in byte order, each with the index of its main name: the position of that name among them.
 #[derive(Debug, Drop)]
 pub(crate) struct Mains {
     names: Vec<(UnitName, usize)>,
@@ -34,9 +34,10 @@ impl Model for Mains {
     ghost invariant = { λ m. IsIndex m.names.items };
 }
 
-/// A name with what it stands for, its dependencies by main names, the lists that it had before, and the same by numbers.
+/// A name with what it resolves to, its dependencies by main names, the lists that it had before, and its dependencies
+/// by indices.
 #[derive(Drop)]
-pub(crate) struct Settled {
+pub(crate) struct Normalized {
     pub name: UnitName,
     pub load: NameLoad,
     pub lists: NamedLists,
@@ -44,95 +45,105 @@ pub(crate) struct Settled {
 }
 
 impl Mains {
-    /// Those of names in byte order. It fails for want of memory alone. One search for each alias.
-    pub fn of(alloc: Global, names: &[(UnitName, Kept)]) -> Result<Mains, AllocError>
+    /// The indices of these names, which are in byte order. One search for each alias. Fails only if memory runs out.
+    pub fn of(alloc: Global, names: &[(UnitName, RawLoad)]) -> Result<Mains, AllocError>
         requires sorted { IsTrue (is_sorted name_cmp names.now) }
-        ensures mains { IfOk result (AreNumbered names.now names.now) }
+        ensures mains { IfOk result (AreIndexed names.now names.now) }
     {
-        let names = main_numbers(alloc, names)?;
+        let names = main_indices(alloc, names)?;
         Ok(Mains { names })
     }
 
-    // The number of a name's main name, unless that is the unit. None too for a name that isn't in the load.
+    // The index of a name's main name. None if that is the unit itself, and for a name outside the load.
     fn other(&self, unit: &UnitName, name: &UnitName) -> Option<usize>
-        ensures number { result ≡ other_number self.now unit.now name.now }
+        ensures index { result ≡ other_index self.now unit.now name.now }
         ensures within { IfSome result (λ i. i < length self.now) }
     {
         match seek(&self.names, name) {
             Ok(at) => {
-                let number = self.names[at].1;
-                if self.names[number].0 == *unit {
+                let index = self.names[at].1;
+                if self.names[index].0 == *unit {
                     None
                 } else {
-                    Some(number)
+                    Some(index)
                 }
             }
             Err(_) => None,
         }
     }
 
-    // The name that has a number.
-    fn name(&self, number: usize) -> &UnitName
-        requires within { number < length self.now }
-        ensures name { result.now ≡ key_at self.now number }
+    // The name with an index.
+    fn name(&self, index: usize) -> &UnitName
+        requires within { index < length self.now }
+        ensures name { result.now ≡ key_at self.now index }
     {
-        &self.names[number].0
+        &self.names[index].0
     }
 
-    /// Names with what they stand for, dependencies by main names and by numbers. It fails for want of memory alone.
-    pub fn settle_all(
+    /// Replaces names by main names and by indices, for all of these names. Fails only if memory runs out.
+    pub fn normalize_all(
         &self,
         alloc: Global,
-        names: Vec<(UnitName, Kept)>,
-    ) -> Result<Vec<Settled>, AllocError>
-        ensures names { IfOk result (λ all. all.items ≡ map (settled_name self.now) names.items) }
+        names: Vec<(UnitName, RawLoad)>,
+    ) -> Result<Vec<Normalized>, AllocError>
+        ensures names { IfOk result (λ all. all.items ≡ map (normalized_name self.now) names.items) }
     {
         let mut all = Vec::with_capacity(alloc, names.len())?;
         for (name, kept) in names {
-            all.push(self.settle(alloc, name, kept)?)?;
+            all.push(self.normalize(alloc, name, kept)?)?;
         }
         Ok(all)
     }
 
-    // A name with what it stands for, dependencies by main names and by numbers.
-    pub fn settle(&self, alloc: Global, name: UnitName, kept: Kept) -> Result<Settled, AllocError>
-        ensures one { IfOk result (λ one. one ≡ settled_name self.now (name, kept)) }
+    // Replaces names by main names and by indices, for one name.
+    pub fn normalize(
+        &self,
+        alloc: Global,
+        name: UnitName,
+        kept: RawLoad,
+    ) -> Result<Normalized, AllocError>
+        ensures one { IfOk result (λ one. one ≡ normalized_name self.now (name, kept)) }
     {
-        let Kept { held } = kept;
+        let RawLoad { held } = kept;
         match held {
-            LoadHeld::Fresh(unit) => self.settle_unit(alloc, name, Box::into_inner(unit)),
-            LoadHeld::Alias(main) => Ok(Settled {
+            LoadHeld::Fresh(unit) => self.normalize_unit(alloc, name, Box::into_inner(unit)),
+            LoadHeld::Alias(main) => Ok(Normalized {
                 name,
                 load: NameLoad::Alias(main),
                 lists: NamedLists::nowhere(),
                 deps: Shared::new(alloc, Items::new(alloc))?,
             }),
-            LoadHeld::Unit(unit, lists) => self.settle_again(alloc, name, unit, lists),
+            LoadHeld::Unit(unit, lists) => self.normalize_again(alloc, name, unit, lists),
         }
     }
 
     // The same for a unit that was read.
-    fn settle_unit(&self, alloc: Global, name: UnitName, unit: Unit) -> Result<Settled, AllocError>
-        ensures one { IfOk result (λ one. one ≡ settled_name self.now (name, OfUnit unit)) }
+    fn normalize_unit(
+        &self,
+        alloc: Global,
+        name: UnitName,
+        unit: Unit,
+    ) -> Result<Normalized, AllocError>
+        ensures one { IfOk result (λ one. one ≡ normalized_name self.now (name, OfUnit unit)) }
     {
         let mut unit = unit;
         let mut deps = Items::new(alloc);
-        let settled = self.settle_lists(alloc, &unit.name, unit.deps.as_slice(), &mut deps)?;
+        let normalized = self.normalize_lists(alloc, &unit.name, unit.deps.as_slice(), &mut deps)?;
         let deps = Shared::new(alloc, deps)?;
-        if unit.deps == settled {
+        if unit.deps == normalized {
             let unit = Shared::new(alloc, unit)?;
             let lists = NamedLists::of_unit(unit.try_clone()?);
             let load = NameLoad::Unit(unit);
-            return Ok(Settled {
+            return Ok(Normalized {
                 name,
                 load,
                 lists,
                 deps,
             });
         }
-        let lists = NamedLists::alone(alloc, mem::replace(&mut unit.deps, settled))?;
+        let lists = NamedLists::alone(alloc, mem::replace(&mut unit.deps, normalized))?;
         let load = NameLoad::Unit(Shared::new(alloc, unit)?);
-        Ok(Settled {
+        Ok(Normalized {
             name,
             load,
             lists,
@@ -140,21 +151,26 @@ impl Mains {
         })
     }
 
-    // The same for a unit of another load, with what it named there. It is shared where it stays as it is.
-    fn settle_again(
+    // The same for a unit of another load, with what it named there. The unit is shared if it stays as it is.
+    fn normalize_again(
         &self,
         alloc: Global,
         name: UnitName,
         unit: Shared<Unit>,
         lists: NamedLists,
-    ) -> Result<Settled, AllocError>
-        ensures one { IfOk result (λ one. one ≡ settled_name self.now (name, with_lists (OfUnit unit) lists)) }
+    ) -> Result<Normalized, AllocError>
+        ensures one { IfOk result (λ one. one ≡ normalized_name self.now (name, with_lists (OfUnit unit) lists)) }
     {
         let mut deps = Items::new(alloc);
-        let settled = self.settle_lists(alloc, &unit.get().name, lists.as_slice(), &mut deps)?;
+        let normalized = self.normalize_lists(
+            alloc,
+            &unit.get().name,
+            lists.as_slice(),
+            &mut deps,
+        )?;
         let deps = Shared::new(alloc, deps)?;
-        let load = NameLoad::Unit(with_dependencies(alloc, unit, settled)?);
-        Ok(Settled {
+        let load = NameLoad::Unit(with_dependencies(alloc, unit, normalized)?);
+        Ok(Normalized {
             name,
             load,
             lists,
@@ -162,41 +178,41 @@ impl Mains {
         })
     }
 
-    // Lists of a unit's dependencies by main names, which are added by numbers.
-    fn settle_lists(
+    // Dependency lists by main names. Appends the dependencies by indices.
+    fn normalize_lists(
         &self,
         alloc: Global,
         unit: &UnitName,
         lists: &[DependencyList],
         deps: &mut Items<Dependency>,
     ) -> Result<Items<DependencyList>, AllocError>
-        ensures lists { IfOk result (λ settled. settled ≡ map (list_settled self.now unit.now) lists.now) }
-        ensures deps { OnOk result (deps.new ≡ deps.old ++ flat_map (list_numbers self.now unit.now) lists.now) }
+        ensures lists { IfOk result (λ normalized. normalized ≡ map (list_normalized self.now unit.now) lists.now) }
+        ensures deps { OnOk result (deps.new ≡ deps.old ++ flat_map (list_indices self.now unit.now) lists.now) }
     {
-        let mut settled = Vec::with_capacity(alloc, lists.len())?;
+        let mut normalized = Vec::with_capacity(alloc, lists.len())?;
         for list in lists {
-            settled.push(self.settle_list(alloc, unit, list, deps)?)?;
+            normalized.push(self.normalize_list(alloc, unit, list, deps)?)?;
         }
-        Ok(Items::from_vec(settled))
+        Ok(Items::from_vec(normalized))
     }
 
-    // A list of a unit's dependencies by main names, which are added by numbers.
-    fn settle_list(
+    // One dependency list by main names. Appends the dependencies by indices.
+    fn normalize_list(
         &self,
         alloc: Global,
         unit: &UnitName,
         list: &DependencyList,
         deps: &mut Items<Dependency>,
     ) -> Result<DependencyList, AllocError>
-        ensures list { IfOk result (λ settled. settled ≡ list_settled self.now unit.now list.now) }
-        ensures deps { OnOk result (deps.new ≡ deps.old ++ list_numbers self.now unit.now list.now) }
+        ensures list { IfOk result (λ normalized. normalized ≡ list_normalized self.now unit.now list.now) }
+        ensures deps { OnOk result (deps.new ≡ deps.old ++ list_indices self.now unit.now list.now) }
     {
         let kind = list.kind;
         let mut mains = Vec::new(alloc);
         for name in list.names.as_slice() {
-            if let Some(number) = self.other(unit, name) {
-                mains.push(self.name(number).try_clone()?)?;
-                deps.push(Dependency { kind, number })?;
+            if let Some(index) = self.other(unit, name) {
+                mains.push(self.name(index).try_clone()?)?;
+                deps.push(Dependency { kind, index })?;
             }
         }
         Ok(DependencyList {
@@ -206,7 +222,7 @@ impl Mains {
     }
 }
 
-// A unit with these dependencies: itself, where it has them already.
+// The unit with these dependencies. It is the same shared unit if it has them already.
 fn with_dependencies(
     alloc: Global,
     unit: Shared<Unit>,
@@ -222,33 +238,33 @@ fn with_dependencies(
     Shared::new(alloc, copy)
 }
 
-// Names in byte order, each with the number of its main name.
-fn main_numbers(
+// Names in byte order, each with the index of its main name.
+fn main_indices(
     alloc: Global,
-    names: &[(UnitName, Kept)],
+    names: &[(UnitName, RawLoad)],
 ) -> Result<Vec<(UnitName, usize)>, AllocError>
     requires sorted { IsTrue (is_sorted name_cmp names.now) }
-    ensures numbered { IfOk result (λ numbers. AreNumbered names.now names.now numbers.items) }
+    ensures indexed { IfOk result (λ indices. AreIndexed names.now names.now indices.items) }
 {
-    let mut numbers = Vec::with_capacity(alloc, names.len())?;
-    for (number, (name, kept)) in names.iter().enumerate() {
-        let main = main_number(names, number, kept);
-        numbers.push((name.try_clone()?, main))?;
+    let mut indices = Vec::with_capacity(alloc, names.len())?;
+    for (index, (name, kept)) in names.iter().enumerate() {
+        let main = main_index(names, index, kept);
+        indices.push((name.try_clone()?, main))?;
     }
-    Ok(numbers)
+    Ok(indices)
 }
 
-// The number of the main name of the name that has a number, by what that stands for.
-fn main_number(names: &[(UnitName, Kept)], number: usize, kept: &Kept) -> usize
+// The index of the main name of the name with an index, from what that name resolves to.
+fn main_index(names: &[(UnitName, RawLoad)], index: usize, kept: &RawLoad) -> usize
     requires sorted { IsTrue (is_sorted name_cmp names.now) }
-    requires number { number < length names.now }
-    ensures main { IsMainNumber names.now (name_of names.now number, kept.now) result }
+    requires index { index < length names.now }
+    ensures main { IsMainIndex names.now (name_of names.now index, kept.now) result }
 {
     match kept.main() {
-        None => number,
+        None => index,
         Some(main) => match seek(names, main) {
             Ok(at) => at,
-            Err(_) => number,
+            Err(_) => index,
         },
     }
 }

@@ -1,21 +1,21 @@
-//! Loads that are refreshed where little changed.
+//! Refreshes a load after few changes.
 ghost use Rattle.std.specs.{Prelude.{◌≡◌, ◌≤◌, IfOk, IfErr, IfSome, length}, BTreeMap.{keys}, List.{All}, List.Sorted.{IsStrictlySortedBy}};
-ghost use Rattle.path_maps.specs.Views.{view_of};
+ghost use Rattle.path_maps.specs.HostViews.{host_view_of};
 ghost use Rattle.unit_name.specs.Names.{name_cmp};
-ghost use Rattle.parallel_load.specs.{Found.{IsFound}, Loads.{IsLoad}, Patched.{AreUnitsOf, IsRefreshed}, Refreshes.{IsBefore}, Refusals.{OnTooMany, OnWorkers}};
-ghost use Rattle.parallel_load.specs.{Touched.{HasParts, KeepsWords}, Universe.{IsTooLarge}};
+ghost use Rattle.parallel_load.specs.{FoundNames.{IsFound}, Loads.{IsLoad}, Patched.{AreUnitsOf, IsRefreshed}, Refreshes.{IsBefore}, Refusals.{OnTooMany, OnWorkers}};
+ghost use Rattle.parallel_load.specs.{Touched.{HasParts, KeepsLinkTargets}, Universe.{IsTooLarge}};
 
+use crate::affected_units::indices_affected;
 use crate::faults::LoadFault;
-use crate::finishing::{copy_of_load, settled};
+use crate::finishing::{copy_of_load, normalized};
 use crate::held::{HeldLoader, still_of};
-use crate::hits::numbers_hit;
-use crate::kept::Kept;
+use crate::kept::RawLoad;
 use crate::loaded::{Loaded, Patches};
 use crate::loader::UnitLoader;
 use crate::loads::{MOST_NAMES, load_here};
 use crate::patching::patches;
 use crate::sources::sources;
-use crate::touched::{keeps_words, parts_touched};
+use crate::touched::{keeps_link_targets, parts_touched};
 use fragment_choice::AliasIndex;
 use name_closure::close_loaded;
 use plain_values::{Bytes, TryClone};
@@ -24,26 +24,27 @@ use std::alloc::AllocError;
 use std::collections::BTreeMap;
 use unit_name::UnitName;
 
-/// What became of a load that is refreshed.
+/// The result of refreshing a load that the caller gives away.
 #[derive(Debug, Drop)]
 pub enum Refreshed {
-    /// The load, of whose units some were read again. Its names are those that it had, with the same dependencies by numbers.
+    /// The refreshed load: some of its units were read again. Names and dependencies by indices are those of the old
+    /// load.
     InPlace(Loaded),
-    /// The load as it was, and another.
+    /// The old load as it was, and the new one.
     Anew(Loaded, Loaded),
 }
 
-/// The load of a store, made from the load of another, where these places are all at which the two show otherwise: what
-/// `load_here` gives from the store for the same host with the same names asked for, refusals too.
+/// Makes the load of a store from the load of another, when these places are all at which the two stores show different
+/// contents. The result, refusals included, is that of `load_here` for the same host and the same names.
 ///
-/// A unit is read again only where one of the places at which the host looks is in its footprint, or where it is new; the
-/// others are shared with the load from which it is made. All is loaded anew where what names lead to, or at which names
-/// something is visible, may be another: where a link of one component comes, goes or turns, or the first or last file of a name.
+/// Reads a unit again only if it is new, or if a changed place that the host sees is in its footprint; all others are
+/// shared with the old load. Loads everything anew if aliases or the set of visible names may differ: where a link at a
+/// path of one component comes, goes or changes its target, or the first or last file of a name comes or goes.
 pub fn refresh(loaded: &Loaded, store: &Store, touched: &[Place]) -> Result<Loaded, LoadFault>
     requires before { IsBefore loaded.now store.now touched.now }
-    ensures load { IfOk result (IsLoad (view_of store.now loaded.now.host) loaded.now.extra) }
-    ensures over { IfErr result (λ fault. OnTooMany fault (IsTooLarge (view_of store.now loaded.now.host) loaded.now.extra)) }
-    ensures not_over { IfOk result (λ _. ¬ IsTooLarge (view_of store.now loaded.now.host) loaded.now.extra) }
+    ensures load { IfOk result (IsLoad (host_view_of store.now loaded.now.host) loaded.now.extra) }
+    ensures over { IfErr result (λ fault. OnTooMany fault (IsTooLarge (host_view_of store.now loaded.now.host) loaded.now.extra)) }
+    ensures not_over { IfOk result (λ _. ¬ IsTooLarge (host_view_of store.now loaded.now.host) loaded.now.extra) }
     ensures no_workers { IfErr result (λ fault. OnWorkers fault ⊥) }
 {
     match patches_for(loaded, store, touched)? {
@@ -52,17 +53,17 @@ pub fn refresh(loaded: &Loaded, store: &Store, touched: &[Place]) -> Result<Load
     }
 }
 
-/// The same of a load that is given away, which is changed in its place where its names and what each of them names stay. It
-/// then costs what was read, and a look at each name. Where it is refused, the load is gone.
+/// The same for a load that the caller gives away. It is changed in place if its names and what each of them names
+/// stay; that costs reading the affected units and a look at each name. After a refusal the old load is gone.
 pub fn refresh_in_place(
     loaded: Loaded,
     store: &Store,
     touched: &[Place],
 ) -> Result<Refreshed, LoadFault>
     requires before { IsBefore loaded store.now touched.now }
-    ensures load { IfOk result (IsRefreshed (view_of store.now loaded.host) loaded) }
-    ensures over { IfErr result (λ fault. OnTooMany fault (IsTooLarge (view_of store.now loaded.host) loaded.extra)) }
-    ensures not_over { IfOk result (λ _. ¬ IsTooLarge (view_of store.now loaded.host) loaded.extra) }
+    ensures load { IfOk result (IsRefreshed (host_view_of store.now loaded.host) loaded) }
+    ensures over { IfErr result (λ fault. OnTooMany fault (IsTooLarge (host_view_of store.now loaded.host) loaded.extra)) }
+    ensures not_over { IfOk result (λ _. ¬ IsTooLarge (host_view_of store.now loaded.host) loaded.extra) }
     ensures no_workers { IfErr result (λ fault. OnWorkers fault ⊥) }
 {
     match patches_for(&loaded, store, touched)? {
@@ -74,64 +75,64 @@ pub fn refresh_in_place(
     }
 }
 
-// The units that must be read again, where names stay, and what each of them names. None where they may not.
+// The units that have to be read again, if all names and what each of them names stay. None if that may not hold.
 fn patches_for(
     loaded: &Loaded,
     store: &Store,
     touched: &[Place],
 ) -> Result<Option<Patches>, AllocError>
     requires before { IsBefore loaded.now store.now touched.now }
-    ensures units { IfOk result (λ patches. IfSome patches (AreUnitsOf (view_of store.now loaded.now.host) loaded.now)) }
+    ensures units { IfOk result (λ patches. IfSome patches (AreUnitsOf (host_view_of store.now loaded.now.host) loaded.now)) }
 {
     let alloc = loaded.allocator();
-    if !keeps_words(alloc, loaded, store, touched)? {
+    if !keeps_link_targets(alloc, loaded, store, touched)? {
         return Ok(None);
     }
     let parts = parts_touched(alloc, loaded.host(), touched)?;
     patches(loaded, store, touched, &parts)
 }
 
-// The load where names may come or go: what stays is taken from the load that there is, if words stay.
+// The load where names may come or go. Takes what stays from the old load, if link targets stay.
 fn refreshed_anew(loaded: &Loaded, store: &Store, touched: &[Place]) -> Result<Loaded, LoadFault>
     requires before { IsBefore loaded.now store.now touched.now }
-    ensures load { IfOk result (IsLoad (view_of store.now loaded.now.host) loaded.now.extra) }
-    ensures over { IfErr result (λ fault. OnTooMany fault (IsTooLarge (view_of store.now loaded.now.host) loaded.now.extra)) }
-    ensures not_over { IfOk result (λ _. ¬ IsTooLarge (view_of store.now loaded.now.host) loaded.now.extra) }
+    ensures load { IfOk result (IsLoad (host_view_of store.now loaded.now.host) loaded.now.extra) }
+    ensures over { IfErr result (λ fault. OnTooMany fault (IsTooLarge (host_view_of store.now loaded.now.host) loaded.now.extra)) }
+    ensures not_over { IfOk result (λ _. ¬ IsTooLarge (host_view_of store.now loaded.now.host) loaded.now.extra) }
     ensures no_workers { IfErr result (λ fault. OnWorkers fault ⊥) }
 {
     let alloc = loaded.allocator();
     let host = loaded.host();
-    if !keeps_words(alloc, loaded, store, touched)? {
+    if !keeps_link_targets(alloc, loaded, store, touched)? {
         return load_here(alloc, store, host, loaded.extra());
     }
     let parts = parts_touched(alloc, host, touched)?;
     let found = found_again(loaded, store, touched, &parts)?;
     let words = loaded.words().try_clone()?;
-    Ok(settled(alloc, host, loaded.extra(), words, found)?)
+    Ok(normalized(alloc, host, loaded.extra(), words, found)?)
 }
 
-// What is found where words stay, and all paths that changed begin with these parts: what stays is taken from the load.
+// The closure where link targets stay and all changed paths begin with these parts. Takes what stays from the old load.
 fn found_again(
     loaded: &Loaded,
     store: &Store,
     touched: &[Place],
     parts: &[Bytes],
-) -> Result<BTreeMap<UnitName, Kept>, LoadFault>
+) -> Result<BTreeMap<UnitName, RawLoad>, LoadFault>
     requires before { IsBefore loaded.now store.now touched.now }
-    requires words { All (KeepsWords loaded.now.host loaded.now.words (view_of store.now loaded.now.host)) touched.now }
+    requires words { All (KeepsLinkTargets loaded.now.host loaded.now.words (host_view_of store.now loaded.now.host)) touched.now }
     requires parts { All (HasParts loaded.now.host parts.now) touched.now }
-    ensures found { IfOk result (λ found. IsFound (view_of store.now loaded.now.host) loaded.now.extra found.entries) }
-    ensures rising { IfOk result (λ found. IsStrictlySortedBy name_cmp (keys found)) }
+    ensures found { IfOk result (λ found. IsFound (host_view_of store.now loaded.now.host) loaded.now.extra found.entries) }
+    ensures ascending { IfOk result (λ found. IsStrictlySortedBy name_cmp (keys found)) }
     ensures few { IfOk result (λ found. length found.entries ≤ 4096) }
-    ensures over { IfErr result (λ fault. OnTooMany fault (IsTooLarge (view_of store.now loaded.now.host) loaded.now.extra)) }
+    ensures over { IfErr result (λ fault. OnTooMany fault (IsTooLarge (host_view_of store.now loaded.now.host) loaded.now.extra)) }
     ensures no_workers { IfErr result (λ fault. OnWorkers fault ⊥) }
 {
     let alloc = loaded.allocator();
     let host = loaded.host();
     let words = loaded.words();
     let sources = sources(alloc, words.get(), loaded.extra())?;
-    let hit = numbers_hit(loaded, parts)?;
-    let held = still_of(alloc, loaded, &hit)?;
+    let affected = indices_affected(loaded, parts)?;
+    let held = still_of(alloc, loaded, &affected)?;
     let index = AliasIndex::of(alloc, store, host)?;
     let loader = HeldLoader::of(UnitLoader::new(index), held);
     Ok(close_loaded(alloc, &loader, &sources, MOST_NAMES)?)

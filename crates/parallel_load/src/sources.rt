@@ -1,17 +1,17 @@
-//! The names from which a load begins.
+//! The source names of a load.
 ghost use Rattle.std.specs.Prelude.{◌≡◌, IfOk};
 ghost use Rattle.parallel_load.specs.Sources.{AreSourcesBy, whole_name};
 
 use crate::loader::add_names;
-use crate::words::KeptWords;
+use crate::words::CachedLinkTargets;
 use std::alloc::{AllocError, Global};
 use unit_name::{NameFault, UnitName};
 
-/// The names that are asked for, and all at which something is visible; some more than once. One pass over the latter. It fails for
-/// want of memory alone.
+/// The names that are asked for, then all names at which something is visible; a name may occur more than once. One
+/// pass over the latter. Fails only if memory runs out.
 pub(crate) fn sources(
     alloc: Global,
-    words: &KeptWords,
+    words: &CachedLinkTargets,
     extra: &[UnitName],
 ) -> Result<Vec<UnitName>, AllocError>
     ensures sources { IfOk result (λ names. AreSourcesBy words.now extra.now names.items) }
@@ -26,7 +26,7 @@ pub(crate) fn sources(
     Ok(names)
 }
 
-// The unit name that these bytes are, if they are one and no template's.
+// These bytes as a unit name. None if they are none, or a template's.
 fn whole_name(alloc: Global, bytes: &[u8]) -> Result<Option<UnitName>, AllocError>
     ensures name { IfOk result (λ name. name ≡ whole_name bytes.now) }
 {

@@ -1,57 +1,58 @@
-//! The places that changed, as a host looks at them.
+//! The changed places that a host sees.
 ghost use Rattle.std.specs.{Prelude.{◌≡◌, true, is_some, IfOk, OnOk}, List.{All}, Option.{option_copied}};
 ghost use Rattle.load_places.specs.Levels.{level_for};
-ghost use Rattle.path_maps.specs.Views.{view_of};
-ghost use Rattle.parallel_load.specs.Touched.{AddsParts, HasParts, KeepsWords};
+ghost use Rattle.path_maps.specs.HostViews.{host_view_of};
+ghost use Rattle.parallel_load.specs.Touched.{AddsParts, HasParts, KeepsLinkTargets};
 
 use crate::loaded::Loaded;
-use crate::words::{AliasWords, KeptWords};
+use crate::words::{CachedLinkTargets, LinkTargets};
 use plain_values::Bytes;
-use replica_store::{HostName, Path, Place, Scope, Seen, Store};
+use replica_store::{HostName, HostView, Path, Place, Scope, Store};
 use std::alloc::{AllocError, Global};
 
-/// Whether each of the places of one component at which the load's host looks, or a manager without one, leaves what is said of
-/// its name's aliases, and whether something is visible there, as the load keeps it. It fails for want of memory alone.
-pub(crate) fn keeps_words(
+/// Whether the changed places leave all link targets, and which names are visible, as the load has cached them. Looks
+/// at those places of one component that the load's host, or a manager without one, sees. Fails only if memory runs
+/// out.
+pub(crate) fn keeps_link_targets(
     alloc: Global,
     loaded: &Loaded,
     store: &Store,
     touched: &[Place],
 ) -> Result<bool, AllocError>
     ensures kept { IfOk result (λ kept. kept ≡ true
-        → All (KeepsWords loaded.now.host loaded.now.words (view_of store.now loaded.now.host)) touched.now) }
+        → All (KeepsLinkTargets loaded.now.host loaded.now.words (host_view_of store.now loaded.now.host)) touched.now) }
 {
     let host = loaded.host();
     let words = loaded.words();
-    let seen = store.seen_by(host);
+    let view = store.host_view(host);
     for place in touched {
-        if !keeps_words_at(alloc, words.get(), &seen, host, place)? {
+        if !keeps_link_targets_at(alloc, words.get(), &view, host, place)? {
             return Ok(false);
         }
     }
     Ok(true)
 }
 
-// The same of one place.
-fn keeps_words_at(
+// The same for one place.
+fn keeps_link_targets_at(
     alloc: Global,
-    words: &KeptWords,
-    seen: &Seen,
+    words: &CachedLinkTargets,
+    view: &HostView,
     host: Option<&HostName>,
     place: &Place,
 ) -> Result<bool, AllocError>
-    ensures kept { IfOk result (λ kept. kept ≡ true → KeepsWords (option_copied host.entry) words.now seen.now place.now) }
+    ensures kept { IfOk result (λ kept. kept ≡ true → KeepsLinkTargets (option_copied host.entry) words.now view.now place.now) }
 {
-    if !is_seen(host, place) || !place.path.folder().is_empty() {
+    if !is_viewed(host, place) || !place.path.folder().is_empty() {
         return Ok(true);
     }
     let name = Bytes::from_slice(alloc, place.path.name())?;
-    let now = AliasWords::of(alloc, seen, name.as_slice())?;
+    let now = LinkTargets::of(alloc, view, name.as_slice())?;
     Ok(words.have(&name, &now))
 }
 
-/// The first components of the places at which it looks; of one without a folder the empty one too. It fails for want of memory
-/// alone.
+/// The first components of the places that the host sees, and the empty component for a path without a folder. Fails
+/// only if memory runs out.
 pub(crate) fn parts_touched(
     alloc: Global,
     host: Option<&HostName>,
@@ -61,14 +62,14 @@ pub(crate) fn parts_touched(
 {
     let mut parts = Vec::new(alloc);
     for place in touched {
-        if is_seen(host, place) {
+        if is_viewed(host, place) {
             add_parts(alloc, &mut parts, &place.path)?;
         }
     }
     Ok(parts)
 }
 
-// Adds the first component of a path, and the empty one where that is its name.
+// Adds the first component of a path, and the empty one if that component is the path's name.
 fn add_parts(alloc: Global, parts: &mut Vec<Bytes>, path: &Path) -> Result<(), AllocError>
     ensures added { OnOk result (AddsParts path.now parts.old.items parts.new.items) }
 {
@@ -79,9 +80,9 @@ fn add_parts(alloc: Global, parts: &mut Vec<Bytes>, path: &Path) -> Result<(), A
     Ok(())
 }
 
-// Whether a host looks at a place, or a manager without one.
-fn is_seen(host: Option<&HostName>, place: &Place) -> bool
-    ensures seen { result ≡ is_some (level_for (option_copied host.entry) place.now) }
+// Whether the host, or a manager without one, sees a place.
+fn is_viewed(host: Option<&HostName>, place: &Place) -> bool
+    ensures view { result ≡ is_some (level_for (option_copied host.entry) place.now) }
 {
     match (&place.scope, host) {
         (Scope::Fleet, _) => true,

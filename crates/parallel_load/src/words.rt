@@ -1,56 +1,56 @@
-//! What a load keeps of the places of one component: of each name at which something is visible what that says of aliases. So a
-//! load tells whether another store says the same.
+//! What a load caches of the paths of one component: the link targets of each visible name. By these a load can tell
+//! whether another store has the same aliases.
 ghost use Rattle.std.specs.{Prelude.{◌≡◌, ◌↔◌, ◌++◌, [], true, IfOk, OnOk, map}, List.Sorted.{IsStrictlySortedBy}, Option.{option_copied}};
 ghost use Rattle.list_laws.specs.Members.{IsAmong};
 ghost use Rattle.unit_name.specs.Names.{name_cmp};
-ghost use Rattle.fragment_choice.specs.{AliasWordLaws.{IsShown}, AliasWords.{alias_words}};
-ghost use Rattle.parallel_load.specs.{OwnWords.{AreOwnWords, words_in}, Sources.{shown_names}, Words.{IsWordAt, IsWordOf, with_own_words}};
+ghost use Rattle.fragment_choice.specs.{LinkTargetLaws.{IsShown}, LinkTargets.{link_targets}};
+ghost use Rattle.parallel_load.specs.{OwnLinkTargets.{AreOwnLinkTargets, words_in}, Sources.{shown_names}, Words.{IsOwnLinkAt, IsOwnLinkOf, with_own_link_targets}};
 
 use load_places::LEVELS;
 use plain_values::{Bytes, Items};
-use replica_store::{Content, Seen};
+use replica_store::{Content, HostView};
 use sorted_pairs::seek;
 use std::alloc::{AllocError, Global};
 use std::marker::Model;
 
-/// What a name's own places say of aliases, level by level: the targets of its links, as far as a file or a link to `/dev/null`,
-/// which ends them.
+/// The link targets at a name's own paths, level by level, up to a file or a link to `/dev/null`, which ends the list.
 #[derive(Debug, Drop)]
-pub(crate) struct AliasWords {
+pub(crate) struct LinkTargets {
     links: Items<Bytes>,
     ends: bool,
 }
 
-impl Model for AliasWords {
+impl Model for LinkTargets {
     ghost use Rattle.std.specs.Prelude.{List};
-    ghost use Rattle.fragment_choice.specs.AliasWords.{Target};
-    ghost use Rattle.parallel_load.specs.OwnWords.{coded_words, words_with};
+    ghost use Rattle.fragment_choice.specs.LinkTargets.{Target};
+    ghost use Rattle.parallel_load.specs.OwnLinkTargets.{coded_link_targets, link_targets_with};
 
     ghost Value = { List Target };
 
-    ghost coded = { coded_words };
+    ghost coded = { coded_link_targets };
 
-    ghost view = { λ w. words_with w.links w.ends };
+    ghost view = { λ w. link_targets_with w.links w.ends };
 }
 
-impl AliasWords {
-    /// Those of a name. Eight searches at most; it fails for want of memory alone, and asks for none where there is no link.
-    pub fn of(alloc: Global, seen: &Seen, name: &[u8]) -> Result<AliasWords, AllocError>
-        ensures words { IfOk result (λ words. words ≡ alias_words seen.now name.now) }
+impl LinkTargets {
+    /// The link targets of a name. At most eight searches. Fails only if memory runs out; allocates nothing if there is
+    /// no link.
+    pub fn of(alloc: Global, view: &HostView, name: &[u8]) -> Result<LinkTargets, AllocError>
+        ensures words { IfOk result (λ words. words ≡ link_targets view.now name.now) }
     {
         let mut links = Items::new(alloc);
         for level in 0..LEVELS {
-            match word_at(alloc, seen, level, name)? {
-                Word::Nothing => {}
-                Word::Link(target) => links.push(target)?,
-                Word::End => return Ok(AliasWords { links, ends: true }),
+            match own_link_at(alloc, view, level, name)? {
+                OwnLink::Nothing => {}
+                OwnLink::Link(target) => links.push(target)?,
+                OwnLink::End => return Ok(LinkTargets { links, ends: true }),
             }
         }
-        Ok(AliasWords { links, ends: false })
+        Ok(LinkTargets { links, ends: false })
     }
 
-    // Whether these are the same.
-    fn is(&self, other: &AliasWords) -> bool
+    // Whether the two are the same.
+    fn is(&self, other: &LinkTargets) -> bool
         ensures same { result ≡ true → self.now ≡ other.now }
     {
         self.ends == other.ends && self.links == other.links
@@ -64,53 +64,58 @@ impl AliasWords {
     }
 }
 
-/// What a name's place of a level says.
+/// What is at a name's path of one level.
 #[derive(Drop)]
-pub(crate) enum Word {
-    /// Nothing: there is nothing visible.
+pub(crate) enum OwnLink {
+    /// Nothing visible.
     Nothing,
     /// A link's target.
     Link(Bytes),
-    /// A file or a link to `/dev/null` is there, which ends the search.
+    /// A file or a link to `/dev/null`, which ends the search.
     End,
 }
 
-// What a name's place of this level says.
-fn word_at(alloc: Global, seen: &Seen, level: u8, name: &[u8]) -> Result<Word, AllocError>
-    ensures word { IfOk result (IsWordAt seen.now name.now level) }
+// What is at a name's path of this level.
+fn own_link_at(
+    alloc: Global,
+    view: &HostView,
+    level: u8,
+    name: &[u8],
+) -> Result<OwnLink, AllocError>
+    ensures word { IfOk result (IsOwnLinkAt view.now name.now level) }
 {
-    match seen.entry_at(level, b"", name) {
-        None => Ok(Word::Nothing),
+    match view.entry_at(level, b"", name) {
+        None => Ok(OwnLink::Nothing),
         Some(placed) => word_of(alloc, placed.visible()),
     }
 }
 
-// What is said by what is visible.
-fn word_of(alloc: Global, content: Option<&Content>) -> Result<Word, AllocError>
-    ensures word { IfOk result (IsWordOf (option_copied content.entry)) }
+// What this visible content means.
+fn word_of(alloc: Global, content: Option<&Content>) -> Result<OwnLink, AllocError>
+    ensures word { IfOk result (IsOwnLinkOf (option_copied content.entry)) }
 {
     match content {
-        None | Some(Content::Gone) => Ok(Word::Nothing),
-        Some(Content::File(_)) => Ok(Word::End),
+        None | Some(Content::Gone) => Ok(OwnLink::Nothing),
+        Some(Content::File(_)) => Ok(OwnLink::End),
         Some(Content::Link(target)) => {
             if target.bytes() == b"/dev/null".as_slice() {
-                return Ok(Word::End);
+                return Ok(OwnLink::End);
             }
-            Ok(Word::Link(Bytes::from_slice(alloc, target.bytes())?))
+            Ok(OwnLink::Link(Bytes::from_slice(alloc, target.bytes())?))
         }
     }
 }
 
-/// Names in byte order, each with what its own places say of aliases.
+/// Names in byte order, each with its link targets.
 #[derive(Debug, Drop)]
-pub(crate) struct KeptWords {
-    names: Vec<(Bytes, AliasWords)>,
+pub(crate) struct CachedLinkTargets {
+    names: Vec<(Bytes, LinkTargets)>,
 }
 
-impl Model for KeptWords {
+impl Model for CachedLinkTargets {
     ghost use Rattle.std.specs.{Prelude.{IsTrue}, FinMap.{is_sorted}};
     ghost use Rattle.unit_name.specs.Names.{name_cmp};
-    ghost use Rattle.parallel_load.specs.OwnWords.{NamedWords, coded_named_words};
+    ghost use Rattle.parallel_load.specs.OwnLinkTargets.{NamedWords, coded_named_words};
 
     ghost Value = { NamedWords };
 
@@ -121,26 +126,26 @@ impl Model for KeptWords {
     ghost invariant = { λ w. IsTrue (is_sorted name_cmp w.names.items) };
 }
 
-impl KeptWords {
-    /// Those of all names at which something is visible. One pass over the store's paths of one component, and for each name up to
-    /// eight searches. It fails for want of memory alone.
-    pub fn of(alloc: Global, seen: &Seen) -> Result<KeptWords, AllocError>
-        ensures words { IfOk result (AreOwnWords seen.now) }
+impl CachedLinkTargets {
+    /// The link targets of all visible names. One pass over the store's paths of one component, and up to eight
+    /// searches for each name. Fails only if memory runs out.
+    pub fn of(alloc: Global, view: &HostView) -> Result<CachedLinkTargets, AllocError>
+        ensures words { IfOk result (AreOwnLinkTargets view.now) }
     {
-        let shown = shown_names(alloc, seen)?;
-        let names = with_words(alloc, seen, shown)?;
-        Ok(KeptWords { names })
+        let shown = shown_names(alloc, view)?;
+        let names = with_words(alloc, view, shown)?;
+        Ok(CachedLinkTargets { names })
     }
 
-    /// The names with their words. It takes no memory.
-    pub fn names(&self) -> &[(Bytes, AliasWords)]
+    /// The names with their link targets. Allocates nothing.
+    pub fn names(&self) -> &[(Bytes, LinkTargets)]
         ensures names { result.now ≡ self.now }
     {
         self.names.as_slice()
     }
 
-    /// Whether a name has these words. O(log n), without memory.
-    pub fn have(&self, name: &Bytes, words: &AliasWords) -> bool
+    /// Whether a name has these link targets. O(log n). Allocates nothing.
+    pub fn have(&self, name: &Bytes, words: &LinkTargets) -> bool
         ensures same { result ≡ true → words_in self.now name.now ≡ words.now }
     {
         match seek(&self.names, name) {
@@ -151,13 +156,13 @@ impl KeptWords {
 }
 
 // The names at which something is visible, each once, in byte order.
-fn shown_names(alloc: Global, seen: &Seen) -> Result<Vec<Bytes>, AllocError>
-    ensures rising { IfOk result (λ names. IsStrictlySortedBy name_cmp names.items) }
-    ensures shown { IfOk result (λ names. (n : _) → IsAmong n names.items ↔ IsShown seen.now n) }
+fn shown_names(alloc: Global, view: &HostView) -> Result<Vec<Bytes>, AllocError>
+    ensures ascending { IfOk result (λ names. IsStrictlySortedBy name_cmp names.items) }
+    ensures shown { IfOk result (λ names. (n : _) → IsAmong n names.items ↔ IsShown view.now n) }
 {
     let mut names = Vec::new(alloc);
     for level in 0..LEVELS {
-        add_shown(&mut names, seen, level)?;
+        add_shown(&mut names, view, level)?;
     }
     names.sort_unstable();
     names.dedup();
@@ -165,10 +170,10 @@ fn shown_names(alloc: Global, seen: &Seen) -> Result<Vec<Bytes>, AllocError>
 }
 
 // Adds the names at which something is visible at this level.
-fn add_shown(names: &mut Vec<Bytes>, seen: &Seen, level: u8) -> Result<(), AllocError>
-    ensures added { OnOk result (names.new.items ≡ names.old.items ++ shown_names seen.now level) }
+fn add_shown(names: &mut Vec<Bytes>, view: &HostView, level: u8) -> Result<(), AllocError>
+    ensures added { OnOk result (names.new.items ≡ names.old.items ++ shown_names view.now level) }
 {
-    let mut entries = seen.entries_in(level, b"");
+    let mut entries = view.entries_in(level, b"");
     while let Some(placed) = entries.next_entry() {
         if placed.visible().is_some() {
             names.push(placed.name().try_clone()?)?;
@@ -177,17 +182,17 @@ fn add_shown(names: &mut Vec<Bytes>, seen: &Seen, level: u8) -> Result<(), Alloc
     Ok(())
 }
 
-// Names with the words of each.
+// Names with the link targets of each.
 fn with_words(
     alloc: Global,
-    seen: &Seen,
+    view: &HostView,
     shown: Vec<Bytes>,
-) -> Result<Vec<(Bytes, AliasWords)>, AllocError>
-    ensures words { IfOk result (λ names. names.items ≡ map (with_own_words seen.now) shown.items) }
+) -> Result<Vec<(Bytes, LinkTargets)>, AllocError>
+    ensures words { IfOk result (λ names. names.items ≡ map (with_own_link_targets view.now) shown.items) }
 {
     let mut names = Vec::with_capacity(alloc, shown.len())?;
     for name in shown {
-        let words = AliasWords::of(alloc, seen, name.as_slice())?;
+        let words = LinkTargets::of(alloc, view, name.as_slice())?;
         names.push((name, words))?;
     }
     Ok(names)

@@ -1,29 +1,17 @@
--- The list of two stores' places rises and has at each what both show; so the places where that differs are those of the stores.
-use Rattle.std.proofs.Common.{◌≡◌, Bool, true, false, cond, List, [], ◌∷◌, Option, Some}
-use Rattle.std.proofs.Common.{None, IsTrue, refl, sym, ap, subst, ◌∙◌, inl, inr, map}
-use Rattle.std.specs.Prelude.{◌≢◌, ◌↔◌, ◌&&◌, not, filter}
+-- The list of two stores' places is in ascending order and has at each place what both show, so it gives exactly the
+-- places where the stores differ.
+use Rattle.std.proofs.Common.{[], ◌&&◌, ◌↔◌, ◌∙◌, ◌∷◌, ◌≡◌, ◌≢◌, ap, Bool, cond, false, filter, inl, inr, IsTrue, List, map, None, not, Option, refl, Some, subst, sym, true}
+use Rattle.std.proofs.lemmas.Bool.{and_parts}
+use Rattle.std.specs.FinMap.Entries.{below_all, find, is_sorted}
+use Rattle.std.specs.List.{AllByRecursion}
 use Rattle.std.specs.Option.{option_and_then}
 use Rattle.std.specs.Ordering.{eq_by_cmp, is_lt, match_ordering, ordering_reverse}
 use Rattle.std.specs.declared.cmp.Ordering.{Ordering}
-use Rattle.std.specs.declared.cmp.Ordering.TheVariants.{Less, Equal, Greater}
+use Rattle.std.specs.declared.cmp.Ordering.TheVariants.{Equal, Greater, Less}
+use Rattle.path_maps.proofs.Prelude.{Content, Contents, differ, differing, Entry, EntryMap, find_below, first_zipped, from_T, is_less, IsAmong, of_both, only_new, only_old, place_cmp, place_cmp-IsAntisymmetric, place_cmp_total, PlaceParts, same_contents, same_contents-itself, same_contents-true, same_place, Shown, shown, tied, together, visible_at}
+use Rattle.path_maps.proofs.Ascends.{found_entry}
 use Rattle.std.specs.FinMap as finmap
-use Rattle.std.specs.FinMap.Entries.{find, is_sorted, below_all}
-use Rattle.std.specs.List.{AllByRecursion}
 use Rattle.std.specs.List.Sorted.{IsStrictlySortedBy}
-use Rattle.std.proofs.lemmas.Bool.{and_parts}
-use Rattle.list_laws.specs.Members.{IsAmong}
-use Rattle.list_laws.specs.Orderings.{is_less}
-use Rattle.list_laws.specs.Truths.{from_T}
-use Rattle.load_places.specs.Places.{PlaceParts, place_cmp}
-use Rattle.load_places.specs.PlaceLaws.{place_cmp_total, place_cmp-IsAntisymmetric}
-use Rattle.edit_sums.specs.declared.contents.Content.{Content}
-use Rattle.edit_sums.specs.Entries.{Entry}
-use Rattle.edit_sums.specs.GreatestLaws.{same_place, tied}
-use Rattle.edit_sums.specs.Sums.{EntryMap, shown, visible_at}
-use Rattle.path_maps.specs.SpreadLaws.{find_below}
-use Rattle.path_maps.specs.DifferenceLaws.{same_contents, same_contents-true, same_contents-itself}
-use Rattle.path_maps.specs.Together.{Contents, Shown, only_new, only_old, of_both, first_beside, together, differ, differing}
-use Rattle.path_maps.proofs.Rises.{found_entry}
 
 abbrev Placed : Type 0
 Placed = PlaceParts × Entry
@@ -51,20 +39,20 @@ above_first k e es less h = both _ _ (ap is_lt less) (above_less k e.0 es less h
 turned : (k l : PlaceParts) → place_cmp k l ≡ Greater → place_cmp l k ≡ Less
 turned k l h = place_cmp_total.antisymm l k ∙ ap ordering_reverse h
 
--- ---- the list rises
+-- ---- the list is in ascending order
 
 above_olds : (k : PlaceParts) (fs : List Placed) → IsAbove k fs → IsAbove k (map only_old fs)
 above_olds k [] h = refl
 above_olds k (f ∷ fs) h = let p = and_parts _ _ h in both _ _ p.0 (above_olds k fs p.1)
 
-above_beside : (k : PlaceParts) (e : Placed) (rest : List Placed → List Shown)
+above_zipped : (k : PlaceParts) (e : Placed) (rest : List Placed → List Shown)
     → ((fs : List Placed) → IsAbove k fs → IsAbove k (rest fs)) → IsTrue (is_lt (place_cmp k e.0))
-    → (fs : List Placed) → IsAbove k fs → IsAbove k (first_beside e rest fs)
-above_beside k e rest more less [] h = both _ _ less (more [] refl)
-above_beside k e rest more less (f ∷ fs) h = by (place_cmp e.0 f.0) (above_beside k e rest more less fs (and_parts _ _ h).1)
+    → (fs : List Placed) → IsAbove k fs → IsAbove k (first_zipped e rest fs)
+above_zipped k e rest more less [] h = both _ _ less (more [] refl)
+above_zipped k e rest more less (f ∷ fs) h = by (place_cmp e.0 f.0) (above_zipped k e rest more less fs (and_parts _ _ h).1)
   where
-    by : (r : Ordering) → IsAbove k (first_beside e rest fs)
-        → IsAbove k (match_ordering r (only_new e ∷ rest (f ∷ fs)) (of_both e f ∷ rest fs) (only_old f ∷ first_beside e rest fs))
+    by : (r : Ordering) → IsAbove k (first_zipped e rest fs)
+        → IsAbove k (match_ordering r (only_new e ∷ rest (f ∷ fs)) (of_both e f ∷ rest fs) (only_old f ∷ first_zipped e rest fs))
     by Less a = both _ _ less (more (f ∷ fs) h)
     by Equal a = both _ _ less (more fs (and_parts _ _ h).1)
     by Greater a = both _ _ (and_parts _ _ h).0 a
@@ -73,17 +61,17 @@ above_together : (k : PlaceParts) (es fs : List Placed) → IsAbove k es → IsA
 above_together k [] fs a b = above_olds k fs b
 above_together k (e ∷ es) fs a b =
     let p = and_parts _ _ a in
-    above_beside k e (together es) (λ gs c. above_together k es gs p.1 c) p.0 fs b
+    above_zipped k e (together es) (λ gs c. above_together k es gs p.1 c) p.0 fs b
 
 sorted_olds : (fs : List Placed) → AreSorted fs → AreSorted (map only_old fs)
 sorted_olds [] s = refl
 sorted_olds (f ∷ fs) s = let p = and_parts _ _ s in both _ _ (above_olds f.0 fs p.0) (sorted_olds fs p.1)
 
 module _ (e : Placed) (es : List Placed) (above : IsAbove e.0 es) where
-  sorted_beside : ((fs : List Placed) → AreSorted fs → AreSorted (together es fs))
+  sorted_zipped : ((fs : List Placed) → AreSorted fs → AreSorted (together es fs))
       → (fs : List Placed) → AreSorted fs → AreSorted (together (e ∷ es) fs)
-  sorted_beside more [] s = both _ _ (above_together e.0 es [] above refl) (more [] refl)
-  sorted_beside more (f ∷ fs) s = by (place_cmp e.0 f.0) refl (sorted_beside more fs p.1)
+  sorted_zipped more [] s = both _ _ (above_together e.0 es [] above refl) (more [] refl)
+  sorted_zipped more (f ∷ fs) s = by (place_cmp e.0 f.0) refl (sorted_zipped more fs p.1)
     where
       p : IsAbove f.0 fs × AreSorted fs
       p = and_parts _ _ s
@@ -99,9 +87,9 @@ module _ (e : Placed) (es : List Placed) (above : IsAbove e.0 es) where
 
 sorted_together : (es fs : List Placed) → AreSorted es → AreSorted fs → AreSorted (together es fs)
 sorted_together [] fs s t = sorted_olds fs t
-sorted_together (e ∷ es) fs s t = let p = and_parts _ _ s in sorted_beside e es p.0 (λ gs u. sorted_together es gs p.1 u) fs t
+sorted_together (e ∷ es) fs s t = let p = and_parts _ _ s in sorted_zipped e es p.0 (λ gs u. sorted_together es gs p.1 u) fs t
 
--- ---- at each place stands what both show
+-- ---- at each place it has what both show
 
 abbrev pub or_none : Option Contents → Contents
 or_none None = (None, None)
@@ -114,7 +102,7 @@ module _ (q : PlaceParts) where
   abbrev visible_in : List Placed → Option Content
   visible_in es = option_and_then shown (find place_cmp q es)
 
-  -- there the list has what each shows
+  -- The list has what each of the two shows there.
   abbrev ShowsBoth : List Placed → List Placed → Type 0
   ShowsBoth es fs = contents_in (together es fs) ≡ (visible_in es, visible_in fs)
 
@@ -127,7 +115,7 @@ module _ (q : PlaceParts) where
         | false ↦ shown_olds fs
       ]
 
-  -- nothing is visible among places behind the one
+  -- Nothing is visible at a place among entries that are all after it.
   none_visible : (k : PlaceParts) (es : List Placed) → IsAbove k es → eq_by_cmp place_cmp q k ≡ true → None ≡ visible_in es
   none_visible k es above t =
       ap (option_and_then shown) (sym (find_below place_cmp q es (subst (λ l. IsAbove l es) (sym (tied q k t)) above)))
@@ -153,9 +141,9 @@ module _ (q : PlaceParts) where
     at_old f fs true none rest = ap (λ (y : Option Content). (y, shown f.1)) (none refl)
     at_old f fs false none rest = rest
 
-    shown_beside : ((fs : List Placed) → AreSorted fs → ShowsBoth es fs) → (fs : List Placed) → AreSorted fs → ShowsBoth (e ∷ es) fs
-    shown_beside more [] s = at_new [] (eq_by_cmp place_cmp q e.0) (λ t. refl) (more [] refl)
-    shown_beside more (f ∷ fs) s = by (place_cmp e.0 f.0) refl (shown_beside more fs p.1)
+    shown_zipped : ((fs : List Placed) → AreSorted fs → ShowsBoth es fs) → (fs : List Placed) → AreSorted fs → ShowsBoth (e ∷ es) fs
+    shown_zipped more [] s = at_new [] (eq_by_cmp place_cmp q e.0) (λ t. refl) (more [] refl)
+    shown_zipped more (f ∷ fs) s = by (place_cmp e.0 f.0) refl (shown_zipped more fs p.1)
       where
         p : IsAbove f.0 fs × AreSorted fs
         p = and_parts _ _ s
@@ -171,14 +159,14 @@ module _ (q : PlaceParts) where
 
   shown_together : (es fs : List Placed) → AreSorted es → AreSorted fs → ShowsBoth es fs
   shown_together [] fs s t = shown_olds fs
-  shown_together (e ∷ es) fs s t = let p = and_parts _ _ s in shown_beside e es p.0 (λ gs u. shown_together es gs p.1 u) fs t
+  shown_together (e ∷ es) fs s t = let p = and_parts _ _ s in shown_zipped e es p.0 (λ gs u. shown_together es gs p.1 u) fs t
 
 -- ---- where that differs
 
 abbrev pub unlike : Contents → Bool
 unlike c = not (same_contents c.0 c.1)
 
--- with one more in front
+-- With one more item at the start.
 module _ (q : PlaceParts) (s : Shown) (ss : List Shown) where
   abbrev places_with : Bool → List PlaceParts
   places_with b = map (λ (r : Shown). r.0) (cond b (s ∷ filter differ ss) (filter differ ss))
@@ -210,17 +198,17 @@ back q (s ∷ ss) sorted a = by (differ s) refl a (back q ss p.1)
     p : IsAbove s.0 ss × AreSorted ss
     p = and_parts _ _ sorted
 
-    behind : unlike (contents_in q ss) ≡ true → (b : Bool) → eq_by_cmp place_cmp q s.0 ≡ b → unlike (contents_with q s ss b) ≡ true
-    behind h true t =
+    after : unlike (contents_in q ss) ≡ true → (b : Bool) → eq_by_cmp place_cmp q s.0 ≡ b → unlike (contents_with q s ss b) ≡ true
+    after h true t =
         let none = ap (λ o. unlike (or_none o)) (find_below place_cmp q ss (subst (λ k. IsAbove k ss) (sym (tied q s.0 t)) p.0)) in
         let wrong : false ≡ true = sym none ∙ h in cc (wrong)
-    behind h false t = h
+    after h false t = h
 
     by : (b : Bool) → differ s ≡ b → IsAmong q (places_with q s ss b)
         → (IsAmong q (differing ss) → unlike (contents_in q ss) ≡ true) → unlike (contents_with q s ss (eq_by_cmp place_cmp q s.0)) ≡ true
     by true d (inl e) more = ap (λ b. unlike (contents_with q s ss b)) (ap (λ k. eq_by_cmp place_cmp k s.0) (sym e) ∙ same_place s.0) ∙ d
-    by true d (inr a) more = behind (more a) (eq_by_cmp place_cmp q s.0) refl
-    by false d a more = behind (more a) (eq_by_cmp place_cmp q s.0) refl
+    by true d (inr a) more = after (more a) (eq_by_cmp place_cmp q s.0) refl
+    by false d a more = after (more a) (eq_by_cmp place_cmp q s.0) refl
 
 above_differing : (k : PlaceParts) (ss : List Shown) → IsAbove k ss → AllByRecursion (λ l. place_cmp k l ≡ Less) (differing ss)
 above_differing k [] h = tt
@@ -232,12 +220,12 @@ above_differing k (s ∷ ss) h =
       | false ↦ rest
     ]
 
-rises : (ss : List Shown) → AreSorted ss → IsStrictlySortedBy place_cmp (differing ss)
+ascends : (ss : List Shown) → AreSorted ss → IsStrictlySortedBy place_cmp (differing ss)
 unfolding IsStrictlySortedBy
-rises [] h = tt
-rises (s ∷ ss) h =
+ascends [] h = tt
+ascends (s ∷ ss) h =
     let p = and_parts _ _ h in
-    let rest = rises ss p.1 in
+    let rest = ascends ss p.1 in
     elim (differ s) as (λ b. IsStrictlySortedBy place_cmp (places_with s.0 s ss b)) [
       | true ↦ (above_differing s.0 ss p.0, rest)
       | false ↦ rest
@@ -245,10 +233,10 @@ rises (s ∷ ss) h =
 
 -- ---- of two stores
 
--- a list in place order that has at each place what both show
+-- For a list in place order that has at each place what both stores show.
 module _ (new old : EntryMap) (ss : List Shown) (sorted : AreSorted ss) (each : (q : PlaceParts) → contents_in q ss ≡ (visible_at new q, visible_at old q)) where
-  pub list_rises : IsStrictlySortedBy place_cmp (differing ss)
-  list_rises = rises ss sorted
+  pub list_ascends : IsStrictlySortedBy place_cmp (differing ss)
+  list_ascends = ascends ss sorted
 
   pub list_exact : (q : PlaceParts) → IsAmong q (differing ss) ↔ (visible_at new q ≢ visible_at old q)
   list_exact q = (forward, backward)
@@ -291,8 +279,8 @@ module _ (new old : EntryMap) where
       shown_together q (finmap.entries new) (finmap.entries old) new_sorted old_sorted
       ∙ (λ i. (option_and_then shown (sym (found_entry new q) i), option_and_then shown (sym (found_entry old q) i)))
 
-  pub changed_rises : IsStrictlySortedBy place_cmp changed_in
-  changed_rises = list_rises new old both_shown all_sorted contents_there
+  pub changed_ascends : IsStrictlySortedBy place_cmp changed_in
+  changed_ascends = list_ascends new old both_shown all_sorted contents_there
 
   pub changed_exact : (q : PlaceParts) → IsAmong q changed_in ↔ (visible_at new q ≢ visible_at old q)
   changed_exact = list_exact new old both_shown all_sorted contents_there

@@ -1,30 +1,11 @@
--- One edit more.
-use Rattle.std.proofs.Common.{◌≡◌, ℕ, Bool, true, false, cond, [], ◌∷◌, Option, Some, None, IsSome, refl, sym, ap, subst, ◌∙◌, arith}
-use Rattle.std.specs.Prelude.{max, length, ◌+◌, ◌-◌, ◌^◌, ◌≤◌}
-use Rattle.std.specs.Ordering.{eq_by_cmp, nat_cmp}
+-- Adding one edit to a store.
+use Rattle.std.proofs.Common.{[], ◌+◌, ◌-◌, ◌^◌, ◌∙◌, ◌∷◌, ◌≡◌, ◌≤◌, ap, arith, Bool, cond, false, IsSome, length, None, Option, refl, Some, subst, sym, true, ℕ}
 use Rattle.std.specs.Cmp.{nat_cmp_total}
 use Rattle.std.specs.Cmp.Lexicographic.{nat_list_cmp_total}
+use Rattle.std.specs.Ordering.{eq_by_cmp, nat_cmp}
+use Rattle.std.specs.Prelude.{max}
+use Rattle.path_maps.proofs.Prelude.{all_held, AreFolders, AreNames, AreRanks, AreScopes, At, bytes_cmp, content_cmp, Edit, Entry, entry_held, entry_of, EntryMap, FoldersBelow, get-sum_of, get-with_edit, held-join, high_of, high_of-join, high_of-sum_of, IsCounted, IsHeld, IsJoin, IsKept, IsPath, IsUpTo, join, larger, NamesBelow, not_least, place_cmp, place_cmp_total, PlaceParts, RanksBelow, same_store, scope_cmp, scope_cmp_total, ScopeMap, ScopesBelow, sum_of, tied, with_edit, with_edit-join}
 use Rattle.std.specs.FinMap as finmap
-use Rattle.join_law.specs.declared.versions.Versioned.TheVariants.{At}
-use Rattle.join_law.specs.Order.{IsJoin}
-use Rattle.join_law.specs.Maps.{IsHeld}
-use Rattle.join_law.specs.VersionedLaws.{not_least}
-use Rattle.join_law.specs.MapLaws.{entry_held}
-use Rattle.load_path.specs.Paths.{IsPath}
-use Rattle.load_places.specs.Places.{PlaceParts, place_cmp, scope_cmp}
-use Rattle.load_places.specs.PlaceLaws.{place_cmp_total, scope_cmp_total}
-use Rattle.edit_sums.specs.Contents.{content_cmp}
-use Rattle.edit_sums.specs.Entries.{Entry, larger}
-use Rattle.join_law.specs.VersionOrder.{IsUpTo}
-use Rattle.edit_sums.specs.declared.entries.Edit.{Edit}
-use Rattle.edit_sums.specs.Sums.{EntryMap, entry_of, with_edit, sum_of, join, high_of}
-use Rattle.edit_sums.specs.SumLaws.{same_store, with_edit-join}
-use Rattle.edit_sums.specs.GreatestLaws.{get-with_edit, get-sum_of, tied}
-use Rattle.edit_sums.specs.CounterLaws.{high_of-join, high_of-sum_of}
-use Rattle.path_maps.specs.PathMaps.{bytes_cmp, NamesBelow, FoldersBelow, RanksBelow, AreNames, AreFolders, AreRanks}
-use Rattle.path_maps.specs.PlaceMaps.{ScopeMap, ScopesBelow, AreScopes, all_held}
-use Rattle.path_maps.specs.PlaceMapLaws.{held-join}
-use Rattle.path_maps.specs.Kept.{IsCounted, IsKept}
 
 pub nothing_is_empty : all_held [] ≡ finmap.empty
 nothing_is_empty = finmap.empty_of_len _ (finmap.len-entries _ ∙ ap length (finmap.entries-from_sorted place_cmp [] tt))
@@ -54,21 +35,21 @@ one_held e =
     entry_held scope_cmp RanksBelow scope_cmp_total e.place.scope AreRanks ((path.rank, (path.folder, (path.name, At (entry_of e)) ∷ []) ∷ []) ∷ [])
     (entry_held nat_cmp FoldersBelow nat_cmp_total path.rank AreFolders ((path.folder, (path.name, At (entry_of e)) ∷ []) ∷ [])
     (entry_held bytes_cmp NamesBelow nat_list_cmp_total path.folder AreNames ((path.name, At (entry_of e)) ∷ [])
-    (entry_held bytes_cmp (IsUpTo content_cmp) nat_list_cmp_total path.name (λ _. Unit {0}) (At (entry_of e)) (record { not_least = not_least content_cmp (entry_of e); lawful = tt }))))
+    (entry_held bytes_cmp (IsUpTo content_cmp) nat_list_cmp_total path.name (λ _. Unit {0}) (At (entry_of e)) (record { not_least = not_least content_cmp (entry_of e); well_formed = tt }))))
 
 pub held-one : (e : Edit) → all_held (one_edit e) ≡ sum_of (e ∷ [])
 held-one e = same_store (all_held (one_edit e)) (sum_of (e ∷ []))
     (λ q. finmap.get-from_sorted place_cmp ((e.place, entry_of e) ∷ []) q tt ∙ sym (get-sum_of (e ∷ []) q))
 
--- what joins the maps of one edit, whose place is told by its parts, has one edit more
+-- A join with the maps of one edit, whose place is given by its parts, adds this edit.
 pub joined_edit : (m n : ScopeMap) (s : EntryMap) (e : Edit) (p : PlaceParts) → p ≡ e.place → all_held m ≡ s → AreScopes m → AreScopes n → IsJoin ScopesBelow m (one_edit (record e { place = p })) n → all_held n ≡ with_edit s e
 joined_edit m n s e p parts is is_m is_n j =
     let e' : Edit = record e { place = p } in
-    held-join m (one_edit e') n is_m (one_held e').lawful is_n j ∙ ap (join (all_held m)) (held-one e') ∙ sym (with_edit-join (all_held m) e')
+    held-join m (one_edit e') n is_m (one_held e').well_formed is_n j ∙ ap (join (all_held m)) (held-one e') ∙ sym (with_edit-join (all_held m) e')
     ∙ ap (λ (t : EntryMap). with_edit t e') is ∙ ap (λ (q : PlaceParts). with_edit s (record e { place = q })) parts
 
 pub counted_edit : (s : EntryMap) (len high len' : ℕ) (e : Edit) → IsPath e.place.path → IsCounted s len high → len' ≡ cond (finmap.contains_key s e.place) (finmap.len s) (finmap.len s + 1) → IsCounted (with_edit s e) len' (max high e.version.counter)
-counted_edit s len high len' e lawful c is = record {
+counted_edit s len high len' e well_formed c is = record {
   paths = λ q h. path q (larger (Some (entry_of e)) (finmap.get s q)) (eq_by_cmp place_cmp q e.place) refl (subst (λ (x : Option Entry). IsSome x) (get-with_edit s e q) h);
   counted = is ∙ sym (finmap.len-insert place_cmp_total s e.place _);
   greatest = (λ i. max (c.greatest i) (one i)) ∙ sym (high_of-join s (sum_of (e ∷ []))) ∙ ap high_of (sym (with_edit-join s e));
@@ -78,14 +59,14 @@ counted_edit s len high len' e lawful c is = record {
     one = let m : max e.version.counter 0 ≡ e.version.counter = omega arith in sym (high_of-sum_of (e ∷ []) ∙ m)
 
     path : (q : PlaceParts) (x : Option Entry) (b : Bool) → eq_by_cmp place_cmp q e.place ≡ b → IsSome (cond b x (finmap.get s q)) → IsPath q.path
-    path q x true t h = subst (λ (p : PlaceParts). IsPath p.path) (sym (tied q e.place t)) lawful
+    path q x true t h = subst (λ (p : PlaceParts). IsPath p.path) (sym (tied q e.place t)) well_formed
     path q x false t h = c.paths q h
 
 pub kept_edit : (m n : ScopeMap) (s : EntryMap) (len high len' : ℕ) (e : Edit) (p : PlaceParts) → p ≡ e.place → IsPath e.place.path → all_held m ≡ s → IsKept m len high → AreScopes n → IsJoin ScopesBelow m (one_edit (record e { place = p })) n → len' ≡ cond (finmap.contains_key s e.place) (finmap.len s) (finmap.len s + 1) → len' ≤ 2 ^ 64 - 1 → IsKept n len' (max high e.version.counter)
-kept_edit m n s len high len' e p parts lawful is k is_n j counted fits = record {
+kept_edit m n s len high len' e p parts well_formed is k is_n j counted fits = record {
   scopes = is_n;
   counted =
       subst (λ (t : EntryMap). IsCounted t len' (max high e.version.counter)) (sym (joined_edit m n s e p parts is k.scopes is_n j))
-      (counted_edit s len high len' e lawful (subst (λ (t : EntryMap). IsCounted t len high) is k.counted) counted);
+      (counted_edit s len high len' e well_formed (subst (λ (t : EntryMap). IsCounted t len high) is k.counted) counted);
   fits = fits;
 }

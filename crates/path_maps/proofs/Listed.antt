@@ -1,27 +1,14 @@
 -- The list of all entries, and what is held.
-use Rattle.std.proofs.Common.{◌≡◌, ◌⊎◌, inl, inr, Bool, true, false, cond, List, [], ◌∷◌, Option, Some, IsSome, refl, sym, ap, subst, ◌∙◌, ℕ}
+use Rattle.std.proofs.Common.{[], ◌∙◌, ◌∷◌, ◌≡◌, ◌⊎◌, ap, Bool, cond, false, inl, inr, IsSome, List, Option, refl, Some, subst, sym, true, ℕ}
 use Rattle.std.specs.Cmp.{IsTotalOrder, tied_itself}
+use Rattle.std.specs.FinMap.Entries.{find}
 use Rattle.std.specs.Ordering.{eq_by_cmp, is_eq}
 use Rattle.std.specs.declared.cmp.Ordering.{Ordering}
+use Rattle.path_maps.proofs.Prelude.{all_held, all_listed, all_sorted, AllKeys, AreRanks, AreScopes, entries-held, Entry, EntryMap, flat, HasWellFormedPaths, in_scope, IsKept, IsPath, listed, listed_sorted, path_cmp, path_cmp_total, PathParts, place_cmp, place_cmp_total, placed, PlaceParts, RankMap, Scope, ScopeMap, to_T}
+use Rattle.path_maps.proofs.LeftAfter.{back_keys, prefix_keys}
 use Rattle.std.specs.FinMap as finmap
-use Rattle.std.specs.FinMap.Entries.{find}
-use Rattle.list_laws.specs.Truths.{to_T}
-use Rattle.load_path.specs.Paths.{PathParts, IsPath, path_cmp}
-use Rattle.load_path.specs.PathLaws.{path_cmp_total}
-use Rattle.load_places.specs.Places.{PlaceParts, place_cmp}
-use Rattle.load_places.specs.PlaceLaws.{place_cmp_total}
-use Rattle.load_places.specs.declared.places.Scope.{Scope}
-use Rattle.edit_sums.specs.Entries.{Entry}
-use Rattle.edit_sums.specs.Sums.{EntryMap}
-use Rattle.path_maps.specs.Spread.{AllKeys}
-use Rattle.path_maps.specs.PathMaps.{RankMap, AreRanks, flat, listed}
-use Rattle.path_maps.specs.PathMapLaws.{listed_sorted}
-use Rattle.path_maps.specs.PlaceMaps.{ScopeMap, AreScopes, all_held, all_listed, in_scope, placed}
-use Rattle.path_maps.specs.PlaceMapLaws.{all_sorted, entries-held}
-use Rattle.path_maps.specs.Kept.{HasLawfulPaths, IsKept}
-use Rattle.path_maps.proofs.LeftBehind.{back_keys, front_keys}
 
--- what holds of all keys at which something is found holds of all keys
+-- What holds of every key at which something is found holds of all keys of the list.
 module _ {K E : Type 0} (R : K → K → Ordering) (o : IsTotalOrder R) where
   abbrev IsKeyOf : K → List (K × E) → Type 0
   IsKeyOf q [] = ⊥
@@ -44,32 +31,32 @@ module _ {K E : Type 0} (R : K → K → Ordering) (o : IsTotalOrder R) where
   all_found : (P : K → Type 0) (es : List (K × E)) → ((q : K) → IsSome (find R q es) → P q) → AllKeys P es
   all_found P es h = all_of P es (λ q is. h q (found_in q es is))
 
--- where something is held at lawful paths alone, all that is listed has one
+-- If entries are held only at valid paths, all listed entries have valid paths.
 pub paths_listed : (m : RankMap) → AreRanks m → ((q : PathParts) → IsSome (finmap.get (flat m) q) → IsPath q) → AllKeys IsPath (listed m)
 paths_listed m is paths =
     all_found path_cmp path_cmp_total IsPath (listed m)
     (λ q h. paths q (subst (λ (x : Option Entry). IsSome x) (sym (finmap.get-from_sorted path_cmp (listed m) q (to_T _ (listed_sorted m is)))) h))
 
--- the same of places, scope by scope
+-- The same for places, scope by scope.
 paths_of_placed : (scope : Scope) (es : List (PathParts × Entry)) → AllKeys (λ q. IsPath q.path) (placed scope es) → AllKeys IsPath es
 paths_of_placed scope [] h = tt
 paths_of_placed scope (e ∷ es) h = (h.0, paths_of_placed scope es h.1)
 
-by_scopes : (m : ScopeMap) → AllKeys (λ q. IsPath q.path) (all_listed m) → HasLawfulPaths m
+by_scopes : (m : ScopeMap) → AllKeys (λ q. IsPath q.path) (all_listed m) → HasWellFormedPaths m
 by_scopes [] h = tt
 by_scopes (e ∷ es) h = (
-  paths_of_placed e.0 (listed e.1) (front_keys (λ (q : PlaceParts). IsPath q.path) (in_scope e.0 e.1) (all_listed es) h),
+  paths_of_placed e.0 (listed e.1) (prefix_keys (λ (q : PlaceParts). IsPath q.path) (in_scope e.0 e.1) (all_listed es) h),
   by_scopes es (back_keys (λ (q : PlaceParts). IsPath q.path) (in_scope e.0 e.1) (all_listed es) h),
 )
 
-pub places_lawful : (m : ScopeMap) → AreScopes m → ((q : PlaceParts) → IsSome (finmap.get (all_held m) q) → IsPath q.path) → HasLawfulPaths m
-places_lawful m is paths =
+pub places_well_formed : (m : ScopeMap) → AreScopes m → ((q : PlaceParts) → IsSome (finmap.get (all_held m) q) → IsPath q.path) → HasWellFormedPaths m
+places_well_formed m is paths =
     by_scopes m (all_found place_cmp place_cmp_total (λ q. IsPath q.path) (all_listed m)
     (λ q h. paths q (subst (λ (x : Option Entry). IsSome x) (sym (finmap.get-from_sorted place_cmp (all_listed m) q (to_T _ (all_sorted m is)))) h)))
 
-pub kept_lawful : (m : ScopeMap) (len high : ℕ) → IsKept m len high → HasLawfulPaths m
-kept_lawful m len high k = places_lawful m k.scopes k.counted.paths
+pub kept_well_formed : (m : ScopeMap) (len high : ℕ) → IsKept m len high → HasWellFormedPaths m
+kept_well_formed m len high k = places_well_formed m k.scopes k.counted.paths
 
--- all entries in place order
+-- All entries, in place order.
 pub all_entries : (m : ScopeMap) (s : EntryMap) → AreScopes m → all_held m ≡ s → all_listed m ≡ finmap.entries s
 all_entries m s is e = sym (entries-held m is) ∙ ap (λ (t : EntryMap). finmap.entries t) e

@@ -1,35 +1,13 @@
--- What look-ups find, one after another.
-use Rattle.std.proofs.Common.{◌≡◌, ℕ, List, Option, Some, None, IsSome, [], ◌∷◌, true, false, cond, Bor, filter, refl, sym, ap, subst, ◌∙◌, arith}
-use Rattle.std.specs.Prelude.{MatchOption, Bool, IsTrue, ◌↔◌, ◌+◌, ◌≤◌, is_some}
-use Rattle.std.specs.Int.{from_bool}
-use Rattle.std.specs.Option.{option_map, IfSome}
-use Rattle.std.specs.Ordering.{nat_cmp, eq_by_cmp}
-use Rattle.std.specs.FinMap as finmap
+-- What nested look-ups find.
+use Rattle.std.proofs.Common.{[], ◌+◌, ◌↔◌, ◌∙◌, ◌∷◌, ◌≡◌, ◌≤◌, ap, arith, Bool, Bor, cond, false, filter, is_some, IsSome, IsTrue, List, MatchOption, None, Option, refl, Some, subst, sym, true, ℕ}
 use Rattle.std.specs.FinMap.Entries.{find}
-use Rattle.join_law.specs.declared.versions.Versioned.{Versioned}
-use Rattle.join_law.specs.declared.versions.Versioned.TheVariants.{Never, At}
-use Rattle.join_law.specs.Order.{IsLeast}
-use Rattle.join_law.specs.VersionOrder.{IsUpTo, written, written_at}
-use Rattle.join_law.specs.VersionedLaws.{never_least}
-use Rattle.join_law.specs.Maps.{AllHeld, or_empty, is_none_or}
-use Rattle.join_law.specs.LevelLaws.{is_none_or-within}
-use Rattle.load_path.specs.Paths.{PathParts, IsPath}
-use Rattle.load_places.specs.Places.{PlaceParts, scope_cmp}
-use Rattle.edit_sums.specs.declared.contents.Content.{Content}
-use Rattle.edit_sums.specs.Contents.{content_cmp}
-use Rattle.edit_sums.specs.Entries.{Entry}
-use Rattle.edit_sums.specs.Sums.{EntryMap}
-use Rattle.path_maps.specs.Spread.{AllKeys}
-use Rattle.path_maps.specs.PathMaps.{NameMap, FolderMap, RankMap, NamesBelow, FoldersBelow, AreNames, AreFolders, AreRanks, bytes_cmp, look_up, flat, listed, in_folder}
-use Rattle.path_maps.specs.PathMapLaws.{entries-flat, get-flat, found_lawful}
-use Rattle.path_maps.specs.PlaceMaps.{ScopeMap, AreScopes, all_held, look_up_place, ranks_of}
-use Rattle.path_maps.specs.PlaceMapLaws.{get-held, scope_lawful}
-use Rattle.path_maps.specs.Scopes.{PathMap}
-use Rattle.path_maps.specs.Kept.{AreLawful}
-use Rattle.path_maps.specs.Cursors.{or_nothing}
-use Rattle.path_maps.specs.Folders.{is_in, names_in}
-use Rattle.path_maps.specs.FolderLaws.{folder-listed, some_keys}
+use Rattle.std.specs.Int.{from_bool}
+use Rattle.std.specs.Option.{option_map}
+use Rattle.std.specs.Ordering.{eq_by_cmp, nat_cmp}
+use Rattle.std.specs.Prelude.{IfSome}
+use Rattle.path_maps.proofs.Prelude.{all_held, AllHeld, AllKeys, AreFolders, AreNames, AreRanks, AreScopes, AreWellFormed, At, bytes_cmp, Content, content_cmp, entries-flat, Entry, EntryMap, flat, folder-listed, FolderMap, FoldersBelow, found_well_formed, get-flat, get-held, in_folder, is_in, is_none_or, is_none_or-within, IsLeast, IsPath, IsUpTo, listed, look_up, look_up_place, NameMap, names_in, NamesBelow, Never, never_least, or_empty, or_nothing, PathMap, PathParts, PlaceParts, RankMap, ranks_of, scope_cmp, scope_well_formed, ScopeMap, some_keys, Versioned, written, written_at}
 use Rattle.path_maps.proofs.Listed.{paths_listed}
+use Rattle.std.specs.FinMap as finmap
 
 module _ (m : RankMap) (q : PathParts) where
   pub no_folder : find bytes_cmp q.folder (or_empty (find nat_cmp q.rank m)) ≡ None → look_up m q ≡ None
@@ -45,11 +23,11 @@ module _ (m : RankMap) (q : PathParts) where
     pub at_name_of : (v : Versioned Content) → find bytes_cmp q.name names ≡ Some v → look_up m q ≡ written v
     at_name_of v e = of_folder ∙ ap written_at e
 
--- what the look-ups find is held
-pub seen_is : (m : RankMap) → AreRanks m → (v : PathMap) → flat m ≡ v → (q : PathParts) (x : Option Entry) → look_up m q ≡ x → x ≡ finmap.get v q
-seen_is m is v e q x h = sym h ∙ sym (get-flat m is q) ∙ ap (λ (t : PathMap). finmap.get t q) e
+-- What the look-ups find is held.
+pub viewed_is : (m : RankMap) → AreRanks m → (v : PathMap) → flat m ≡ v → (q : PathParts) (x : Option Entry) → look_up m q ≡ x → x ≡ finmap.get v q
+viewed_is m is v e q x h = sym h ∙ sym (get-flat m is q) ∙ ap (λ (t : PathMap). finmap.get t q) e
 
--- a value that is held was written
+-- A value that is held was written.
 was_written : (v : Versioned Content) → ¬ IsLeast (IsUpTo content_cmp) v → IsSome (written v)
 was_written Never left = absurd (left (never_least content_cmp))
 was_written (At x) left = refl
@@ -62,24 +40,24 @@ name_written k (n ∷ ns) held some =
       | false ↦ λ found. name_written k ns held.1 found
     ] some
 
--- the names of a folder are in order, and each of them was written
-names_lawful : (m : RankMap) → AreRanks m → (rank : ℕ) (folder : List ℕ) → AreNames (names_in m rank folder)
-names_lawful m is rank folder = by_rank (find nat_cmp rank m) refl
+-- The names of a folder are in order, and each of them was written.
+names_well_formed : (m : RankMap) → AreRanks m → (rank : ℕ) (folder : List ℕ) → AreNames (names_in m rank folder)
+names_well_formed m is rank folder = by_rank (find nat_cmp rank m) refl
   where
     no_pairs : AreNames []
     no_pairs = record { sorted = refl; held = tt }
 
     by_folder : (folders : FolderMap) → AreFolders folders → (x : Option NameMap) → find bytes_cmp folder folders ≡ x → AreNames (or_empty x)
     by_folder folders are None e = no_pairs
-    by_folder folders are (Some names) e = found_lawful bytes_cmp NamesBelow AreNames folder folders are.held names e
+    by_folder folders are (Some names) e = found_well_formed bytes_cmp NamesBelow AreNames folder folders are.held names e
 
     by_rank : (x : Option FolderMap) → find nat_cmp rank m ≡ x → AreNames (or_empty (find bytes_cmp folder (or_empty x)))
     by_rank None e = no_pairs
-    by_rank (Some folders) e = by_folder folders (found_lawful nat_cmp FoldersBelow AreFolders rank m is.held folders e) (find bytes_cmp folder folders) refl
+    by_rank (Some folders) e = by_folder folders (found_well_formed nat_cmp FoldersBelow AreFolders rank m is.held folders e) (find bytes_cmp folder folders) refl
 
 -- ---- at places
 
--- what the look-ups find is held
+-- What the look-ups find is held.
 pub held_is : (m : ScopeMap) → AreScopes m → (s : EntryMap) → all_held m ≡ s → (q : PlaceParts) (x : Option Entry) → look_up_place m q ≡ x → x ≡ finmap.get s q
 held_is m is s e q x h = sym h ∙ sym (get-held m is q) ∙ ap (λ (t : EntryMap). finmap.get t q) e
 
@@ -87,17 +65,17 @@ there : (x : Option (Versioned Content)) → IsSome (written_at x) → IsSome x
 there None h = h
 there (Some v) h = refl
 
--- where something is held, each look-up finds something
+-- If something is held, each look-up finds something.
 pub held_there : (m : ScopeMap) → AreScopes m → (s : EntryMap) → all_held m ≡ s → (q : PlaceParts) → IsSome (finmap.get s q) → IsSome (find bytes_cmp q.path.name (names_in (ranks_of m q.scope) q.path.rank q.path.folder))
 held_there m is s e q h = there _ (subst (λ (x : Option Entry). IsSome x) (sym (held_is m is s e q _ refl)) h)
 
--- where each look-up finds something, something is held
+-- If each look-up finds something, something is held.
 pub there_held : (m : ScopeMap) → AreScopes m → (s : EntryMap) → all_held m ≡ s → (q : PlaceParts) → IsSome (find bytes_cmp q.path.name (names_in (ranks_of m q.scope) q.path.rank q.path.folder)) → IsSome (finmap.get s q)
 there_held m is s e q h =
     subst (λ (x : Option Entry). IsSome x) (held_is m is s e q _ refl)
-    (name_written q.path.name (names_in (ranks_of m q.scope) q.path.rank q.path.folder) (names_lawful (ranks_of m q.scope) (scope_lawful m is q.scope) q.path.rank q.path.folder).held h)
+    (name_written q.path.name (names_in (ranks_of m q.scope) q.path.rank q.path.folder) (names_well_formed (ranks_of m q.scope) (scope_well_formed m is q.scope) q.path.rank q.path.folder).held h)
 
--- an answer whether something was new, where what was joined isn't least
+-- If what was joined isn't the least value, the returned flag says exactly whether it was new.
 pub added_new : {P : Type 0} (added new : Bool) → ¬ P → IsTrue added ↔ (IsTrue new × ¬ P) → added ≡ new
 added_new true true left h = refl
 added_new true false left h = let wrong = (h.0 refl).0 in cc (wrong)
@@ -108,11 +86,11 @@ module _ (m : ScopeMap) (is : AreScopes m) (s : EntryMap) (e : all_held m ≡ s)
   abbrev found : Option (Versioned Content)
   found = find bytes_cmp q.path.name (names_in (ranks_of m q.scope) q.path.rank q.path.folder)
 
-  -- nothing is held where a look-up finds nothing
+  -- Nothing is held where a look-up finds nothing.
   absent_there : found ≡ None → finmap.get s q ≡ None
   absent_there none = sym (held_is m is s e q None (ap written_at none))
 
-  -- whether one of the look-ups finds nothing
+  -- Whether one of the look-ups finds nothing.
   abbrev is_new_name : NameMap → Bool
   is_new_name names = is_none_or (λ _. false) (find bytes_cmp q.path.name names)
 
@@ -131,7 +109,7 @@ module _ (m : ScopeMap) (is : AreScopes m) (s : EntryMap) (e : all_held m ≡ s)
       ∙ is_none_or-within bytes_cmp q.path.folder is_new_name (find nat_cmp q.path.rank (ranks_of m q.scope))
       ∙ is_none_or-within bytes_cmp q.path.name (λ _. false) (find bytes_cmp q.path.folder (or_empty (find nat_cmp q.path.rank (ranks_of m q.scope))))
 
-  -- none does where something is held
+  -- None of them does where something is held.
   pub held_not_new : IsSome (finmap.get s q) → is_new ≡ false
   held_not_new some = new_is ∙ by found (held_there m is s e q some)
     where
@@ -139,7 +117,7 @@ module _ (m : ScopeMap) (is : AreScopes m) (s : EntryMap) (e : all_held m ≡ s)
       by None h = cc (h)
       by (Some v) h = refl
 
-  -- so many places are held with this one, which is new or isn't
+  -- The number of places held after this one is joined, whether it is new or not.
   pub counted_with : (added : Bool) → added ≡ is_new → finmap.len s + from_bool added ≡ cond (finmap.contains_key s q) (finmap.len s) (finmap.len s + 1)
   counted_with added a = ap (λ b. finmap.len s + from_bool b) (a ∙ new_is) ∙ by found refl
     where
@@ -150,7 +128,7 @@ module _ (m : ScopeMap) (is : AreScopes m) (s : EntryMap) (e : all_held m ≡ s)
       by None t = let none = absent_there t in ap (λ (o : Option Entry). cond (is_some o) (finmap.len s) (finmap.len s + 1)) (sym none)
       by (Some v) t = let some = there_held m is s e q (subst (λ (o : Option (Versioned Content)). IsSome o) (sym t) refl) in same ∙ ap (λ b. cond b (finmap.len s) (finmap.len s + 1)) (sym some)
 
-  -- and as many can be counted, if a place where nothing is held can be
+  -- This number stays within the limit, if it does for a new place.
   pub fits_with : (most : ℕ) (added : Bool) → added ≡ is_new → finmap.len s ≤ most → (finmap.get s q ≡ None → finmap.len s + 1 ≤ most) → finmap.len s + from_bool added ≤ most
   fits_with most added a now room = subst (λ b. finmap.len s + from_bool b ≤ most) (sym (a ∙ new_is)) (by found refl)
     where
@@ -158,38 +136,38 @@ module _ (m : ScopeMap) (is : AreScopes m) (s : EntryMap) (e : all_held m ≡ s)
       by None t = room (absent_there t)
       by (Some v) t = omega (arith, now)
 
--- ---- of one scope, again
+-- ---- in one scope
 
--- a path at which the look-ups find something is lawful
-pub lawful_there : (m : RankMap) → AreLawful m → (q : PathParts) (x : Entry) → look_up m q ≡ Some x → IsPath q
-lawful_there m k q x h = k.paths q (subst (λ (o : Option Entry). IsSome o) (sym (get-flat m k.ranks q ∙ h)) refl)
+-- A path at which the look-ups find something is valid.
+pub well_formed_there : (m : RankMap) → AreWellFormed m → (q : PathParts) (x : Entry) → look_up m q ≡ Some x → IsPath q
+well_formed_there m k q x h = k.paths q (subst (λ (o : Option Entry). IsSome o) (sym (get-flat m k.ranks q ∙ h)) refl)
 
--- a folder that was looked for: there is none, or here it is with its names
+-- The result of a search for a folder: it isn't there, or this is the folder with its names.
 abbrev pub IsFound : RankMap → ℕ → List ℕ → Option (Bor (List ℕ) × Bor NameMap) → Type 0
 IsFound m rank folder x = MatchOption x (find bytes_cmp folder (or_empty (find nat_cmp rank m)) ≡ None) (λ f. (f.0.now ≡ folder) × (find bytes_cmp folder (or_empty (find nat_cmp rank m)) ≡ Some f.1.now))
 
-abbrev pub names_lent : ℕ → Option (Bor (List ℕ) × Bor NameMap) → List (PathParts × Entry)
-names_lent rank x = or_nothing (option_map (λ f. in_folder rank f.0.now f.1.now) x)
+abbrev pub names_borrowed : ℕ → Option (Bor (List ℕ) × Bor NameMap) → List (PathParts × Entry)
+names_borrowed rank x = or_nothing (option_map (λ f. in_folder rank f.0.now f.1.now) x)
 
--- all entries in path order
-listed_seen : (m : RankMap) (v : PathMap) → AreRanks m → flat m ≡ v → listed m ≡ finmap.entries v
-listed_seen m v is e = sym (entries-flat m is) ∙ ap (λ (t : PathMap). finmap.entries t) e
+-- All entries, in path order.
+listed_viewed : (m : RankMap) (v : PathMap) → AreRanks m → flat m ≡ v → listed m ≡ finmap.entries v
+listed_viewed m v is e = sym (entries-flat m is) ∙ ap (λ (t : PathMap). finmap.entries t) e
 
 module _ (m : RankMap) (rank : ℕ) (folder : List ℕ) where
-  found_names : (x : Option (Bor (List ℕ) × Bor NameMap)) → IsFound m rank folder x → names_lent rank x ≡ in_folder rank folder (names_in m rank folder)
+  found_names : (x : Option (Bor (List ℕ) × Bor NameMap)) → IsFound m rank folder x → names_borrowed rank x ≡ in_folder rank folder (names_in m rank folder)
   found_names None h = sym (ap (λ (y : Option NameMap). in_folder rank folder (or_empty y)) h)
   found_names (Some f) h = ap (λ (y : List ℕ). in_folder rank y f.1.now) h.0 ∙ sym (ap (λ (y : Option NameMap). in_folder rank folder (or_empty y)) h.1)
 
-  found_paths : (x : Option (Bor (List ℕ) × Bor NameMap)) → AllKeys IsPath (names_lent rank x) → IfSome x (λ f. AllKeys IsPath (in_folder rank f.0.now f.1.now))
+  found_paths : (x : Option (Bor (List ℕ) × Bor NameMap)) → AllKeys IsPath (names_borrowed rank x) → IfSome x (λ f. AllKeys IsPath (in_folder rank f.0.now f.1.now))
   found_paths None h = tt
   found_paths (Some f) h = h
 
-  -- what a folder that was looked for has
-  pub found_entries : (v : PathMap) → AreRanks m → flat m ≡ v → (x : Option (Bor (List ℕ) × Bor NameMap)) → IsFound m rank folder x → names_lent rank x ≡ filter (λ p. is_in rank folder p.0) (finmap.entries v)
-  found_entries v are e x h = found_names x h ∙ sym (folder-listed rank folder m are) ∙ ap (filter (λ p. is_in rank folder p.0)) (listed_seen m v are e)
+  -- The entries of a folder that was searched for.
+  pub found_entries : (v : PathMap) → AreRanks m → flat m ≡ v → (x : Option (Bor (List ℕ) × Bor NameMap)) → IsFound m rank folder x → names_borrowed rank x ≡ filter (λ p. is_in rank folder p.0) (finmap.entries v)
+  found_entries v are e x h = found_names x h ∙ sym (folder-listed rank folder m are) ∙ ap (filter (λ p. is_in rank folder p.0)) (listed_viewed m v are e)
 
-  pub found_lawful_paths : AreLawful m → (x : Option (Bor (List ℕ) × Bor NameMap)) → IsFound m rank folder x → IfSome x (λ f. AllKeys IsPath (in_folder rank f.0.now f.1.now))
-  found_lawful_paths k x h =
+  pub found_well_formed_paths : AreWellFormed m → (x : Option (Bor (List ℕ) × Bor NameMap)) → IsFound m rank folder x → IfSome x (λ f. AllKeys IsPath (in_folder rank f.0.now f.1.now))
+  found_well_formed_paths k x h =
       found_paths x
       (subst (AllKeys IsPath) (sym (found_names x h ∙ sym (folder-listed rank folder m k.ranks)))
       (some_keys (is_in rank folder) IsPath (listed m) (paths_listed m k.ranks k.paths)))

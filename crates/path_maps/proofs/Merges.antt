@@ -1,23 +1,9 @@
--- What a store keeps when another is joined, or is joined in part.
-use Rattle.std.proofs.Common.{◌≡◌, ◌⊎◌, inl, inr, ℕ, ◌+◌, ◌≤◌, Option, IsSome, sym, ap, subst, ◌∙◌, arith, length}
-use Rattle.std.specs.Prelude.{max, ◌-◌, ◌^◌}
+-- What a store keeps when another store is joined, fully or in part.
+use Rattle.std.proofs.Common.{◌+◌, ◌-◌, ◌^◌, ◌∙◌, ◌≡◌, ◌≤◌, ◌⊎◌, ap, arith, inl, inr, IsSome, length, Option, subst, sym, ℕ}
+use Rattle.std.specs.Prelude.{max}
+use Rattle.path_maps.proofs.Prelude.{additions, all_held, all_listed, AreScopes, ascends, changed_places, entries-held, Entry, EntryMap, get-join, greatest_counter, HasWellFormedPaths, held-below, held-between, held-join, held-rest, high_of-join, IsBetween, IsCounted, IsJoin, IsKept, IsPartialJoin, IsPath, IsStoreBelow, join, join-least, join-left, join-right, larger, larger_cases, PlaceParts, ScopeMap, ScopesBelow, store_below_antisym, store_below_trans}
+use Rattle.path_maps.proofs.{Ascends.changed-join, Ascends.len-join, Listed.places_well_formed, Sizes.held_above, Sizes.len-below}
 use Rattle.std.specs.FinMap as finmap
-use Rattle.join_law.specs.Order.{IsJoin, IsBetween, IsPartialJoin}
-use Rattle.load_path.specs.Paths.{IsPath}
-use Rattle.load_places.specs.Places.{PlaceParts}
-use Rattle.edit_sums.specs.Entries.{Entry, larger}
-use Rattle.edit_sums.specs.EntryLaws.{larger_cases}
-use Rattle.edit_sums.specs.Sums.{EntryMap, join, changed_places, greatest_counter, IsStoreBelow}
-use Rattle.edit_sums.specs.SumLaws.{store_below_trans, store_below_antisym, join-left, join-right, join-least}
-use Rattle.edit_sums.specs.GreatestLaws.{get-join}
-use Rattle.edit_sums.specs.CounterLaws.{high_of-join}
-use Rattle.path_maps.specs.PlaceMaps.{ScopeMap, ScopesBelow, AreScopes, all_held, all_listed}
-use Rattle.path_maps.specs.PlaceMapLaws.{held-join, held-below, held-between, held-rest, entries-held}
-use Rattle.path_maps.specs.Kept.{HasLawfulPaths, IsCounted, IsKept}
-use Rattle.path_maps.specs.Changes.{rises, additions}
-use Rattle.path_maps.proofs.Rises.{changed-join, len-join}
-use Rattle.path_maps.proofs.Sizes.{len-below, held_above}
-use Rattle.path_maps.proofs.Listed.{places_lawful}
 
 -- ---- at the level of stores
 
@@ -38,7 +24,7 @@ counted_join s t a b g h len c d is = record {
   greatest = (λ i. max (c.greatest i) (d.greatest i)) ∙ sym (high_of-join s t);
 }
 
--- joining again what was joined in part gives the join
+-- Joining again what was joined in part gives the join.
 pub join_again : (s t u : EntryMap) → IsStoreBelow s u → IsStoreBelow u (join s t) → join u t ≡ join s t
 join_again s t u kept within =
     store_below_antisym (join u t) (join s t)
@@ -48,7 +34,7 @@ join_again s t u kept within =
 below_paths : (s t : EntryMap) → IsStoreBelow s t → HasPaths t → HasPaths s
 below_paths s t h p q f = p q (held_above (finmap.get s q) (finmap.get t q) (h q) f)
 
--- ---- of maps of maps
+-- ---- of nested maps
 
 module _ (m o : ScopeMap) (s t : EntryMap) (a b g h : ℕ) (is : all_held m ≡ s) (is_t : all_held o ≡ t) (k : IsKept m a g) (l : IsKept o b h) where
   counted_s : IsCounted s a g
@@ -69,7 +55,7 @@ module _ (m o : ScopeMap) (s t : EntryMap) (a b g h : ℕ) (is : all_held m ≡ 
         fits = fits;
       }
 
-      pub merged_changes : (changed : ℕ) → changed ≡ rises s (finmap.entries t) → changed ≡ changed_places s (all_held n)
+      pub merged_changes : (changed : ℕ) → changed ≡ ascends s (finmap.entries t) → changed ≡ changed_places s (all_held n)
       merged_changes changed e = e ∙ sym (changed-join s t) ∙ ap (changed_places s) (sym merged)
 
     module _ (v : IsBetween ScopesBelow m o n) where
@@ -82,13 +68,13 @@ module _ (m o : ScopeMap) (s t : EntryMap) (a b g h : ℕ) (is : all_held m ≡ 
       pub part_again : join (all_held n) t ≡ join s t
       part_again = join_again s t (all_held n) part_kept part_within
 
-    -- what is below the join is counted as it is
+    -- Maps that are below the join can be counted anew.
     module _ (w : IsStoreBelow (all_held n) (join s t)) where
       within_paths : HasPaths (all_held n)
       within_paths = below_paths (all_held n) (join s t) w (join_paths s t counted_s.paths counted_t.paths)
 
-      pub within_listed : HasLawfulPaths n
-      within_listed = places_lawful n is_n within_paths
+      pub within_listed : HasWellFormedPaths n
+      within_listed = places_well_formed n is_n within_paths
 
       same_len : length (all_listed n) ≡ finmap.len (all_held n)
       same_len = ap length (sym (entries-held n is_n)) ∙ sym (finmap.len-entries (all_held n))
@@ -108,7 +94,7 @@ module _ (m o : ScopeMap) (s t : EntryMap) (a b g h : ℕ) (is : all_held m ≡ 
         fits = fits;
       }
 
-    -- what is left of a join that was refused
+    -- What is left of a join that was refused.
     module _ (r : ScopeMap) (is_r : AreScopes r) (j : IsPartialJoin ScopesBelow m o n r) where
       pub partly : IsBetween ScopesBelow m o n
       partly = record { kept = j.kept; within = λ z p q. ((j.bounds z).1 (p, q)).0 }

@@ -1,25 +1,12 @@
 -- A removal where a content is visible.
-use Rattle.std.proofs.Common.{◌≡◌, Option, Some, None, true, refl, ap, ◌∙◌}
-use Rattle.std.specs.Prelude.{Bool, not, is_some}
-use Rattle.std.specs.Option.{option_and_then}
-use Rattle.std.specs.Ordering.{nat_cmp, is_eq}
+use Rattle.std.proofs.Common.{◌∙◌, ◌≡◌, ap, Bool, is_some, None, not, Option, refl, Some, true}
 use Rattle.std.specs.FinMap.Entries.{find}
-use Rattle.join_law.specs.declared.versions.Version.{Version}
-use Rattle.join_law.specs.declared.versions.Versioned.{Versioned}
-use Rattle.join_law.specs.declared.versions.Versioned.TheVariants.{Never, At}
-use Rattle.join_law.specs.VersionOrder.{written_at, has_other}
-use Rattle.join_law.specs.Maps.{is_some_and, or_empty}
-use Rattle.load_places.specs.Places.{PlaceParts, scope_cmp}
-use Rattle.edit_sums.specs.declared.contents.Content.{Content}
-use Rattle.edit_sums.specs.declared.contents.Content.TheVariants.{Gone, Link, File}
-use Rattle.edit_sums.specs.Contents.{content_cmp}
-use Rattle.edit_sums.specs.Entries.{Entry}
-use Rattle.edit_sums.specs.Sums.{EntryMap, shown, visible_at}
-use Rattle.path_maps.specs.PathMaps.{NameMap, FolderMap, RankMap, bytes_cmp, look_up}
-use Rattle.path_maps.specs.PlaceMaps.{ScopeMap, AreScopes, all_held, look_up_place}
+use Rattle.std.specs.Option.{option_and_then}
+use Rattle.std.specs.Ordering.{is_eq, nat_cmp}
+use Rattle.path_maps.proofs.Prelude.{all_held, AreScopes, At, bytes_cmp, Content, content_cmp, Entry, EntryMap, File, FolderMap, Gone, has_other, is_some_and, Link, look_up, look_up_place, NameMap, Never, or_empty, PlaceParts, RankMap, scope_cmp, ScopeMap, shown, Version, Versioned, visible_at, written_at}
 use Rattle.path_maps.proofs.LookUps.{held_is}
 
--- what is no removal is visible
+-- What is not a removal is visible.
 other_shown : (version : Version) (content : Content) → not (is_eq (content_cmp content Gone)) ≡ is_some (shown (record { version = version; content = content }))
 other_shown version Gone = refl
 other_shown version (Link target) = refl
@@ -31,7 +18,7 @@ other_visible (Some Never) = refl
 other_visible (Some (At x)) = other_shown x.version x.content
 
 module _ (q : PlaceParts) (content : Content) where
-  -- a write of this content is made at the place in maps of maps
+  -- Whether this content, written at the place in nested maps, changes what is held there.
   abbrev pub is_made_in_names : NameMap → Bool
   is_made_in_names names = is_some_and (has_other content_cmp content) (find bytes_cmp q.path.name names)
 
@@ -44,7 +31,7 @@ module _ (q : PlaceParts) (content : Content) where
   abbrev pub is_made : ScopeMap → Bool
   is_made m = is_some_and is_made_in_ranks (find scope_cmp q.scope m)
 
--- one of a removal just where a content is visible
+-- A removal is written exactly where a content is visible.
 made_visible : (q : PlaceParts) (m : ScopeMap) → is_made q Gone m ≡ is_some (option_and_then shown (look_up_place m q))
 made_visible q m = by_scope (find scope_cmp q.scope m)
   where
@@ -66,7 +53,7 @@ removal_visible m is s e q p at content gone =
     ∙ ap (λ (x : Option Entry). is_some (option_and_then shown x)) (held_is m is s e q (look_up_place m q) refl)
     ∙ ap (λ (r : PlaceParts). is_some (visible_at s r)) at
 
--- what is visible is held
+-- What is visible is held.
 pub visible_held : (x : Option Entry) → is_some (option_and_then shown x) ≡ true → is_some x ≡ true
 visible_held None h = h
 visible_held (Some x) h = refl

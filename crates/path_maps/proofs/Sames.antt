@@ -1,33 +1,13 @@
--- Maps of maps that hold the same are the same.
-use Rattle.std.proofs.Common.{◌≡◌, ℕ, List, [], Option, Some, None, sym, ap, subst, ◌∙◌}
-use Rattle.std.specs.Ordering.{nat_cmp}
+-- Nested maps that hold the same are equal.
+use Rattle.std.proofs.Common.{[], ◌∙◌, ◌≡◌, ap, List, None, Option, Some, subst, sym, ℕ}
 use Rattle.std.specs.Cmp.{nat_cmp_total}
 use Rattle.std.specs.Cmp.Lexicographic.{nat_list_cmp_total}
-use Rattle.std.specs.FinMap as finmap
-use Rattle.std.specs.FinMap.{slice_cmp-IsAntisymmetric, nat_cmp-IsAntisymmetric}
+use Rattle.std.specs.FinMap.{nat_cmp-IsAntisymmetric, slice_cmp-IsAntisymmetric}
 use Rattle.std.specs.FinMap.Entries.{find}
+use Rattle.std.specs.Ordering.{nat_cmp}
 use Rattle.std.specs.declared.cmp.Ordering.TheVariants.{Equal}
-use Rattle.join_law.specs.declared.versions.Versioned.{Versioned}
-use Rattle.join_law.specs.declared.versions.Versioned.TheVariants.{Never, At}
-use Rattle.join_law.specs.VersionOrder.{IsUpTo, written_at}
-use Rattle.join_law.specs.VersionedLaws.{never_least, both_up}
-use Rattle.join_law.specs.Maps.{OptionBelow, or_empty}
-use Rattle.join_law.specs.MapLaws.{map_chain}
-use Rattle.join_law.specs.MapOneLaws.{maps_one}
-use Rattle.edit_sums.specs.declared.contents.Content.{Content}
-use Rattle.edit_sums.specs.Contents.{content_cmp}
-use Rattle.edit_sums.specs.ContentLaws.{content_cmp_total, content_cmp-IsAntisymmetric}
-use Rattle.edit_sums.specs.Entries.{IsBelow}
-use Rattle.edit_sums.specs.EntryLaws.{below_refl}
-use Rattle.edit_sums.specs.Sums.{EntryMap}
-use Rattle.load_path.specs.Paths.{PathParts}
-use Rattle.load_places.specs.Places.{PlaceParts, scope_cmp}
-use Rattle.load_places.specs.PlaceLaws.{scope_cmp_total, scope_cmp-IsAntisymmetric}
-use Rattle.path_maps.specs.PathMaps.{NameMap, FolderMap, RankMap, bytes_cmp, NamesBelow, FoldersBelow, RanksBelow, AreNames, AreFolders, AreRanks, look_up}
-use Rattle.path_maps.specs.PathMapLaws.{folders_chain, folders_itself, names_chain}
-use Rattle.path_maps.specs.PlaceMaps.{ScopeMap, ScopesBelow, AreScopes, all_held, look_up_place}
-use Rattle.path_maps.specs.PlaceMapLaws.{get-held}
-use Rattle.path_maps.specs.Scopes.{within}
+use Rattle.path_maps.proofs.Prelude.{all_held, AreFolders, AreNames, AreRanks, AreScopes, At, below_refl, both_up, bytes_cmp, Content, content_cmp, content_cmp-IsAntisymmetric, content_cmp_total, EntryMap, FolderMap, folders_chain, folders_itself, FoldersBelow, get-held, IsBelow, IsUpTo, look_up, look_up_place, map_chain, maps_one, NameMap, names_chain, NamesBelow, Never, never_least, OptionBelow, or_empty, PathParts, PlaceParts, RankMap, RanksBelow, scope_cmp, scope_cmp-IsAntisymmetric, scope_cmp_total, ScopeMap, ScopesBelow, Versioned, within, written_at}
+use Rattle.std.specs.FinMap as finmap
 
 bytes_same : (x y : List ℕ) → bytes_cmp x y ≡ Equal → x ≡ y
 bytes_same = slice_cmp-IsAntisymmetric nat_cmp-IsAntisymmetric
@@ -38,7 +18,7 @@ no_names z = record { at = λ q. tt }
 pub no_folders : (z : FolderMap) → FoldersBelow [] z
 no_folders z = record { at = λ q. tt }
 
--- ---- what has at most the same everywhere is below
+-- ---- maps that hold at most the same everywhere are below
 
 names_from : (a b : NameMap) → ((n : List ℕ) → IsBelow (written_at (find bytes_cmp n a)) (written_at (find bytes_cmp n b))) → NamesBelow a b
 names_from a b h = record { at = λ n. by (find bytes_cmp n a) (find bytes_cmp n b) (h n) }
@@ -65,7 +45,7 @@ ranks_from a b h = record { at = λ r. by (find nat_cmp r a) (find nat_cmp r b) 
     by (Some x) None h = λ z. folders_chain x [] z (folders_from x [] h) (no_folders z)
     by (Some x) (Some y) h = folders_from x y h
 
--- ---- so what holds the same is the same
+-- ---- so maps that hold the same are equal
 
 leaf_one : (x y : Versioned Content) → Unit {0} → Unit {0} → IsUpTo content_cmp x y × IsUpTo content_cmp y x → x ≡ y
 leaf_one x y p q both = both_up content_cmp content_cmp_total content_cmp-IsAntisymmetric x y both.0 both.1
@@ -79,7 +59,7 @@ folders_one = maps_one bytes_cmp NamesBelow nat_list_cmp_total AreNames bytes_sa
 ranks_one : (x y : RankMap) → AreRanks x → AreRanks y → RanksBelow x y × RanksBelow y x → x ≡ y
 ranks_one = maps_one nat_cmp FoldersBelow nat_cmp_total AreFolders nat_cmp-IsAntisymmetric folders_one
 
--- ---- and so it is of places
+-- ---- the same for places
 
 ranks_chain : (x y z : RankMap) → RanksBelow x y → RanksBelow y z → RanksBelow x z
 ranks_chain = map_chain FoldersBelow folders_itself folders_chain nat_cmp

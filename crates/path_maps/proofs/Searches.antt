@@ -1,22 +1,13 @@
--- What a binary search by bytes finds among pairs in order.
-use Rattle.std.proofs.Common.{◌≡◌, ◌<◌, ℕ, zero, suc, List, [], ◌∷◌, length, get_or, Some, None, Result, Ok, Err, IfOk, IfErr, IsTrue, refl, sym, ap, ◌∙◌}
+-- What a binary search by bytes finds among sorted pairs.
+use Rattle.std.proofs.Common.{[], ◌<◌, ◌∙◌, ◌∷◌, ◌≡◌, ap, Err, get_or, IfErr, IfOk, IsTrue, length, List, None, Ok, refl, Result, slice_get, Some, suc, sym, zero, ℕ}
 use Rattle.std.proofs.lemmas.List.{get_or_default}
-use Rattle.std.specs.Prelude.{slice_get}
-use Rattle.std.specs.List.Sorted.{IsSearchInRange, IsBinarySearchResult}
 use Rattle.std.specs.Cmp.{tied_itself}
 use Rattle.std.specs.Cmp.Lexicographic.{nat_list_cmp_total}
-use Rattle.std.specs.FinMap.{slice_cmp-IsAntisymmetric, nat_cmp-IsAntisymmetric}
+use Rattle.std.specs.FinMap.{nat_cmp-IsAntisymmetric, slice_cmp-IsAntisymmetric}
 use Rattle.std.specs.FinMap.Entries.{find, is_sorted}
+use Rattle.std.specs.List.Sorted.{IsBinarySearchResult, IsSearchInRange}
 use Rattle.std.specs.declared.cmp.Ordering.TheVariants.{Equal}
-use Rattle.sorted_pairs.specs.Places.{IsAt}
-use Rattle.sorted_pairs.specs.PlaceLaws.{find_at, find_gap}
-use Rattle.sorted_pairs.specs.SearchLaws.{search_finds}
-use Rattle.load_places.specs.Places.{scope_cmp}
-use Rattle.load_places.specs.PlaceLaws.{scope_cmp_total}
-use Rattle.load_places.specs.declared.places.Scope.{Scope}
-use Rattle.path_maps.specs.PathMaps.{RankMap, bytes_cmp}
-use Rattle.path_maps.specs.PlaceMaps.{IsFoundAt, ScopeMap}
-use Rattle.path_maps.specs.Folders.{IsPlaceOf}
+use Rattle.path_maps.proofs.Prelude.{bytes_cmp, find_at, find_gap, IsAt, IsFoundAt, IsPlaceOf, RankMap, Scope, scope_cmp, scope_cmp_total, ScopeMap, search_finds}
 
 module _ {V : Type 0} (k : List ℕ) where
   tied_at : (es : List (List ℕ × V)) (i : ℕ) (d : List ℕ × V) → IsAt bytes_cmp k es i → bytes_cmp k (get_or es i d).0 ≡ Equal
@@ -24,33 +15,33 @@ module _ {V : Type 0} (k : List ℕ) where
   tied_at (e ∷ es) zero d a = a
   tied_at (e ∷ es) (suc i) d a = tied_at es i d a.1
 
-  -- a key that stands at a place has its value there
+  -- A key at an index has its value there.
   pub place_at : (es : List (List ℕ × V)) (i : ℕ) → IsAt bytes_cmp k es i → IsPlaceOf k es i
   place_at es i a d = (sym (slice_cmp-IsAntisymmetric nat_cmp-IsAntisymmetric k _ (tied_at es i d a)), find_at bytes_cmp k es i d a)
 
-  -- a key that stands at a place is found there
+  -- A key at an index is found there.
   pub place_is : (es : List (List ℕ × V)) (i : ℕ) → IsTrue (is_sorted bytes_cmp es) → i < length es → ((d : List ℕ × V) → bytes_cmp (get_or es i d).0 k ≡ Equal) → IsPlaceOf k es i
   place_is es i s lt tied = place_at es i (search_finds bytes_cmp nat_list_cmp_total k es (Ok i) s lt tied).0
 
-  -- what an answer of the search says
+  -- What a result of the search means.
   pub places : (es : List (List ℕ × V)) (r : Result ℕ ℕ) → IsTrue (is_sorted bytes_cmp es) → IsSearchInRange r (length es) → IsBinarySearchResult (λ (e : List ℕ × V). bytes_cmp e.0 k) es r
       → IfOk r (λ i. i < length es) × IfOk r (IsPlaceOf k es) × IfErr r (λ _. find bytes_cmp k es ≡ None)
   places es (Ok i) s range found = (range, place_is es i s range found, tt)
   places es (Err i) s range found = (tt, tt, find_gap bytes_cmp k nat_list_cmp_total es i s (search_finds bytes_cmp nat_list_cmp_total k es (Err i) s range found).1)
 
-  -- the pair at a place, whose key is this one, is found
+  -- The pair at an index, if it has this key, is found.
   pub same_is : (es : List (List ℕ × V)) (i : ℕ) (d : List ℕ × V) → IsTrue (is_sorted bytes_cmp es) → i < length es → d ≡ get_or es i d → d.0 ≡ k → find bytes_cmp k es ≡ Some d.1
   same_is es i d s lt at same =
       let tied : bytes_cmp d.0 k ≡ Equal = ap (λ (x : List ℕ). bytes_cmp x k) same ∙ tied_itself nat_list_cmp_total k in
       (place_is es i s lt (λ b. ap (λ p. bytes_cmp p.0 k) (get_or_default es i b d lt ∙ sym at) ∙ tied) d).1 ∙ ap (λ p. Some p.1) (sym at)
 
--- the empty key stands at the first pair or nowhere
+-- The empty key is at the first pair or nowhere.
 pub unnamed_nowhere : {V : Type 0} (pairs : List (List ℕ × V)) → IsTrue (is_sorted bytes_cmp pairs) → ((e : List ℕ × V) → slice_get pairs 0 ≡ Some e → e.0 ≡ [] → ⊥) → find bytes_cmp [] pairs ≡ None
 unnamed_nowhere [] s named = refl
 unnamed_nowhere (([], v) ∷ es) s named = absurd (named ([], v) refl refl)
 unnamed_nowhere ((b ∷ bytes, v) ∷ es) s named = find_gap bytes_cmp [] nat_list_cmp_total ((b ∷ bytes, v) ∷ es) 0 s refl
 
--- what an answer of a search among scopes says
+-- What a result of a search among scopes means.
 pub scope_places : (scope : Scope) (es : ScopeMap) (r : Result ℕ ℕ) → IsTrue (is_sorted scope_cmp es) → IsSearchInRange r (length es) → IsBinarySearchResult (λ (e : Scope × RankMap). scope_cmp e.0 scope) es r
     → IfOk r (λ i. i < length es) × IfOk r (IsFoundAt es scope) × IfErr r (λ _. find scope_cmp scope es ≡ None)
 scope_places scope es (Ok i) s range found = (range, λ d. find_at scope_cmp scope es i d (search_finds scope_cmp scope_cmp_total scope es (Ok i) s range found).0, tt)

@@ -1,36 +1,28 @@
--- A store of one entry is maps of one pair each.
-use Rattle.std.proofs.Common.{◌≡◌, ◌≢◌, ◌≤◌, ℕ, List, [], ◌∷◌, ◌++◌, refl, sym, ap, ◌∙◌, length, arith, length-append}
+-- A store of one entry consists of maps with one pair each.
+use Rattle.std.proofs.Common.{[], ◌++◌, ◌∙◌, ◌∷◌, ◌≡◌, ◌≢◌, ◌≤◌, ap, arith, length, length-append, List, refl, sym, ℕ}
 use Rattle.std.proofs.lemmas.List.{length-map}
+use Rattle.path_maps.proofs.Prelude.{all_held, AllHeld, AreFolders, AreNames, AreRanks, AreScopes, at_name, content_cmp, entries-held, EntryMap, FolderMap, FoldersBelow, in_folder, in_rank, in_scope, IsLeast, IsSinglePair, IsUpTo, listed, NameMap, NamesBelow, RankMap, RanksBelow, Scope, ScopeMap, spread}
+use Rattle.path_maps.proofs.LeftAfter.{at_name_some, in_folder_some, in_rank_some, in_scope_some}
 use Rattle.std.specs.FinMap as finmap
-use Rattle.join_law.specs.Order.{IsLeast}
-use Rattle.join_law.specs.VersionOrder.{IsUpTo}
-use Rattle.join_law.specs.Maps.{AllHeld, IsSinglePair}
-use Rattle.edit_sums.specs.Contents.{content_cmp}
-use Rattle.edit_sums.specs.Sums.{EntryMap}
-use Rattle.path_maps.specs.Spread.{spread}
-use Rattle.load_places.specs.declared.places.Scope.{Scope}
-use Rattle.path_maps.specs.PathMaps.{NameMap, FolderMap, RankMap, NamesBelow, FoldersBelow, RanksBelow, AreNames, AreFolders, AreRanks, at_name, in_folder, in_rank, listed}
-use Rattle.path_maps.specs.PlaceMaps.{ScopeMap, AreScopes, all_held, in_scope}
-use Rattle.path_maps.specs.PlaceMapLaws.{entries-held}
-use Rattle.path_maps.proofs.LeftBehind.{at_name_some, in_folder_some, in_rank_some, in_scope_some}
 
 some_length : {A : Type 0} (xs : List A) → xs ≢ [] → 1 ≤ length xs
 some_length [] h = absurd (h refl)
 some_length (x ∷ xs) h = omega arith
 
--- each pair stands for something: where all of them stand for one thing, there is one, and it does
+-- Each pair expands to at least one item. If all of them expand to one item in total, there is just one pair, and it
+-- expands to one.
 single_spread : {K V A E : Type 0} (part : K → V → List (A × E)) (below : V → V → Type 0) (valid is_single : V → Type 0) →
     ((k : K) (v : V) → ¬ IsLeast below v → valid v → part k v ≢ []) → ((k : K) (v : V) → valid v → length (part k v) ≡ 1 → is_single v) →
     (es : List (K × V)) → AllHeld below valid es → length (spread part es) ≡ 1 → IsSinglePair is_single es
 single_spread part below valid is_single some one [] h n = absurd (omega (arith, n))
 single_spread part below valid is_single some one (e ∷ []) h n =
     let all = length-append (part e.0 e.1) [] in
-    one e.0 e.1 h.0.lawful (omega (arith, n, all))
+    one e.0 e.1 h.0.well_formed (omega (arith, n, all))
 single_spread part below valid is_single some one (e ∷ f ∷ es) h n =
     let all = length-append (part e.0 e.1) (part f.0 f.1 ++ spread part es) in
     let rest = length-append (part f.0 f.1) (spread part es) in
-    let first = some_length (part e.0 e.1) (some e.0 e.1 h.0.not_least h.0.lawful) in
-    let second = some_length (part f.0 f.1) (some f.0 f.1 h.1.0.not_least h.1.0.lawful) in
+    let first = some_length (part e.0 e.1) (some e.0 e.1 h.0.not_least h.0.well_formed) in
+    let second = some_length (part f.0 f.1) (some f.0 f.1 h.1.0.not_least h.1.0.well_formed) in
     absurd (omega (arith, n, all, rest, first, second))
 
 abbrev IsSingleName : NameMap → Type 0
@@ -51,7 +43,7 @@ single_ranks ranks is =
 single_placed : (scope : Scope) (ranks : RankMap) → AreRanks ranks → length (in_scope scope ranks) ≡ 1 → IsSinglePair (IsSinglePair IsSingleName) ranks
 single_placed scope ranks is one = single_ranks ranks is (sym (length-map (listed ranks) _) ∙ one)
 
--- the maps of a store of one entry
+-- The maps of a store of one entry.
 pub single_scopes : (m : ScopeMap) (s : EntryMap) → all_held m ≡ s → AreScopes m → finmap.len s ≡ 1 → IsSinglePair (IsSinglePair (IsSinglePair IsSingleName)) m
 single_scopes m s e is one =
     single_spread in_scope RanksBelow AreRanks (IsSinglePair (IsSinglePair IsSingleName)) in_scope_some single_placed m is.held

@@ -1,21 +1,13 @@
 -- A store that is below another holds no more places.
-use Rattle.std.proofs.Common.{◌≡◌, ◌≤◌, Bool, true, false, cond, List, [], ◌∷◌, length, Option, Some, None, IsTrue, IsSome, refl, sym, ap, subst, ◌∙◌, arith}
-use Rattle.std.specs.Prelude.{◌&&◌}
+use Rattle.std.proofs.Common.{[], ◌&&◌, ◌∙◌, ◌∷◌, ◌≡◌, ◌≤◌, ap, arith, Bool, cond, false, IsSome, IsTrue, length, List, None, Option, refl, Some, subst, sym, true}
 use Rattle.std.proofs.lemmas.Bool.{and_parts}
-use Rattle.std.specs.declared.cmp.Ordering.{Ordering}
-use Rattle.std.specs.declared.cmp.Ordering.TheVariants.{Less, Equal, Greater}
+use Rattle.std.specs.FinMap.Entries.{below_all, find, is_sorted}
 use Rattle.std.specs.Ordering.{eq_by_cmp, is_eq, is_lt, ordering_reverse}
+use Rattle.std.specs.declared.cmp.Ordering.{Ordering}
+use Rattle.std.specs.declared.cmp.Ordering.TheVariants.{Equal, Greater, Less}
+use Rattle.path_maps.proofs.Prelude.{Entry, EntryMap, find_below, from_T, is_less, IsBelow, IsStoreBelow, place_cmp, place_cmp_total, PlaceParts, same_place, tied}
+use Rattle.path_maps.proofs.Ascends.{found_entry}
 use Rattle.std.specs.FinMap as finmap
-use Rattle.std.specs.FinMap.Entries.{find, is_sorted, below_all}
-use Rattle.list_laws.specs.Truths.{from_T}
-use Rattle.list_laws.specs.Orderings.{is_less}
-use Rattle.load_places.specs.Places.{PlaceParts, place_cmp}
-use Rattle.load_places.specs.PlaceLaws.{place_cmp_total}
-use Rattle.edit_sums.specs.Entries.{Entry, IsBelow}
-use Rattle.edit_sums.specs.Sums.{EntryMap, IsStoreBelow}
-use Rattle.edit_sums.specs.GreatestLaws.{same_place, tied}
-use Rattle.path_maps.specs.SpreadLaws.{find_below}
-use Rattle.path_maps.proofs.Rises.{found_entry}
 
 abbrev Pairs : Type 0
 Pairs = List (PlaceParts × Entry)
@@ -23,16 +15,16 @@ Pairs = List (PlaceParts × Entry)
 none_some : (x : Option Entry) → x ≡ None → IsSome x → ⊥
 none_some x e h = let wrong = subst (λ (y : Option Entry). IsSome y) e h in cc (wrong)
 
--- a key below all of these ties with none that is found there
+-- A key below all of these entries is equal to none that is found there.
 apart : (k q : PlaceParts) (es : Pairs) → IsTrue (below_all place_cmp k es) → IsSome (find place_cmp q es) → eq_by_cmp place_cmp q k ≡ true → ⊥
 apart k q es b h t = none_some (find place_cmp q es) (ap (λ (p : PlaceParts). find place_cmp p es) (tied q k t) ∙ find_below place_cmp k es b) h
 
--- what is found, and not at the first
-behind : (q : PlaceParts) (y : PlaceParts × Entry) (ys : Pairs) (b : Bool) → eq_by_cmp place_cmp q y.0 ≡ b → (eq_by_cmp place_cmp q y.0 ≡ true → ⊥) → IsSome (cond b (Some y.1) (find place_cmp q ys)) → IsSome (find place_cmp q ys)
-behind q y ys true t no_tie h = absurd (no_tie t)
-behind q y ys false t no_tie h = h
+-- What is found, but not at the first entry, is found among the rest.
+after : (q : PlaceParts) (y : PlaceParts × Entry) (ys : Pairs) (b : Bool) → eq_by_cmp place_cmp q y.0 ≡ b → (eq_by_cmp place_cmp q y.0 ≡ true → ⊥) → IsSome (cond b (Some y.1) (find place_cmp q ys)) → IsSome (find place_cmp q ys)
+after q y ys true t no_tie h = absurd (no_tie t)
+after q y ys false t no_tie h = h
 
--- what is found among the rest is found
+-- What is found among the rest is found.
 further : (q : PlaceParts) (x : PlaceParts × Entry) (xs : Pairs) (b : Bool) → IsSome (find place_cmp q xs) → IsSome (cond b (Some x.1) (find place_cmp q xs))
 further q x xs true h = refl
 further q x xs false h = h
@@ -68,13 +60,13 @@ lengths (x ∷ xs) (y ∷ ys) s t h = by (place_cmp x.0 y.0) refl (lengths xs ys
     by : (r : Ordering) → place_cmp x.0 y.0 ≡ r → (((q : PlaceParts) → IsSome (find place_cmp q xs) → IsSome (find place_cmp q ys)) → length xs ≤ length ys) → (((q : PlaceParts) → IsSome (find place_cmp q (x ∷ xs)) → IsSome (find place_cmp q ys)) → length (x ∷ xs) ≤ length ys) → length (x ∷ xs) ≤ length (y ∷ ys)
     by Less o rest all = absurd (none_some (find place_cmp x.0 (y ∷ ys)) (find_below place_cmp x.0 (y ∷ ys) (below_further x.0 y ys o below_y)) (h x.0 here))
     by Equal o rest all =
-        let one = rest (λ q f. behind q y ys (eq_by_cmp place_cmp q y.0) refl
+        let one = rest (λ q f. after q y ys (eq_by_cmp place_cmp q y.0) refl
         (λ e. apart x.0 q xs below_x f (ap (λ (p : PlaceParts). eq_by_cmp place_cmp p x.0) (tied q y.0 e) ∙ ap is_eq (place_cmp_total.antisymm y.0 x.0 ∙ ap ordering_reverse o)))
         (h q (further q x xs (eq_by_cmp place_cmp q x.0) f))) in
         omega (arith, one)
     by Greater o rest all =
         let less = place_cmp_total.antisymm y.0 x.0 ∙ ap ordering_reverse o in
-        let more = all (λ q f. behind q y ys (eq_by_cmp place_cmp q y.0) refl (λ e. apart y.0 q (x ∷ xs) (below_further y.0 x xs less below_x) f e) (h q f)) in
+        let more = all (λ q f. after q y ys (eq_by_cmp place_cmp q y.0) refl (λ e. apart y.0 q (x ∷ xs) (below_further y.0 x xs less below_x) f e) (h q f)) in
         omega (arith, more)
 
 pub held_above : (x y : Option Entry) → IsBelow x y → IsSome x → IsSome y

@@ -1,18 +1,11 @@
--- What two stores show where some places are known to be just those at which it differs.
-use Rattle.std.specs.Prelude.{◌≡◌, ◌≢◌, ◌↔◌, ◌⊎◌, List, Option, Some, None, Bool, true, false, refl}
+-- What two stores show, given exactly the places at which what they show differs.
+use Rattle.std.proofs.Common.{◌↔◌, ◌∙◌, ◌≡◌, ◌≢◌, ◌⊎◌, ap, Bool, false, inl, inr, List, None, Option, refl, Some, sym, true}
+use Rattle.std.specs.Cmp.{tied_itself}
 use Rattle.std.specs.Option.{option_eq}
 use Rattle.std.specs.Ordering.{eq_by_cmp, is_eq}
-use Rattle.std.proofs.Common.{ap, sym, ◌∙◌, inl, inr}
-use Rattle.std.specs.Cmp.{tied_itself}
-use Rattle.list_laws.specs.Members.{IsAmong}
-use Rattle.list_laws.specs.Orderings.{is_equal}
-use Rattle.load_places.specs.Places.{PlaceParts}
-use Rattle.edit_sums.specs.declared.contents.Content.{Content}
-use Rattle.edit_sums.specs.Contents.{content_cmp}
-use Rattle.edit_sums.specs.ContentLaws.{content_cmp_total, content_cmp-IsAntisymmetric}
-use Rattle.edit_sums.specs.Sums.{EntryMap, visible_at}
+use Rattle.path_maps.specs.Prelude.{Content, content_cmp, content_cmp-IsAntisymmetric, content_cmp_total, EntryMap, is_equal, IsAmong, PlaceParts, visible_at}
 
--- the test of contents that may be absent
+-- Equality of optional contents.
 abbrev pub same_contents : Option Content → Option Content → Bool
 same_contents = option_eq (eq_by_cmp content_cmp)
 
@@ -29,7 +22,7 @@ same_contents-itself (Some x) = ap is_eq (tied_itself content_cmp_total x)
 pub same_contents-false : (x y : Option Content) → same_contents x y ≡ false → x ≢ y
 same_contents-false x y h e = let wrong = sym h ∙ ap (same_contents x) (sym e) ∙ same_contents-itself x in cc (wrong)
 
--- These places are just those at which what is visible differs; then every other one shows the same.
+-- If these are exactly the places at which what is visible differs, both stores show the same at every other place.
 abbrev pub ChangedOrSame : Type 0
 ChangedOrSame = (new old : EntryMap) (places : List PlaceParts)
     → ((p : PlaceParts) → IsAmong p places ↔ (visible_at new p ≢ visible_at old p))

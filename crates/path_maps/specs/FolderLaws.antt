@@ -1,25 +1,19 @@
--- The entries of one folder among all of them.
-use Rattle.std.specs.Prelude.{◌≡◌, ℕ, ◌==◌, ◌&&◌, List, [], ◌∷◌, ◌++◌, Option, Some, None, Bool, true, false, cond, refl, IsTrue, filter, map}
-use Rattle.std.specs.Str.{bytes_eq}
-use Rattle.std.specs.Ordering.{nat_cmp, eq_by_cmp, is_eq}
-use Rattle.std.specs.Cmp.{IsTotalOrder, nat_cmp_total, tied_itself, eq_by_cmp_equiv}
-use Rattle.std.specs.Cmp.Lexicographic.{nat_list_cmp_total}
-use Rattle.std.specs.FinMap.{nat_cmp-IsAntisymmetric, slice_cmp-IsAntisymmetric}
-use Rattle.std.specs.FinMap.Entries.{find, is_sorted, below_all}
-use Rattle.std.specs.declared.cmp.Ordering.{Ordering}
-use Rattle.std.specs.declared.cmp.Ordering.TheVariants.{Less, Equal, Greater}
-use Rattle.std.proofs.Common.{ap, sym, subst, ◌∙◌, arith, append-nil}
+-- The entries of one folder among all entries.
+use Rattle.std.proofs.Common.{[], ◌&&◌, ◌++◌, ◌==◌, ◌∙◌, ◌∷◌, ◌≡◌, ap, append-nil, arith, Bool, cond, false, filter, IsTrue, List, map, None, Option, refl, Some, subst, sym, true, ℕ}
 use Rattle.std.proofs.lemmas.Bool.{and_parts}
 use Rattle.std.proofs.lemmas.Bool.Decides.{nat_tests}
 use Rattle.std.proofs.lemmas.List.Elements.{filter-append}
 use Rattle.std.proofs.lemmas.Map.Text.{is_eq-slice_cmp}
-use Rattle.list_laws.specs.Orderings.{is_equal}
-use Rattle.join_law.specs.Maps.{or_empty}
-use Rattle.path_maps.specs.Spread.{spread, AllKeys}
-use Rattle.path_maps.specs.SpreadLaws.{find_below, all_keys_weaker}
-use Rattle.path_maps.specs.PathMaps.{NameMap, FolderMap, RankMap, AreRanks, FoldersBelow, AreFolders, bytes_cmp, in_folder, in_rank, listed}
-use Rattle.path_maps.specs.PathMapLaws.{of_folder, of_rank, found_lawful}
-use Rattle.path_maps.specs.Folders.{is_in, names_in}
+use Rattle.std.specs.Cmp.{eq_by_cmp_equiv, IsTotalOrder, nat_cmp_total, tied_itself}
+use Rattle.std.specs.Cmp.Lexicographic.{nat_list_cmp_total}
+use Rattle.std.specs.FinMap.{nat_cmp-IsAntisymmetric, slice_cmp-IsAntisymmetric}
+use Rattle.std.specs.FinMap.Entries.{below_all, find, is_sorted}
+use Rattle.std.specs.Ordering.{eq_by_cmp, is_eq, nat_cmp}
+use Rattle.std.specs.Str.{bytes_eq}
+use Rattle.std.specs.declared.cmp.Ordering.{Ordering}
+use Rattle.std.specs.declared.cmp.Ordering.TheVariants.{Equal, Greater, Less}
+use Rattle.path_maps.specs.Prelude.{is_equal, or_empty}
+use Rattle.path_maps.specs.{Folders.is_in, Folders.names_in, PathMapLaws.found_well_formed, PathMapLaws.of_folder, PathMapLaws.of_rank, PathMaps.AreFolders, PathMaps.AreRanks, PathMaps.bytes_cmp, PathMaps.FolderMap, PathMaps.FoldersBelow, PathMaps.in_folder, PathMaps.in_rank, PathMaps.listed, PathMaps.NameMap, PathMaps.RankMap, Spread.AllKeys, Spread.spread, SpreadLaws.all_keys_weaker, SpreadLaws.find_below}
 
 module _ {A E : Type 0} (test : A → Bool) where
   all_pass : (xs : List (A × E)) → AllKeys (λ a. test a ≡ true) xs → filter (λ p. test p.0) xs ≡ xs
@@ -30,7 +24,7 @@ module _ {A E : Type 0} (test : A → Bool) where
   none_passes [] h = refl
   none_passes (x ∷ xs) h = ap (λ b. cond b (x ∷ filter (λ p. test p.0) xs) (filter (λ p. test p.0) xs)) h.0 ∙ none_passes xs h.1
 
-  -- what holds of all keys holds of those that pass
+  -- What holds of all keys holds of those that pass a test.
   pub some_keys : (P : A → Type 0) (xs : List (A × E)) → AllKeys P xs → AllKeys P (filter (λ p. test p.0) xs)
   some_keys P [] h = tt
   some_keys P (x ∷ xs) h = elim (test x.0) as (λ b. AllKeys P (cond b (x ∷ filter (λ p. test p.0) xs) (filter (λ p. test p.0) xs))) [
@@ -38,7 +32,7 @@ module _ {A E : Type 0} (test : A → Bool) where
     | false ↦ some_keys P xs h.1
   ]
 
-  -- the keys of pairs whose keys pass
+  -- The keys of the pairs whose keys pass a test.
   pub keys_passed : (xs : List (A × E)) → map (λ p. p.0) (filter (λ p. test p.0) xs) ≡ filter test (map (λ p. p.0) xs)
   keys_passed [] = refl
   keys_passed (x ∷ xs) = elim (test x.0) as (λ b. map (λ (p : A × E). p.0) (cond b (x ∷ filter (λ p. test p.0) xs) (filter (λ p. test p.0) xs)) ≡ cond b (x.0 ∷ filter test (map (λ p. p.0) xs)) (filter test (map (λ p. p.0) xs))) [
@@ -46,7 +40,7 @@ module _ {A E : Type 0} (test : A → Bool) where
     | false ↦ keys_passed xs
   ]
 
-  -- where the parts of other keys don't pass, what passes is what passes of the key's part
+  -- If no pair of another key's part passes, what passes is what passes of this key's part.
   module _ {K V : Type 0} (R : K → K → Ordering) (o : IsTotalOrder R) (exact : (k l : K) → R k l ≡ Equal → k ≡ l) (part : K → List V → List (A × E)) (k : K) (nothing : (l : K) → part l [] ≡ [])
       (apart : (l : K) (v : List V) → eq_by_cmp R k l ≡ false → filter (λ p. test p.0) (part l v) ≡ []) where
     filter-spread : (es : List (K × List V)) → IsTrue (is_sorted R es) → filter (λ p. test p.0) (spread part es) ≡ filter (λ p. test p.0) (part k (or_empty (find R k es)))
@@ -100,7 +94,7 @@ module _ (rank : ℕ) (folder : List ℕ) where
       filter-spread (is_in rank folder) bytes_cmp nat_list_cmp_total (slice_cmp-IsAntisymmetric nat_cmp-IsAntisymmetric) (in_folder rank) folder (λ l. refl) other_folder folders are.sorted
       ∙ this_folder (or_empty (find bytes_cmp folder folders))
 
-  -- what stands in a folder is what two look-ups find
+  -- The entries in a folder are what two look-ups find.
   pub folder-listed : (m : RankMap) → AreRanks m → filter (λ p. is_in rank folder p.0) (listed m) ≡ in_folder rank folder (names_in m rank folder)
   folder-listed m are =
       filter-spread (is_in rank folder) nat_cmp nat_cmp_total nat_cmp-IsAntisymmetric in_rank rank (λ l. refl) other_rank m are.sorted
@@ -108,4 +102,4 @@ module _ (rank : ℕ) (folder : List ℕ) where
     where
       by : (x : Option FolderMap) → find nat_cmp rank m ≡ x → filter (λ p. is_in rank folder p.0) (in_rank rank (or_empty x)) ≡ in_folder rank folder (or_empty (find bytes_cmp folder (or_empty x)))
       by None e = refl
-      by (Some folders) e = in_folders folders (found_lawful nat_cmp FoldersBelow AreFolders rank m are.held folders e)
+      by (Some folders) e = in_folders folders (found_well_formed nat_cmp FoldersBelow AreFolders rank m are.held folders e)

@@ -1,30 +1,26 @@
--- What a store keeps beside its maps.
+-- What a store keeps in addition to its maps.
 -- Source: this project's own.
-use Rattle.std.specs.Prelude.{◌≡◌, ℕ, ◌≤◌, ◌-◌, ◌^◌, IsSome}
+use Rattle.std.proofs.Common.{◌-◌, ◌^◌, ◌≡◌, ◌≤◌, IsSome, ℕ}
+use Rattle.path_maps.specs.Prelude.{EntryMap, high_of, IsPath, PathParts, PlaceParts}
+use Rattle.path_maps.specs.{PathMaps.AreRanks, PathMaps.flat, PathMaps.listed, PathMaps.RankMap, PlaceMaps.all_held, PlaceMaps.AreScopes, PlaceMaps.ScopeMap, Spread.AllKeys, Spread.AllValues}
 use Rattle.std.specs.FinMap as finmap
-use Rattle.load_path.specs.Paths.{PathParts, IsPath}
-use Rattle.load_places.specs.Places.{PlaceParts}
-use Rattle.edit_sums.specs.Sums.{EntryMap, high_of}
-use Rattle.path_maps.specs.PathMaps.{RankMap, AreRanks, flat, listed}
-use Rattle.path_maps.specs.PlaceMaps.{ScopeMap, AreScopes, all_held}
-use Rattle.path_maps.specs.Spread.{AllKeys, AllValues}
 
--- the maps are in order, and something is held at lawful paths alone
-pub record AreLawful (m : RankMap) : Type 0 where
+-- The maps are in order, and entries are held only at valid paths.
+pub record AreWellFormed (m : RankMap) : Type 0 where
   pub ranks : AreRanks m
   pub paths : (q : PathParts) → IsSome (finmap.get (flat m) q) → IsPath q
 
--- in each scope something is held at lawful paths alone
-abbrev pub HasLawfulPaths : ScopeMap → Type 0
-HasLawfulPaths = AllValues (λ ranks. AllKeys IsPath (listed ranks))
+-- In each scope, entries are held only at valid paths.
+abbrev pub HasWellFormedPaths : ScopeMap → Type 0
+HasWellFormedPaths = AllValues (λ ranks. AllKeys IsPath (listed ranks))
 
--- something is held at lawful paths alone, at so many, and this is the greatest counter
+-- Entries are held only at valid paths; there are `len` of them, and `high` is their greatest counter.
 pub record IsCounted (s : EntryMap) (len high : ℕ) : Type 0 where
   pub paths : (q : PlaceParts) → IsSome (finmap.get s q) → IsPath q.path
   pub counted : len ≡ finmap.len s
   pub greatest : high ≡ high_of s
 
--- the maps are in order, and what they hold is counted so, by a number of 64 bits
+-- The maps are in order, their entries have this count and greatest counter, and the count fits in 64 bits.
 pub record IsKept (m : ScopeMap) (len high : ℕ) : Type 0 where
   pub scopes : AreScopes m
   pub counted : IsCounted (all_held m) len high

@@ -1,3 +1,4 @@
+pub mod Prelude
 pub mod Spread
 pub mod SpreadLaws
 pub mod Scopes
@@ -9,12 +10,13 @@ pub mod Folders
 pub mod FolderLaws
 pub mod Kept
 pub mod Cursors
-pub mod Beside
+pub mod Zipped
 pub mod Changes
 pub mod ScopeLaws
-pub mod Views
+pub mod HostViews
 pub mod Sights
-pub mod ViewLaws
-pub mod SeenLaws
+pub mod HostViewLaws
+pub mod HostLaws
+pub mod FlatLaws
 pub mod Together
 pub mod DifferenceLaws

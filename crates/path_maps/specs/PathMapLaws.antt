@@ -1,35 +1,16 @@
--- What the map from paths to entries holds, and what look-ups find in joins of maps of maps.
-use Rattle.std.specs.Prelude.{◌≡◌, ℕ, List, [], ◌∷◌, Option, Some, None, true, false, cond, refl, IsTrue, ◌↔◌}
-use Rattle.std.specs.Option.{option_and_then}
-use Rattle.std.specs.Ordering.{nat_cmp, ordering_then, eq_by_cmp, is_eq}
+-- What the map from paths to entries holds, and what look-ups find in joins of nested maps.
+use Rattle.std.proofs.Common.{[], ◌↔◌, ◌∙◌, ◌∷◌, ◌≡◌, ap, cond, false, IsTrue, List, None, Option, refl, Some, subst, sym, true, ℕ}
 use Rattle.std.specs.Cmp.{nat_cmp_total, tied_itself}
 use Rattle.std.specs.Cmp.Lexicographic.{nat_list_cmp_total}
-use Rattle.std.specs.FinMap as finmap
-use Rattle.std.specs.FinMap.{slice_cmp-IsAntisymmetric, nat_cmp-IsAntisymmetric}
+use Rattle.std.specs.FinMap.{nat_cmp-IsAntisymmetric, slice_cmp-IsAntisymmetric}
 use Rattle.std.specs.FinMap.Entries.{find, is_sorted}
-use Rattle.std.proofs.Common.{ap, sym, subst, ◌∙◌}
+use Rattle.std.specs.Option.{option_and_then}
+use Rattle.std.specs.Ordering.{eq_by_cmp, is_eq, nat_cmp, ordering_then}
 use Rattle.std.specs.declared.cmp.Ordering.{Ordering}
-use Rattle.std.specs.declared.cmp.Ordering.TheVariants.{Less, Equal}
-use Rattle.list_laws.specs.Truths.{to_T}
-use Rattle.join_law.specs.declared.versions.Versioned.{Versioned}
-use Rattle.join_law.specs.declared.versions.Versioned.TheVariants.{Never, At}
-use Rattle.join_law.specs.VersionOrder.{IsUpTo, written, written_at, versioned_max}
-use Rattle.join_law.specs.VersionedLaws.{up_to_itself, up_to_chain, max_joins}
-use Rattle.join_law.specs.Order.{IsJoin, IsBetween}
-use Rattle.join_law.specs.Maps.{AllHeld, or_empty, map_union}
-use Rattle.join_law.specs.MapLaws.{map_itself, map_chain}
-use Rattle.join_law.specs.UnionLaws.{union_joins}
-use Rattle.join_law.specs.LevelLaws.{level_below, level_join, level_between, level_bounds}
-use Rattle.join_law.specs.LeafLaws.{leaf_below, leaf_join, leaf_between, leaf_bounds}
-use Rattle.load_path.specs.Paths.{PathParts, path_cmp}
-use Rattle.load_path.specs.PathLaws.{path_cmp-IsAntisymmetric}
-use Rattle.edit_sums.specs.declared.contents.Content.{Content}
-use Rattle.edit_sums.specs.Contents.{content_cmp}
-use Rattle.edit_sums.specs.ContentLaws.{content_cmp_total, content_cmp-IsAntisymmetric}
-use Rattle.edit_sums.specs.Entries.{IsBelow, larger}
-use Rattle.path_maps.specs.Spread.{spread, AllKeys, AllValues}
-use Rattle.path_maps.specs.SpreadLaws.{find-spread, sorted-spread, all_keys-append, all_keys_weaker}
-use Rattle.path_maps.specs.PathMaps.{NameMap, FolderMap, RankMap, bytes_cmp, NamesBelow, FoldersBelow, RanksBelow, AreNames, AreFolders, AreRanks, look_up, at_name, in_folder, in_rank, listed, flat}
+use Rattle.std.specs.declared.cmp.Ordering.TheVariants.{Equal, Less}
+use Rattle.path_maps.specs.Prelude.{AllHeld, At, Content, content_cmp, content_cmp-IsAntisymmetric, content_cmp_total, IsBelow, IsBetween, IsJoin, IsUpTo, larger, leaf_below, leaf_between, leaf_bounds, leaf_join, level_below, level_between, level_bounds, level_join, map_chain, map_itself, map_union, max_joins, Never, or_empty, path_cmp, path_cmp-IsAntisymmetric, PathParts, to_T, union_joins, up_to_chain, up_to_itself, Versioned, versioned_max, written, written_at}
+use Rattle.path_maps.specs.{PathMaps.AreFolders, PathMaps.AreNames, PathMaps.AreRanks, PathMaps.at_name, PathMaps.bytes_cmp, PathMaps.flat, PathMaps.FolderMap, PathMaps.FoldersBelow, PathMaps.in_folder, PathMaps.in_rank, PathMaps.listed, PathMaps.look_up, PathMaps.NameMap, PathMaps.NamesBelow, PathMaps.RankMap, PathMaps.RanksBelow, Spread.AllKeys, Spread.AllValues, Spread.spread, SpreadLaws.all_keys-append, SpreadLaws.all_keys_weaker, SpreadLaws.find-spread, SpreadLaws.sorted-spread}
+use Rattle.std.specs.FinMap as finmap
 
 bytes_same : (x y : List ℕ) → bytes_cmp x y ≡ Equal → x ≡ y
 bytes_same = slice_cmp-IsAntisymmetric nat_cmp-IsAntisymmetric
@@ -64,7 +45,7 @@ of_rank rank folders =
     all_keys-spread (IsInRank rank) (in_folder rank)
     (λ k v. all_keys_weaker (IsInFolder rank k) (IsInRank rank) (λ q is. is.0) (in_folder rank k v) (of_folder rank k v)) folders
 
--- ---- they rise
+-- ---- their keys are in ascending order
 
 one_sorted : (rank : ℕ) (folder name : List ℕ) (v : Versioned Content) → Unit {0} → IsTrue (is_sorted path_cmp (at_name rank folder name v))
 one_sorted rank folder name Never h = refl
@@ -87,36 +68,36 @@ by_rank k l a b less p q =
     (λ i. ordering_then (nat_cmp (p i) (q i)) (ordering_then (bytes_cmp a.folder b.folder) (bytes_cmp a.name b.name)))
     ∙ ap (λ r. ordering_then r (ordering_then (bytes_cmp a.folder b.folder) (bytes_cmp a.name b.name))) less
 
-pub all_lawful : {K V : Type 0} (below : V → V → Type 0) (valid : V → Type 0) (es : List (K × V)) → AllHeld below valid es → AllValues valid es
-all_lawful below valid [] h = tt
-all_lawful below valid (e ∷ es) h = (h.0.lawful, all_lawful below valid es h.1)
+pub all_well_formed : {K V : Type 0} (below : V → V → Type 0) (valid : V → Type 0) (es : List (K × V)) → AllHeld below valid es → AllValues valid es
+all_well_formed below valid [] h = tt
+all_well_formed below valid (e ∷ es) h = (h.0.well_formed, all_well_formed below valid es h.1)
 
 names_sorted : (rank : ℕ) (folder : List ℕ) (names : NameMap) → AreNames names → IsTrue (is_sorted path_cmp (in_folder rank folder names))
 names_sorted rank folder names m =
     sorted-spread bytes_cmp path_cmp (IsAtName rank folder) (at_name rank folder) (of_name rank folder) (λ _. Unit {0}) (by_name rank folder) (one_sorted rank folder) names m.sorted
-    (all_lawful (IsUpTo content_cmp) (λ _. Unit {0}) names m.held)
+    (all_well_formed (IsUpTo content_cmp) (λ _. Unit {0}) names m.held)
 
 folders_sorted : (rank : ℕ) (folders : FolderMap) → AreFolders folders → IsTrue (is_sorted path_cmp (in_rank rank folders))
 folders_sorted rank folders m =
     sorted-spread bytes_cmp path_cmp (IsInFolder rank) (in_folder rank) (of_folder rank) AreNames (by_folder rank) (names_sorted rank) folders m.sorted
-    (all_lawful NamesBelow AreNames folders m.held)
+    (all_well_formed NamesBelow AreNames folders m.held)
 
 pub listed_sorted : (m : RankMap) → AreRanks m → IsTrue (is_sorted path_cmp (listed m))
 listed_sorted m is =
-    sorted-spread nat_cmp path_cmp IsInRank in_rank of_rank AreFolders by_rank folders_sorted m is.sorted (all_lawful FoldersBelow AreFolders m is.held)
+    sorted-spread nat_cmp path_cmp IsInRank in_rank of_rank AreFolders by_rank folders_sorted m is.sorted (all_well_formed FoldersBelow AreFolders m is.held)
 
--- the entries of the map in path order
+-- The entries of the map, in path order.
 pub entries-flat : (m : RankMap) → AreRanks m → finmap.entries (flat m) ≡ listed m
 entries-flat m is = finmap.entries-from_sorted path_cmp (listed m) (to_T _ (listed_sorted m is))
 
 -- ---- what is found there
 
-pub found_lawful : {K V : Type 0} (R : K → K → Ordering) (below : V → V → Type 0) (valid : V → Type 0) (k : K) (es : List (K × V)) → AllHeld below valid es → (v : V) → find R k es ≡ Some v → valid v
-found_lawful R below valid k [] h v e = cc (e)
-found_lawful R below valid k (x ∷ es) h v e =
+pub found_well_formed : {K V : Type 0} (R : K → K → Ordering) (below : V → V → Type 0) (valid : V → Type 0) (k : K) (es : List (K × V)) → AllHeld below valid es → (v : V) → find R k es ≡ Some v → valid v
+found_well_formed R below valid k [] h v e = cc (e)
+found_well_formed R below valid k (x ∷ es) h v e =
     elim (eq_by_cmp R k x.0) as (λ b. cond b (Some x.1) (find R k es) ≡ Some v → valid v) [
-      | true ↦ λ e. subst valid (some_one e) h.0.lawful
-      | false ↦ λ e. found_lawful R below valid k es h.1 v e
+      | true ↦ λ e. subst valid (some_one e) h.0.well_formed
+      | false ↦ λ e. found_well_formed R below valid k es h.1 v e
     ] e
   where
     some_one : {A : Type 0} {x y : A} → Some x ≡ Some y → x ≡ y
@@ -148,7 +129,7 @@ find-in_rank q folders m =
   where
     by : (x : Option NameMap) → find bytes_cmp q.folder folders ≡ x → option_and_then (λ v. find path_cmp q (in_folder q.rank q.folder v)) x ≡ written_at (find bytes_cmp q.name (or_empty x))
     by None e = refl
-    by (Some names) e = find-in_folder q names (found_lawful bytes_cmp NamesBelow AreNames q.folder folders m.held names e).sorted
+    by (Some names) e = find-in_folder q names (found_well_formed bytes_cmp NamesBelow AreNames q.folder folders m.held names e).sorted
 
 pub find-listed : (m : RankMap) → AreRanks m → (q : PathParts) → find path_cmp q (listed m) ≡ look_up m q
 find-listed m is q =
@@ -157,9 +138,9 @@ find-listed m is q =
   where
     by : (x : Option FolderMap) → find nat_cmp q.rank m ≡ x → option_and_then (λ v. find path_cmp q (in_rank q.rank v)) x ≡ written_at (find bytes_cmp q.name (or_empty (find bytes_cmp q.folder (or_empty x))))
     by None e = refl
-    by (Some folders) e = find-in_rank q folders (found_lawful nat_cmp FoldersBelow AreFolders q.rank m is.held folders e)
+    by (Some folders) e = find-in_rank q folders (found_well_formed nat_cmp FoldersBelow AreFolders q.rank m is.held folders e)
 
--- the map holds at a path what three look-ups find
+-- The map holds at a path what three look-ups find.
 pub get-flat : (m : RankMap) → AreRanks m → (q : PathParts) → finmap.get (flat m) q ≡ look_up m q
 get-flat m is q = finmap.get-from_sorted path_cmp (listed m) q (to_T _ (listed_sorted m is)) ∙ find-listed m is q
 
@@ -201,7 +182,7 @@ folders_union = map_union bytes_cmp names_union
 pub folders_joins : (x y : FolderMap) → IsJoin FoldersBelow x y (folders_union x y)
 folders_joins = union_joins bytes_cmp nat_list_cmp_total NamesBelow names_union names_joins
 
--- what the first of two maps that are below each other has at a path is at most what the second has
+-- If one map is below another, what the first holds at a path is at most what the second holds there.
 pub look_up_below : (a b : RankMap) → RanksBelow a b → (q : PathParts) → IsBelow (look_up a q) (look_up b q)
 look_up_below a b h q =
     leaf_below content_cmp content_cmp_total content_cmp-IsAntisymmetric bytes_cmp nat_list_cmp_total q.name _ _

@@ -1,23 +1,15 @@
--- Contents with versions by rank, folder and name, and the one map from paths to entries that they are.
+-- Contents with versions in maps by rank, folder and name, and the one map from paths to entries that they represent.
 -- Source (maps of joins are joins): Shapiro, Preguica, Baquero, Zawirski 2011; the rest is this project's own.
-use Rattle.std.specs.Prelude.{ℕ, List, [], ◌∷◌, Option}
-use Rattle.std.specs.Ordering.{nat_cmp}
+use Rattle.std.proofs.Common.{[], ◌∷◌, List, Option, ℕ}
 use Rattle.std.specs.Cmp.Lexicographic.{slice_cmp}
+use Rattle.std.specs.Ordering.{nat_cmp}
 use Rattle.std.specs.declared.cmp.Ordering.{Ordering}
+use Rattle.path_maps.specs.Prelude.{At, Content, content_cmp, Entry, IsMap, IsUpTo, MapBelow, Never, or_empty, PathParts, Versioned, written_at}
+use Rattle.path_maps.specs.{Scopes.PathMap, Spread.spread}
 use Rattle.std.specs.FinMap as finmap
 use Rattle.std.specs.FinMap.{find}
-use Rattle.join_law.specs.declared.versions.Versioned.{Versioned}
-use Rattle.join_law.specs.declared.versions.Versioned.TheVariants.{Never, At}
-use Rattle.join_law.specs.VersionOrder.{IsUpTo, written_at}
-use Rattle.join_law.specs.Maps.{IsMap, MapBelow, or_empty}
-use Rattle.load_path.specs.Paths.{PathParts}
-use Rattle.edit_sums.specs.declared.contents.Content.{Content}
-use Rattle.edit_sums.specs.Contents.{content_cmp}
-use Rattle.edit_sums.specs.Entries.{Entry}
-use Rattle.path_maps.specs.Spread.{spread}
-use Rattle.path_maps.specs.Scopes.{PathMap}
 
--- by name, of one folder; by folder, of one rank; by rank
+-- By name, in one folder; by folder, in one rank; by rank.
 abbrev pub NameMap : Type 0
 NameMap = List (List ℕ × Versioned Content)
 
@@ -30,7 +22,7 @@ RankMap = List (ℕ × FolderMap)
 abbrev pub bytes_cmp : List ℕ → List ℕ → Ordering
 bytes_cmp = slice_cmp nat_cmp
 
--- y has all that x has, name by name, folder by folder, rank by rank
+-- The second map has all that the first has: name by name, folder by folder, rank by rank.
 abbrev pub NamesBelow : NameMap → NameMap → Type 0
 NamesBelow = MapBelow bytes_cmp (IsUpTo content_cmp)
 
@@ -40,7 +32,7 @@ FoldersBelow = MapBelow bytes_cmp NamesBelow
 abbrev pub RanksBelow : RankMap → RankMap → Type 0
 RanksBelow = MapBelow nat_cmp FoldersBelow
 
--- at each depth the keys rise, and nothing is held that says nothing
+-- At each depth the keys are in ascending order, and no value is empty.
 abbrev pub AreNames : NameMap → Type 0
 AreNames = IsMap bytes_cmp (IsUpTo content_cmp) (λ _. Unit {0})
 
@@ -50,11 +42,11 @@ AreFolders = IsMap bytes_cmp NamesBelow AreNames
 abbrev pub AreRanks : RankMap → Type 0
 AreRanks = IsMap nat_cmp FoldersBelow AreFolders
 
--- what is written at a path: three look-ups
+-- What is written at a path, by three look-ups.
 abbrev pub look_up : RankMap → PathParts → Option Entry
 look_up m q = written_at (find bytes_cmp q.name (or_empty (find bytes_cmp q.folder (or_empty (find nat_cmp q.rank m)))))
 
--- each entry with its path: of one name, one folder, one rank, and all
+-- Each entry with its path: of one name, of one folder, of one rank, and of all ranks.
 abbrev pub at_name : ℕ → List ℕ → List ℕ → Versioned Content → List (PathParts × Entry)
 at_name rank folder name Never = []
 at_name rank folder name (At x) = (record { rank = rank; folder = folder; name = name }, x) ∷ []
@@ -68,6 +60,6 @@ in_rank rank = spread (in_folder rank)
 abbrev pub listed : RankMap → List (PathParts × Entry)
 listed = spread in_rank
 
--- the map from paths to entries
+-- The map from paths to entries.
 abbrev pub flat : RankMap → PathMap
 flat m = finmap.from_sorted (listed m)

@@ -1,32 +1,15 @@
--- What the map from places to entries holds, and what joins of maps of maps are in it.
-use Rattle.std.specs.Prelude.{◌≡◌, List, [], ◌∷◌, Option, Some, None, cond, refl, IsTrue, ◌&&◌, ◌↔◌}
+-- What the map from places to entries holds, and what joins of nested maps are in it.
+use Rattle.std.proofs.Common.{[], ◌&&◌, ◌↔◌, ◌∙◌, ◌∷◌, ◌≡◌, ap, cond, IsTrue, List, None, Option, refl, Some, subst, sym}
+use Rattle.std.specs.Cmp.{nat_cmp_total, tied_itself}
+use Rattle.std.specs.FinMap.Entries.{below_all, find, is_sorted}
 use Rattle.std.specs.Option.{option_and_then}
 use Rattle.std.specs.Ordering.{is_eq, is_lt, nat_cmp, ordering_then}
-use Rattle.std.specs.Cmp.{nat_cmp_total, tied_itself}
-use Rattle.std.specs.FinMap as finmap
-use Rattle.std.specs.FinMap.Entries.{find, is_sorted, below_all}
-use Rattle.std.proofs.Common.{ap, sym, subst, ◌∙◌}
 use Rattle.std.specs.declared.cmp.Ordering.TheVariants.{Less}
-use Rattle.list_laws.specs.Truths.{to_T}
-use Rattle.join_law.specs.Order.{IsJoin, IsBetween}
-use Rattle.join_law.specs.Maps.{or_empty}
-use Rattle.join_law.specs.LevelLaws.{level_below, level_join, level_between, level_bounds}
-use Rattle.load_path.specs.Paths.{PathParts, path_cmp}
-use Rattle.load_places.specs.Places.{PlaceParts, scope_cmp, place_cmp}
-use Rattle.load_places.specs.PlaceLaws.{scope_cmp_total, scope_cmp-IsAntisymmetric, place_cmp-IsAntisymmetric}
-use Rattle.load_places.specs.declared.places.Scope.{Scope}
-use Rattle.edit_sums.specs.Entries.{IsBelow, larger}
-use Rattle.edit_sums.specs.Sums.{IsStoreBelow, join}
-use Rattle.edit_sums.specs.SumLaws.{same_store}
-use Rattle.edit_sums.specs.GreatestLaws.{get-join}
-use Rattle.path_maps.specs.PathMaps.{RankMap, RanksBelow, FoldersBelow, AreRanks, listed, look_up}
-use Rattle.path_maps.specs.PathMapLaws.{all_lawful, find-listed, folders_chain, folders_itself, folders_joins, folders_union, found_lawful, listed_sorted, look_up_below, look_up_between, look_up_bounds, look_up_join}
-use Rattle.path_maps.specs.PlaceMaps.{ScopeMap, ScopesBelow, AreScopes, all_held, all_listed, in_scope, look_up_place, placed, ranks_of}
-use Rattle.path_maps.specs.Spread.{AllKeys, AllValues}
-use Rattle.path_maps.specs.SpreadLaws.{find-spread, sorted-spread}
-use Rattle.path_maps.specs.Scopes.{within}
+use Rattle.path_maps.specs.Prelude.{get-join, IsBelow, IsBetween, IsJoin, IsStoreBelow, join, larger, level_below, level_between, level_bounds, level_join, or_empty, path_cmp, PathParts, place_cmp, place_cmp-IsAntisymmetric, PlaceParts, same_store, Scope, scope_cmp, scope_cmp-IsAntisymmetric, scope_cmp_total, to_T}
+use Rattle.path_maps.specs.{PathMapLaws.all_well_formed, PathMapLaws.find-listed, PathMapLaws.folders_chain, PathMapLaws.folders_itself, PathMapLaws.folders_joins, PathMapLaws.folders_union, PathMapLaws.found_well_formed, PathMapLaws.listed_sorted, PathMapLaws.look_up_below, PathMapLaws.look_up_between, PathMapLaws.look_up_bounds, PathMapLaws.look_up_join, PathMaps.AreRanks, PathMaps.FoldersBelow, PathMaps.listed, PathMaps.look_up, PathMaps.RankMap, PathMaps.RanksBelow, PlaceMaps.all_held, PlaceMaps.all_listed, PlaceMaps.AreScopes, PlaceMaps.in_scope, PlaceMaps.look_up_place, PlaceMaps.placed, PlaceMaps.ranks_of, PlaceMaps.ScopeMap, PlaceMaps.ScopesBelow, Scopes.within, Spread.AllKeys, Spread.AllValues, SpreadLaws.find-spread, SpreadLaws.sorted-spread}
+use Rattle.std.specs.FinMap as finmap
 
--- ---- in one scope places are as their paths
+-- ---- in one scope places are ordered as their paths
 
 pub same_scope : (s : Scope) (p q : PathParts) → place_cmp (within s p) (within s q) ≡ path_cmp p q
 same_scope s p q = ap (λ r. ordering_then r (path_cmp p q)) (tied_itself scope_cmp_total s)
@@ -54,7 +37,7 @@ find-within : {E : Type 0} (s : Scope) (p : PathParts) (es : List (PathParts × 
 find-within s p [] = refl
 find-within s p (e ∷ es) = (λ i. cond (is_eq (same_scope s p e.0 i)) (Some e.1) (find-within s p es i))
 
--- ---- all places rise
+-- ---- all places are in ascending order
 
 ranks_sorted : (m : ScopeMap) → AllValues AreRanks m → AllValues (λ ranks. IsTrue (is_sorted path_cmp (listed ranks))) m
 ranks_sorted [] h = tt
@@ -63,21 +46,21 @@ ranks_sorted (e ∷ es) h = (listed_sorted e.1 h.0, ranks_sorted es h.1)
 pub all_sorted : (m : ScopeMap) → AreScopes m → IsTrue (is_sorted place_cmp (all_listed m))
 all_sorted m is =
     sorted-spread scope_cmp place_cmp IsInScope in_scope (λ k v. of_scope k (listed v)) (λ v. IsTrue (is_sorted path_cmp (listed v))) by_scope
-    (λ k v is. subst (λ b. IsTrue b) (sym (sorted_within k (listed v))) is) m is.sorted (ranks_sorted m (all_lawful RanksBelow AreRanks m is.held))
+    (λ k v is. subst (λ b. IsTrue b) (sym (sorted_within k (listed v))) is) m is.sorted (ranks_sorted m (all_well_formed RanksBelow AreRanks m is.held))
 
--- the entries of the map in place order
+-- The entries of the map, in place order.
 pub entries-held : (m : ScopeMap) → AreScopes m → finmap.entries (all_held m) ≡ all_listed m
 entries-held m is = finmap.entries-from_sorted place_cmp (all_listed m) (to_T _ (all_sorted m is))
 
 -- ---- what is found there
 
--- what a scope has is in order
-pub scope_lawful : (m : ScopeMap) → AreScopes m → (scope : Scope) → AreRanks (ranks_of m scope)
-scope_lawful m is scope = by (find scope_cmp scope m) refl
+-- What a scope has is in order.
+pub scope_well_formed : (m : ScopeMap) → AreScopes m → (scope : Scope) → AreRanks (ranks_of m scope)
+scope_well_formed m is scope = by (find scope_cmp scope m) refl
   where
     by : (o : Option RankMap) → find scope_cmp scope m ≡ o → AreRanks (or_empty o)
     by None e = record { sorted = refl; held = tt }
-    by (Some ranks) e = found_lawful scope_cmp RanksBelow AreRanks scope m is.held ranks e
+    by (Some ranks) e = found_well_formed scope_cmp RanksBelow AreRanks scope m is.held ranks e
 
 find-all : (m : ScopeMap) → AreScopes m → (q : PlaceParts) → find place_cmp q (all_listed m) ≡ look_up_place m q
 find-all m is q =
@@ -86,9 +69,9 @@ find-all m is q =
   where
     by : (o : Option RankMap) → find scope_cmp q.scope m ≡ o → option_and_then (λ v. find place_cmp q (in_scope q.scope v)) o ≡ look_up (or_empty o) q.path
     by None e = refl
-    by (Some ranks) e = find-within q.scope q.path (listed ranks) ∙ find-listed ranks (found_lawful scope_cmp RanksBelow AreRanks q.scope m is.held ranks e) q.path
+    by (Some ranks) e = find-within q.scope q.path (listed ranks) ∙ find-listed ranks (found_well_formed scope_cmp RanksBelow AreRanks q.scope m is.held ranks e) q.path
 
--- the map holds at a place what the look-ups find
+-- The map holds at a place what the look-ups find.
 pub get-held : (m : ScopeMap) → AreScopes m → (q : PlaceParts) → finmap.get (all_held m) q ≡ look_up_place m q
 get-held m is q = finmap.get-from_sorted place_cmp (all_listed m) q (to_T _ (all_sorted m is)) ∙ find-all m is q
 
@@ -111,12 +94,12 @@ look_up_place_bounds a b v r h q =
     look_up_bounds _ _ _ _ (level_bounds scope_cmp scope_cmp_total nat_cmp nat_cmp_total FoldersBelow folders_itself folders_chain q.scope folders_union folders_joins a b v r h) q.path
 
 module _ (a b v : ScopeMap) (is_a : AreScopes a) (is_b : AreScopes b) (is_v : AreScopes v) where
-  -- a join of maps of maps is the join of the stores
+  -- A join of nested maps is the join of the stores.
   pub held-join : IsJoin ScopesBelow a b v → all_held v ≡ join (all_held a) (all_held b)
   held-join j = same_store (all_held v) (join (all_held a) (all_held b))
       (λ q. get-held v is_v q ∙ look_up_place_join a b v j q ∙ (λ i. larger (sym (get-held a is_a q) i) (sym (get-held b is_b q) i)) ∙ sym (get-join (all_held a) (all_held b) q))
 
-  -- what lies between, lies between
+  -- Nested maps that lie between are stores that lie between.
   pub held-below : ScopesBelow a v → IsStoreBelow (all_held a) (all_held v)
   held-below h q =
       subst (λ x. IsBelow x (finmap.get (all_held v) q)) (sym (get-held a is_a q))
@@ -127,7 +110,7 @@ module _ (a b v : ScopeMap) (is_a : AreScopes a) (is_b : AreScopes b) (is_v : Ar
       subst (λ x. IsBelow x (finmap.get (join (all_held a) (all_held b)) q)) (sym (get-held v is_v q))
       (subst (λ y. IsBelow (look_up_place v q) y) ((λ i. larger (sym (get-held a is_a q) i) (sym (get-held b is_b q) i)) ∙ sym (get-join (all_held a) (all_held b) q)) (look_up_place_between a b v j q))
 
-  -- and what is left gives the join
+  -- Joining what is left gives the join.
   pub held-rest : (r : ScopeMap) → AreScopes r → ((z : ScopeMap) → (ScopesBelow v z × ScopesBelow r z) ↔ (ScopesBelow a z × ScopesBelow b z)) → join (all_held v) (all_held r) ≡ join (all_held a) (all_held b)
   held-rest r is_r h = same_store (join (all_held v) (all_held r)) (join (all_held a) (all_held b))
       (λ q. get-join (all_held v) (all_held r) q ∙ (λ i. larger (get-held v is_v q i) (get-held r is_r q i)) ∙ look_up_place_bounds a b v r h q

@@ -1,34 +1,23 @@
--- What is seen of a store is what it holds in a scope.
-use Rattle.std.specs.Prelude.{◌≡◌, ℕ, ◌&&◌, List, [], ◌∷◌, Some, true, false, cond, refl, IsTrue, filter, map}
+-- What a store holds in a scope.
+use Rattle.std.proofs.Common.{[], ◌&&◌, ◌∙◌, ◌∷◌, ◌≡◌, ap, cond, false, filter, IsTrue, List, map, refl, Some, subst, sym, true, ℕ}
+use Rattle.std.proofs.lemmas.Bool.{and_from, and_parts}
+use Rattle.std.specs.FinMap.Entries.{below_all, find, is_sorted}
 use Rattle.std.specs.Ordering.{eq_by_cmp, is_eq, is_lt, ordering_then}
-use Rattle.std.specs.FinMap as finmap
-use Rattle.std.specs.FinMap.Entries.{find, is_sorted, below_all}
-use Rattle.std.proofs.Common.{ap, sym, subst, ◌∙◌}
-use Rattle.std.proofs.lemmas.Bool.{and_parts, and_from}
 use Rattle.std.specs.declared.cmp.Ordering.{Ordering}
-use Rattle.std.specs.declared.cmp.Ordering.TheVariants.{Less, Equal, Greater}
-use Rattle.list_laws.specs.Orderings.{is_equal}
-use Rattle.list_laws.specs.Truths.{from_T, to_T}
-use Rattle.load_path.specs.Paths.{PathParts, path_cmp}
-use Rattle.load_places.specs.Places.{PlaceParts, scope_cmp, place_cmp}
-use Rattle.load_places.specs.PlaceLaws.{scope_cmp-IsAntisymmetric}
-use Rattle.load_places.specs.declared.places.Scope.{Scope}
-use Rattle.edit_sums.specs.Entries.{Entry}
-use Rattle.edit_sums.specs.Sums.{EntryMap}
-use Rattle.path_maps.specs.Folders.{is_in, is_within}
-use Rattle.path_maps.specs.PlaceMaps.{placed}
-use Rattle.path_maps.specs.PlaceMapLaws.{same_scope}
-use Rattle.path_maps.specs.Scopes.{entries_of, scope_of, within}
+use Rattle.std.specs.declared.cmp.Ordering.TheVariants.{Equal, Greater, Less}
+use Rattle.path_maps.specs.Prelude.{Entry, EntryMap, from_T, is_equal, path_cmp, PathParts, place_cmp, PlaceParts, Scope, scope_cmp, scope_cmp-IsAntisymmetric, to_T}
+use Rattle.path_maps.specs.{Folders.is_in, Folders.is_within, PlaceMapLaws.same_scope, PlaceMaps.placed, Scopes.entries_of, Scopes.scope_of, Scopes.within}
+use Rattle.std.specs.FinMap as finmap
 
 abbrev Entries : Type 0
 Entries = List (PlaceParts × Entry)
 
 module _ (scope : Scope) where
-  -- a place of the scope is that of its path
+  -- A place of the scope is determined by its path.
   is_of : (q : PlaceParts) → eq_by_cmp scope_cmp scope q.scope ≡ true → q ≡ within scope q.path
   is_of q t = ap (λ (s : Scope). within s q.path) (sym (scope_cmp-IsAntisymmetric scope q.scope (is_equal _ t)))
 
-  -- ---- its entries rise
+  -- ---- its entries are in ascending order
 
   below_of : (p : PathParts) (es : Entries) → IsTrue (below_all place_cmp (within scope p) es) → IsTrue (below_all path_cmp p (entries_of scope es))
   below_of p [] h = refl
@@ -64,17 +53,17 @@ module _ (scope : Scope) where
       ] refl
 
   module _ (s : EntryMap) where
-    rises : IsTrue (is_sorted path_cmp (entries_of scope (finmap.entries s)))
-    rises = sorted_of (finmap.entries s) (from_T _ (finmap.entries_sorted s))
+    ascends : IsTrue (is_sorted path_cmp (entries_of scope (finmap.entries s)))
+    ascends = sorted_of (finmap.entries s) (from_T _ (finmap.entries_sorted s))
 
-    -- at each path is seen what the store holds at the path's place
+    -- At each path it has what the store holds at the path's place.
     pub get-scope_of : (p : PathParts) → finmap.get (scope_of s scope) p ≡ finmap.get s (within scope p)
     unfolding scope_of
-    get-scope_of p = finmap.get-from_sorted path_cmp (entries_of scope (finmap.entries s)) p (to_T _ rises) ∙ find-entries_of p (finmap.entries s) ∙ sym (finmap.get-entries s (within scope p))
+    get-scope_of p = finmap.get-from_sorted path_cmp (entries_of scope (finmap.entries s)) p (to_T _ ascends) ∙ find-entries_of p (finmap.entries s) ∙ sym (finmap.get-entries s (within scope p))
 
     entries-scope_of : finmap.entries (scope_of s scope) ≡ entries_of scope (finmap.entries s)
     unfolding scope_of
-    entries-scope_of = finmap.entries-from_sorted path_cmp (entries_of scope (finmap.entries s)) (to_T _ rises)
+    entries-scope_of = finmap.entries-from_sorted path_cmp (entries_of scope (finmap.entries s)) (to_T _ ascends)
 
   -- ---- the places of a folder
 
@@ -92,7 +81,7 @@ module _ (scope : Scope) where
           | false ↦ λ t. folder_of es
         ] refl
 
-    -- a folder's places are those of what is seen in the scope in the folder
+    -- The places of a folder are the places of what the scope has in the folder.
     pub places_of_folder : (s : EntryMap) → map (λ p. p.0) (placed scope (filter (λ p. is_in rank folder p.0) (finmap.entries (scope_of s scope)))) ≡ filter (is_within scope rank folder) (finmap.keys s)
     places_of_folder s =
         ap (λ (es : List (PathParts × Entry)). map (λ p. p.0) (placed scope (filter (λ p. is_in rank folder p.0) es))) (entries-scope_of s) ∙ folder_of (finmap.entries s)

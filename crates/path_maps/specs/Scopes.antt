@@ -1,34 +1,29 @@
 -- What a store holds in a scope: entries by path.
 -- Source: this project's own.
-use Rattle.std.specs.Prelude.{Option, List, [], ◌∷◌, if◌then◌else◌}
+use Rattle.std.proofs.Common.{[], ◌∷◌, if◌then◌else◌, List, Option}
+use Rattle.std.specs.FinMap.{FinMap}
 use Rattle.std.specs.Option.{option_and_then}
 use Rattle.std.specs.Ordering.{eq_by_cmp}
+use Rattle.path_maps.specs.Prelude.{Content, Entry, EntryMap, path_cmp, PathParts, PlaceParts, Scope, scope_cmp, shown}
 use Rattle.std.specs.FinMap as finmap
-use Rattle.std.specs.FinMap.{FinMap}
-use Rattle.load_path.specs.Paths.{PathParts, path_cmp}
-use Rattle.load_places.specs.Places.{PlaceParts, scope_cmp}
-use Rattle.load_places.specs.declared.places.Scope.{Scope}
-use Rattle.edit_sums.specs.declared.contents.Content.{Content}
-use Rattle.edit_sums.specs.Entries.{Entry}
-use Rattle.edit_sums.specs.Sums.{EntryMap, shown}
 
--- at each path at most one entry
+-- At each path at most one entry.
 abbrev pub PathMap : Type 0
 PathMap = FinMap path_cmp Entry
 
--- the visible content at a path
+-- The visible content at a path.
 abbrev pub shown_at : PathMap → PathParts → Option Content
 shown_at m p = option_and_then shown (finmap.get m p)
 
--- the place of a path in a scope
+-- The place of a path in a scope.
 abbrev pub within : Scope → PathParts → PlaceParts
 within scope path = record { scope = scope; path = path }
 
--- the entries of places in a scope, by path
+-- The entries at places of a scope, by path.
 abbrev pub entries_of : Scope → List (PlaceParts × Entry) → List (PathParts × Entry)
 entries_of scope [] = []
 entries_of scope (e ∷ es) = if eq_by_cmp scope_cmp scope e.0.scope then (e.0.path, e.1) ∷ entries_of scope es else entries_of scope es
 
--- what a store holds in a scope
+-- What a store holds in a scope.
 unfoldable pub scope_of : EntryMap → Scope → PathMap
 scope_of s scope = finmap.from_sorted (entries_of scope (finmap.entries s))

@@ -1,31 +1,30 @@
--- What is found in a list that a map of maps spreads into, and that its keys rise.
-use Rattle.std.specs.Prelude.{◌≡◌, List, [], ◌∷◌, ◌++◌, Some, None, Bool, true, false, cond, refl, IsTrue, ◌&&◌}
-use Rattle.std.specs.Option.{option_and_then}
-use Rattle.std.specs.Cmp.{IsTotalOrder, tied_itself}
-use Rattle.std.specs.Ordering.{eq_by_cmp, is_eq, is_lt}
-use Rattle.std.proofs.Common.{ap, sym, subst, ◌∙◌}
+-- What is found in the list that a nested map spreads into, and that its keys are in ascending order.
+use Rattle.std.proofs.Common.{[], ◌&&◌, ◌++◌, ◌∙◌, ◌∷◌, ◌≡◌, ap, Bool, cond, false, IsTrue, List, None, refl, Some, subst, sym, true}
 use Rattle.std.proofs.lemmas.Bool.{and_parts}
+use Rattle.std.specs.Cmp.{IsTotalOrder, tied_itself}
+use Rattle.std.specs.FinMap.Entries.{below_all, find, is_sorted}
+use Rattle.std.specs.Option.{option_and_then}
+use Rattle.std.specs.Ordering.{eq_by_cmp, is_eq, is_lt}
 use Rattle.std.specs.declared.cmp.Ordering.{Ordering}
-use Rattle.std.specs.declared.cmp.Ordering.TheVariants.{Less, Equal}
-use Rattle.std.specs.FinMap.Entries.{find, is_sorted, below_all}
-use Rattle.list_laws.specs.Orderings.{is_equal, is_less}
-use Rattle.path_maps.specs.Spread.{spread, AllKeys, AllValues}
+use Rattle.std.specs.declared.cmp.Ordering.TheVariants.{Equal, Less}
+use Rattle.path_maps.specs.Prelude.{is_equal, is_less}
+use Rattle.path_maps.specs.Spread.{AllKeys, AllValues, spread}
 
 both : (a b : Bool) → IsTrue a → IsTrue b → IsTrue (a && b)
 both true b p q = q
 both false b p q = cc (p)
 
 module _ {A E : Type 0} (S : A → A → Ordering) where
-  pub find-front : (q : A) (xs ys : List (A × E)) → find S q ys ≡ None → find S q (xs ++ ys) ≡ find S q xs
-  find-front q [] ys h = h
-  find-front q (x ∷ xs) ys h = ap (λ r. cond (eq_by_cmp S q x.0) (Some x.1) r) (find-front q xs ys h)
+  pub find-prefix : (q : A) (xs ys : List (A × E)) → find S q ys ≡ None → find S q (xs ++ ys) ≡ find S q xs
+  find-prefix q [] ys h = h
+  find-prefix q (x ∷ xs) ys h = ap (λ r. cond (eq_by_cmp S q x.0) (Some x.1) r) (find-prefix q xs ys h)
 
-  pub find-behind : (q : A) (xs ys : List (A × E)) → find S q xs ≡ None → find S q (xs ++ ys) ≡ find S q ys
-  find-behind q [] ys h = refl
-  find-behind q (x ∷ xs) ys h =
+  pub find-after : (q : A) (xs ys : List (A × E)) → find S q xs ≡ None → find S q (xs ++ ys) ≡ find S q ys
+  find-after q [] ys h = refl
+  find-after q (x ∷ xs) ys h =
       elim (eq_by_cmp S q x.0) as (λ b. cond b (Some x.1) (find S q xs) ≡ None → cond b (Some x.1) (find S q (xs ++ ys)) ≡ find S q ys) [
         | true ↦ λ h. cc (h)
-        | false ↦ λ h. find-behind q xs ys h
+        | false ↦ λ h. find-after q xs ys h
       ] h
 
   pub find_below : (q : A) (es : List (A × E)) → IsTrue (below_all S q es) → find S q es ≡ None
@@ -50,7 +49,7 @@ pub all_keys-append : {A E : Type 0} (P : A → Type 0) (xs ys : List (A × E)) 
 all_keys-append P [] ys p q = q
 all_keys-append P (x ∷ xs) ys p q = (p.0, all_keys-append P xs ys p.1 q)
 
--- a part of k has keys of k alone
+-- The part of `k` has only keys of `k`.
 module _ {K V A E : Type 0} (R : K → K → Ordering) (S : A → A → Ordering) (IsOf : K → A → Type 0) (part : K → V → List (A × E)) (of_part : (k : K) (v : V) → AllKeys (IsOf k) (part k v)) where
   module _ (o : IsTotalOrder R) (same : (k l : K) → R k l ≡ Equal → k ≡ l) (exact : (a b : A) → S a b ≡ Equal → a ≡ b) where
     other_part : (k : K) (q : A) → ¬ IsOf k q → (xs : List (A × E)) → AllKeys (IsOf k) xs → find S q xs ≡ None
@@ -61,7 +60,7 @@ module _ {K V A E : Type 0} (R : K → K → Ordering) (S : A → A → Ordering
           | false ↦ λ t. other_part k q other xs h.1
         ] refl
 
-    -- what is found at a key of k is what is found in the part of k
+    -- What is found at a key of `k` is what is found in the part of `k`.
     pub find-spread : (q : A) (k : K) → ((l : K) → IsOf l q → l ≡ k) → (es : List (K × V)) → IsTrue (is_sorted R es) → find S q (spread part es) ≡ option_and_then (λ v. find S q (part k v)) (find R k es)
     find-spread q k one [] s = refl
     find-spread q k one (e ∷ es) s =
@@ -70,11 +69,11 @@ module _ {K V A E : Type 0} (R : K → K → Ordering) (S : A → A → Ordering
           | true ↦ λ t.
               let here = same k e.0 (is_equal _ t) in
               let none = find_below R k es (subst (λ x. IsTrue (below_all R x es)) (sym here) (and_parts _ _ s).0) in
-              find-front S q (part e.0 e.1) (spread part es) (rest ∙ ap (option_and_then (λ v. find S q (part k v))) none)
+              find-prefix S q (part e.0 e.1) (spread part es) (rest ∙ ap (option_and_then (λ v. find S q (part k v))) none)
               ∙ ap (λ x. find S q (part x e.1)) (sym here)
           | false ↦ λ t.
               let apart : ¬ IsOf e.0 q = λ is. let wrong = sym t ∙ ap (λ x. eq_by_cmp R k x) (one e.0 is) ∙ ap is_eq (tied_itself o k) in cc (wrong) in
-              find-behind S q (part e.0 e.1) (spread part es) (other_part e.0 q apart (part e.0 e.1) (of_part e.0 e.1)) ∙ rest
+              find-after S q (part e.0 e.1) (spread part es) (other_part e.0 q apart (part e.0 e.1) (of_part e.0 e.1)) ∙ rest
         ] refl
 
   module _ (Good : V → Type 0) (by_key : (k l : K) (a b : A) → R k l ≡ Less → IsOf k a → IsOf l b → S a b ≡ Less) (part_sorted : (k : K) (v : V) → Good v → IsTrue (is_sorted S (part k v))) where
@@ -88,7 +87,7 @@ module _ {K V A E : Type 0} (R : K → K → Ordering) (S : A → A → Ordering
         let p = and_parts _ _ h in
         below_append S a (part e.0 e.1) (spread part es) (below_part k e.0 a (is_less _ p.0) is (part e.0 e.1) (of_part e.0 e.1)) (below_spread k a is es p.1)
 
-    -- its keys rise
+    -- Its keys are in ascending order.
     pub sorted-spread : (es : List (K × V)) → IsTrue (is_sorted R es) → AllValues Good es → IsTrue (is_sorted S (spread part es))
     sorted-spread [] s good = refl
     sorted-spread (e ∷ es) s good =

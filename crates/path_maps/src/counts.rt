@@ -1,21 +1,21 @@
-//! What maps of maps hold, counted.
+//! Counts of what nested maps hold.
 ghost use Rattle.std.specs.Prelude.{◌≡◌, ◌≤◌, length};
 ghost use Rattle.edit_sums.specs.Sums.{greatest_counter};
-ghost use Rattle.path_maps.specs.{Kept.{HasLawfulPaths}, PlaceMaps.{all_listed}};
+ghost use Rattle.path_maps.specs.{Kept.{HasWellFormedPaths}, PlaceMaps.{all_listed}};
 
 use crate::places::Entries;
 use crate::stores::ScopeMap;
 
-/// How many paths are held, and the greatest counter there.
+/// How many places are held, and the greatest counter among their entries.
 #[derive(Clone, Copy)]
 pub struct Counts {
     pub len: usize,
     pub high: u64,
 }
 
-/// Counts what maps of maps hold. Linear, without memory.
+/// Counts what nested maps hold. O(n). Allocates nothing.
 pub fn count_entries(scopes: &ScopeMap) -> Counts
-    requires paths { HasLawfulPaths scopes.now }
+    requires paths { HasWellFormedPaths scopes.now }
     requires fits { length (all_listed scopes.now) ≤ usize.MAX }
     ensures len { result.len ≡ length (all_listed scopes.now) }
     ensures within { result.len ≤ usize.MAX }

@@ -1,24 +1,24 @@
-//! Readers of lists that are made of lists, to any depth.
+//! Cursors over lists, and over lists of lists to any depth.
 ghost use Rattle.std.specs.Prelude.{◌≡◌, ◌∷◌, [], List, MatchOption};
 ghost use Rattle.path_maps.specs.Cursors.{in_hand};
 
-/// A reader of a list, whose items it gives one after another.
+/// Yields the items of a list one after another.
 pub trait Cursor<T>: Drop {
     // What is left of the list.
     ghost left: { Self → List T };
 
-    /// Takes the first item that is left, if there is one.
+    /// Takes the next item, if one is left.
     fn next(&mut self) -> Option<T>
         ensures first { MatchOption result ((left self.old ≡ []) × (left self.new ≡ []))
             (λ item. left self.old ≡ item ∷ left self.new) };
 }
 
-/// A reader of all lists that another one gives readers of.
+/// Yields the items of all lists whose cursors the outer cursor yields.
 #[derive(Drop)]
 pub struct Nested<C, O> {
-    /// Of the list that is being read, if any is.
+    /// The cursor of the list that is being read, if any.
     pub inner: Option<C>,
-    /// Of the lists behind it.
+    /// The cursor that yields the cursors of the lists after it.
     pub outer: O,
 }
 
@@ -43,7 +43,7 @@ impl<T, C: Cursor<T>, O: Cursor<C>> Cursor<T> for Nested<C, O> {
     }
 }
 
-// Takes the first item of a list, if one is being read and has any left.
+// Takes the next item of the list that is being read, if there is such a list and it has one left.
 #[inline(always)]
 fn next_of<T, C: Cursor<T>>(cursor: &mut Option<C>) -> Option<T>
     ensures first { MatchOption result ((in_hand C.left cursor.old ≡ []) × (in_hand C.left cursor.new ≡ []))

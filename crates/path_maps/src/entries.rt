@@ -1,4 +1,4 @@
-//! The entries of a scope, one after another in path order: ranks, folders and names that are left.
+//! Cursors over the entries of a scope, in path order: by rank, folder and name.
 ghost use Rattle.std.specs.{Prelude.{◌≡◌, ◌∷◌, [], IfOk, IfSome, MatchOption}, List.{flat_map}, Option.{option_copied, option_map}};
 ghost use Rattle.load_path.specs.Paths.{IsPath, path_cmp};
 ghost use Rattle.path_maps.specs.{Cursors.{or_nothing, left_of}, Folders.{path_at}, PathMaps.{in_folder, listed}, Spread.{AllKeys}};
@@ -14,10 +14,10 @@ use std::alloc::{AllocError, Global};
 use std::cmp::Ordering;
 use std::marker::Model;
 
-/// An entry with its path, lent.
+/// A borrowed entry with its path.
 #[derive(Drop)]
 pub struct PathEntry<'a> {
-    // Words alone, so that an entry is passed on in registers.
+    // Each field is one machine word, so that an entry is passed in registers.
     rank: usize,
     folder: &'a Bytes,
     name: &'a Bytes,
@@ -36,7 +36,7 @@ impl<'a> Model for PathEntry<'a> {
 }
 
 impl<'a> PathEntry<'a> {
-    // An entry at a lawful path.
+    // Makes an entry at a valid path.
     pub(crate) fn new(rank: usize, folder: &'a Bytes, name: &'a Bytes, entry: &'a Entry) -> Self
         requires path { IsPath (path_at rank folder.now name.now) }
         ensures placed { result ≡ (path_at rank folder.now name.now, entry.now) }
@@ -49,7 +49,7 @@ impl<'a> PathEntry<'a> {
         }
     }
 
-    /// Its path. It fails for want of memory alone, and copies no bytes.
+    /// Returns its path. Fails only if memory runs out. Copies no bytes.
     pub fn path(&self) -> Result<Path, AllocError>
         ensures path { IfOk result (λ path. path ≡ self.now.0) }
     {
@@ -58,14 +58,14 @@ impl<'a> PathEntry<'a> {
         Ok(Path::from_parts(rank, folder, self.name.try_clone()?))
     }
 
-    /// The name in its folder, which is the last component of its path. It takes no memory.
+    /// Returns the name in its folder, which is the last component of its path. Allocates nothing.
     pub fn name(&self) -> &'a Bytes
         ensures name { result.now ≡ self.now.0.name }
     {
         self.name
     }
 
-    /// What is visible at its path: the entry's content, if it is no removal. It takes no memory.
+    /// Returns what is visible at its path: the entry's content, unless it is a removal. Allocates nothing.
     pub fn visible(&self) -> Option<&'a Content>
         ensures visible { option_copied result ≡ shown self.now.1 }
     {
@@ -75,7 +75,7 @@ impl<'a> PathEntry<'a> {
         }
     }
 
-    // Where a path stands: before the path of this entry, at it, or behind it.
+    // Compares a path with the path of this entry.
     pub(crate) fn order_of(&self, path: &Path) -> Ordering
         ensures order { result ≡ path_cmp path.now self.now.0 }
     {
@@ -84,7 +84,7 @@ impl<'a> PathEntry<'a> {
         (path.rank() as usize).cmp(&self.rank).then(within)
     }
 
-    // Where its path stands: before that of another entry, at it, or behind it.
+    // Compares its path with the path of another entry.
     pub(crate) fn cmp_path(&self, other: &PathEntry<'_>) -> Ordering
         ensures order { result ≡ path_cmp self.now.0 other.now.0 }
     {
@@ -93,7 +93,7 @@ impl<'a> PathEntry<'a> {
         self.rank.cmp(&other.rank).then(within)
     }
 
-    /// The entry. It takes no memory.
+    /// Returns the entry. Allocates nothing.
     pub fn entry(&self) -> &'a Entry
         ensures entry { result.now ≡ self.now.1 }
     {
@@ -101,7 +101,7 @@ impl<'a> PathEntry<'a> {
     }
 }
 
-// The names that are left of a folder.
+// A cursor over the names of a folder.
 #[derive(Drop)]
 struct NamesLeft<'a> {
     rank: usize,
@@ -134,7 +134,7 @@ impl<'a> Cursor<PathEntry<'a>> for NamesLeft<'a> {
     }
 }
 
-// The folders that are left of a rank.
+// A cursor over the folders of a rank.
 #[derive(Drop)]
 struct FoldersLeft<'a> {
     rank: usize,
@@ -169,7 +169,7 @@ impl<'a> Cursor<NamesLeft<'a>> for FoldersLeft<'a> {
     }
 }
 
-// The ranks that are left.
+// A cursor over the ranks of a scope.
 #[derive(Drop)]
 struct RanksLeft<'a> {
     ranks: &'a [(u8, FolderMap)],
@@ -201,13 +201,13 @@ impl<'a> Cursor<FoldersLeft<'a>> for RanksLeft<'a> {
     }
 }
 
-// All folders that are left.
+// A cursor over the folders of all ranks.
 type AllFolders<'a> = Nested<FoldersLeft<'a>, RanksLeft<'a>>;
 
-/// The entries of a scope that are left, in path order.
+/// A cursor over the entries of a scope, in path order.
 #[derive(Drop)]
 pub struct PathEntries<'a> {
-    // By folder and by rank.
+    // Nested: names within folders within ranks.
     entries: Nested<NamesLeft<'a>, AllFolders<'a>>,
 }
 
@@ -223,7 +223,7 @@ impl<'a> Model for PathEntries<'a> {
 }
 
 impl<'a> PathEntries<'a> {
-    // Those of maps of maps whose paths are lawful.
+    // Returns a cursor over the entries of nested maps with valid paths.
     pub(crate) fn of_ranks(ranks: &'a RankMap) -> Self
         requires paths { AllKeys IsPath (listed ranks.now) }
         ensures entries { result ≡ listed ranks.now }
@@ -232,14 +232,14 @@ impl<'a> PathEntries<'a> {
         PathEntries::from_folder(None, RanksLeft { ranks })
     }
 
-    // None.
+    // Returns a cursor over no entries.
     pub(crate) fn none() -> Self
         ensures entries { result ≡ [] }
     {
         PathEntries::from_folder(None, RanksLeft { ranks: &[] })
     }
 
-    // Those of the names in a folder, whose paths are lawful; none, where there is no folder.
+    // Returns a cursor over the entries of a folder with valid paths, or over none where there is no folder.
     pub(crate) fn of_folder(rank: u8, found: Option<(&'a Bytes, &'a NameMap)>) -> Self
         requires paths { IfSome found (λ f. AllKeys IsPath (in_folder rank f.0.now f.1.now)) }
         ensures entries { result ≡ or_nothing (option_map (λ f. in_folder rank f.0.now f.1.now) found.entry) }
@@ -255,7 +255,7 @@ impl<'a> PathEntries<'a> {
         PathEntries::from_folder(names, RanksLeft { ranks: &[] })
     }
 
-    // Those of a folder, if there is one, and those of ranks behind it.
+    // Returns a cursor over the entries of a folder, if there is one, and then those of some ranks.
     fn from_folder(names: Option<NamesLeft<'a>>, ranks: RanksLeft<'a>) -> Self
         ensures entries { result ≡ left_of names.entry (flat_map (λ xs. xs) ranks.entry) }
     {
@@ -270,7 +270,7 @@ impl<'a> PathEntries<'a> {
         }
     }
 
-    /// Takes the first of them, if there is one. O(1), without memory.
+    /// Takes the next entry, if one is left. O(1). Allocates nothing.
     pub fn next_entry(&mut self) -> Option<PathEntry<'a>>
         ensures first { MatchOption result ((self.old ≡ []) × (self.new ≡ [])) (λ placed. self.old ≡ placed ∷ self.new) }
     {

@@ -1,10 +1,17 @@
-//! The entries of a node by place: maps of maps of contents with versions, by scope, rank, folder and name. Contracts
-//! see them as one map from places to entries.
+//! The entries of a node's store, kept in nested maps: by scope, rank, folder and name. Contracts see them as one map
+//! from places to entries.
 //!
 //! Promise: the store is its map.
+//!
+//! - `Store`: joins edits and other stores, and answers look-ups; `ScopeMap`, `RankMap`, `FolderMap` and `NameMap` are
+//!   its nested maps.
+//! - `Entries` and `Placed`: a store's entries in place order, each with its place.
+//! - `Zipped`: a store's entries in place order, each with what another store holds at its place.
+//! - `HostView`, `HostViewEntries` and `HostViewEntry`: what a host sees of a store, or what is seen without a host, by level,
+//!   folder and name.
+//! - `host_view_laws` and `difference_laws`: the laws of what a host sees, and of the places where two stores differ.
 #![tactic(auto)]
 
-mod beside;
 mod changes;
 mod counts;
 mod cursors;
@@ -15,13 +22,14 @@ mod laws;
 mod look_ups;
 mod meets;
 mod places;
-mod places_beside;
-mod seen;
+mod places_zipped;
 mod stores;
 mod together;
+mod view;
+mod zipped;
 
-pub use laws::{difference_laws, seen_laws};
+pub use laws::{difference_laws, host_view_laws};
 pub use places::{Entries, Placed};
-pub use places_beside::Beside;
-pub use seen::{Seen, SeenEntries, SeenEntry};
+pub use places_zipped::Zipped;
 pub use stores::{FolderMap, NameMap, RankMap, ScopeMap, Store};
+pub use view::{HostView, HostViewEntries, HostViewEntry};

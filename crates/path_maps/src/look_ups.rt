@@ -1,4 +1,4 @@
-//! Look-ups by bytes that stand in no map: no key is built for them.
+//! Look-ups by borrowed bytes: no owned key is built for the search.
 ghost use Rattle.std.specs.{Prelude.{◌≡◌, ◌<◌, [], Some, None, length, IsTrue, IfOk, IfErr, MatchOption}, Option.{option_copied}};
 ghost use Rattle.std.specs.{Ordering.{nat_cmp}, FinMap.{find, is_sorted}};
 ghost use Rattle.join_law.specs.Maps.{or_empty};
@@ -10,7 +10,8 @@ use load_places::{HostName, Scope};
 use plain_values::{Bytes, order};
 use std::cmp::Ordering;
 
-// Where a key of these bytes stands, or as an error where it would stand. O(log n), without memory.
+// Returns the index of the pair with this key, or as an error the index at which the key belongs. O(log n). Allocates
+// nothing.
 fn search<V>(pairs: &[(Bytes, V)], key: &[u8]) -> Result<usize, usize>
     requires sorted { IsTrue (is_sorted bytes_cmp pairs.now) }
     ensures within { IfOk result (λ at. at < length pairs.now) }
@@ -20,7 +21,7 @@ fn search<V>(pairs: &[(Bytes, V)], key: &[u8]) -> Result<usize, usize>
     pairs.binary_search_by(|pair| order(pair.0.as_slice(), key))
 }
 
-// The same; at the last pair or behind it a comparison alone.
+// Returns the same as `search`. A key at or after the last pair costs only one comparison.
 fn place_of<V>(pairs: &[(Bytes, V)], key: &[u8]) -> Result<usize, usize>
     requires sorted { IsTrue (is_sorted bytes_cmp pairs.now) }
     ensures within { IfOk result (λ at. at < length pairs.now) }
@@ -37,7 +38,7 @@ fn place_of<V>(pairs: &[(Bytes, V)], key: &[u8]) -> Result<usize, usize>
     }
 }
 
-// The pair at the empty key, which is the first of all. O(1), without memory.
+// Returns the pair with the empty key, which is the first of all keys. O(1). Allocates nothing.
 fn unnamed_pair<V>(pairs: &[(Bytes, V)]) -> Option<&(Bytes, V)>
     requires sorted { IsTrue (is_sorted bytes_cmp pairs.now) }
     ensures found { MatchOption result (find bytes_cmp [] pairs.now ≡ None)
@@ -51,7 +52,7 @@ fn unnamed_pair<V>(pairs: &[(Bytes, V)]) -> Option<&(Bytes, V)>
     }
 }
 
-// The pair at a key of these bytes. O(log n), without memory.
+// Returns the pair with this key. O(log n). Allocates nothing.
 pub fn pair_at<'a, V>(pairs: &'a [(Bytes, V)], key: &[u8]) -> Option<&'a (Bytes, V)>
     requires sorted { IsTrue (is_sorted bytes_cmp pairs.now) }
     ensures found { MatchOption result (find bytes_cmp key.now pairs.now ≡ None)
@@ -66,8 +67,8 @@ pub fn pair_at<'a, V>(pairs: &'a [(Bytes, V)], key: &[u8]) -> Option<&'a (Bytes,
     }
 }
 
-// The folder of these bytes, in the directory of a rank, and the names in it, where there are ranks. O(log n), without
-// memory.
+// Returns the folder with this name in the directory of a rank, and the names in it; `None` also where `ranks` is
+// `None`. O(log n). Allocates nothing.
 pub fn folder_at<'a>(
     ranks: Option<&'a RankMap>,
     rank: u8,
@@ -83,7 +84,7 @@ pub fn folder_at<'a>(
     Some((folder, names))
 }
 
-// What a host has for itself, if anything. O(log n), without memory.
+// Returns what a host has for itself, if it has anything. O(log n). Allocates nothing.
 pub fn host_at<'a>(scopes: &'a ScopeMap, host: &HostName) -> Option<&'a RankMap>
     ensures ranks { option_copied result ≡ find scope_cmp (Host host.now) scopes.now }
 {
@@ -94,7 +95,7 @@ pub fn host_at<'a>(scopes: &'a ScopeMap, host: &HostName) -> Option<&'a RankMap>
     }
 }
 
-// Where a host stands among scopes, or as an error where it would stand.
+// Returns the index of a host among the scopes, or as an error the index at which it belongs.
 fn host_place(pairs: &[(Scope, RankMap)], host: &HostName) -> Result<usize, usize>
     requires sorted { IsTrue (is_sorted scope_cmp pairs.now) }
     ensures within { IfOk result (λ at. at < length pairs.now) }

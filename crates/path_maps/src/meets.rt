@@ -1,4 +1,4 @@
-//! Look-ups of keys that rise, among pairs that are left.
+//! Look-ups of keys in ascending order, among the pairs that are left.
 ghost use Rattle.std.specs.{Prelude.{◌≡◌, List, ℕ, IsTrue}, Option.{option_copied}, declared.cmp.Ordering.TheVariants.{Less}};
 ghost use Rattle.std.specs.FinMap.{find, is_sorted};
 ghost use Rattle.path_maps.specs.PathMaps.{bytes_cmp};
@@ -6,17 +6,18 @@ ghost use Rattle.path_maps.specs.PathMaps.{bytes_cmp};
 use plain_values::Bytes;
 use sorted_pairs::seek;
 
-// How many pairs are passed one by one before the others are searched.
+// How many pairs are passed one by one before the rest is searched.
 const NEAR: usize = 8;
 
-// The value at a key, and what is left for greater keys: the pairs behind it. A comparison for each of a few pairs that
-// are passed, and a search where there are more; without memory.
+// Returns the value at a key, and the pairs after the key, which are what is left for greater keys. Costs one or two
+// comparisons for each of the first `NEAR` pairs that are passed, and a search if the key lies further on. Allocates
+// nothing.
 #[inline(always)]
 pub fn meet<'a, V>(pairs: &'a [(Bytes, V)], key: &Bytes) -> (Option<&'a V>, &'a [(Bytes, V)])
     requires sorted { IsTrue (is_sorted bytes_cmp pairs.now) }
     ensures found { option_copied result.0 ≡ find bytes_cmp key.now pairs.now }
     ensures sorted { IsTrue (is_sorted bytes_cmp result.1.now) }
-    ensures behind { (k : List ℕ) → bytes_cmp key.now k ≡ Less →
+    ensures after { (k : List ℕ) → bytes_cmp key.now k ≡ Less →
         find bytes_cmp k result.1.now ≡ find bytes_cmp k pairs.now }
 {
     let mut left = pairs;
@@ -35,12 +36,12 @@ pub fn meet<'a, V>(pairs: &'a [(Bytes, V)], key: &Bytes) -> (Option<&'a V>, &'a 
     search(left, key)
 }
 
-// The same by a search.
+// Returns the same as `meet`, by a search.
 fn search<'a, V>(pairs: &'a [(Bytes, V)], key: &Bytes) -> (Option<&'a V>, &'a [(Bytes, V)])
     requires sorted { IsTrue (is_sorted bytes_cmp pairs.now) }
     ensures found { option_copied result.0 ≡ find bytes_cmp key.now pairs.now }
     ensures sorted { IsTrue (is_sorted bytes_cmp result.1.now) }
-    ensures behind { (k : List ℕ) → bytes_cmp key.now k ≡ Less →
+    ensures after { (k : List ℕ) → bytes_cmp key.now k ≡ Less →
         find bytes_cmp k result.1.now ≡ find bytes_cmp k pairs.now }
 {
     match seek(pairs, key) {

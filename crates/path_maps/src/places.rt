@@ -1,8 +1,8 @@
-//! The entries of a store, one after another in place order: scopes that are left, and what each has.
+//! Cursors over the entries of a store in place order: by scope, and within each scope by path.
 ghost use Rattle.std.specs.{Prelude.{◌≡◌, ◌∷◌, [], map, IfOk, MatchOption}, List.{flat_map}, Option.{option_copied}};
 ghost use Rattle.load_places.specs.Places.{place_cmp};
 ghost use Rattle.edit_sums.specs.Sums.{shown};
-ghost use Rattle.path_maps.specs.{Cursors.{left_of}, Kept.{HasLawfulPaths}, PlaceMaps.{all_listed, placed}, Scopes.{within}};
+ghost use Rattle.path_maps.specs.{Cursors.{left_of}, Kept.{HasWellFormedPaths}, PlaceMaps.{all_listed, placed}, Scopes.{within}};
 
 use crate::cursors::{Cursor, Nested};
 use crate::entries::{PathEntries, PathEntry};
@@ -14,7 +14,7 @@ use std::alloc::{AllocError, Global};
 use std::cmp::Ordering;
 use std::marker::Model;
 
-/// An entry with its place, lent.
+/// A borrowed entry with its place.
 #[derive(Drop)]
 pub struct Placed<'a> {
     scope: &'a Scope,
@@ -32,14 +32,14 @@ impl<'a> Model for Placed<'a> {
 }
 
 impl<'a> Placed<'a> {
-    // An entry of a scope.
+    // Makes an entry of a scope.
     pub(crate) fn new(scope: &'a Scope, entry: PathEntry<'a>) -> Self
         ensures placed { result ≡ (within scope.now entry.entry.0, entry.entry.1) }
     {
         Placed { scope, entry }
     }
 
-    /// Its place. It fails for want of memory alone, and copies no bytes.
+    /// Returns its place. Fails only if memory runs out. Copies no bytes.
     pub fn place(&self) -> Result<Place, AllocError>
         ensures place { IfOk result (λ place. place ≡ self.now.0) }
     {
@@ -49,28 +49,28 @@ impl<'a> Placed<'a> {
         })
     }
 
-    /// For whom it is. It takes no memory.
+    /// Returns the scope that it is for. Allocates nothing.
     pub fn scope(&self) -> &'a Scope
         ensures scope { result.now ≡ self.now.0.scope }
     {
         self.scope
     }
 
-    /// The name in its folder, which is the last component of its path. It takes no memory.
+    /// Returns the name in its folder, which is the last component of its path. Allocates nothing.
     pub fn name(&self) -> &'a Bytes
         ensures name { result.now ≡ self.now.0.path.name }
     {
         self.entry.name()
     }
 
-    /// What is visible at its place: the entry's content, if it is no removal. It takes no memory.
+    /// Returns what is visible at its place: the entry's content, unless it is a removal. Allocates nothing.
     pub fn visible(&self) -> Option<&'a Content>
         ensures visible { option_copied result ≡ shown self.now.1 }
     {
         self.entry.visible()
     }
 
-    /// Where a place stands: before the place of this entry, at it, or behind it. It takes no memory.
+    /// Compares a place with the place of this entry. Allocates nothing.
     pub fn order_of(&self, place: &Place) -> Ordering
         ensures order { result ≡ place_cmp place.now self.now.0 }
     {
@@ -80,7 +80,7 @@ impl<'a> Placed<'a> {
             .then(self.entry.order_of(&place.path))
     }
 
-    // Where its place stands: before that of another entry, at it, or behind it.
+    // Compares its place with the place of another entry.
     pub(crate) fn cmp_place(&self, other: &Placed<'_>) -> Ordering
         ensures order { result ≡ place_cmp self.now.0 other.now.0 }
     {
@@ -89,7 +89,7 @@ impl<'a> Placed<'a> {
             .then(self.entry.cmp_path(&other.entry))
     }
 
-    /// The entry. It takes no memory.
+    /// Returns the entry. Allocates nothing.
     pub fn entry(&self) -> &'a Entry
         ensures entry { result.now ≡ self.now.1 }
     {
@@ -97,7 +97,7 @@ impl<'a> Placed<'a> {
     }
 }
 
-// The entries that are left of a scope.
+// A cursor over the entries of a scope.
 #[derive(Drop)]
 struct ScopeLeft<'a> {
     scope: &'a Scope,
@@ -126,7 +126,7 @@ impl<'a> Cursor<Placed<'a>> for ScopeLeft<'a> {
     }
 }
 
-// The scopes that are left.
+// A cursor over scopes.
 #[derive(Drop)]
 struct ScopesLeft<'a> {
     scopes: &'a [(Scope, RankMap)],
@@ -136,13 +136,13 @@ impl<'a> Model for ScopesLeft<'a> {
     ghost use Rattle.std.specs.Prelude.{List};
     ghost use Rattle.load_places.specs.Places.{PlaceParts};
     ghost use Rattle.edit_sums.specs.Entries.{Entry};
-    ghost use Rattle.path_maps.specs.{Cursors.{by_scope}, Kept.{HasLawfulPaths}};
+    ghost use Rattle.path_maps.specs.{Cursors.{by_scope}, Kept.{HasWellFormedPaths}};
 
     ghost Value = { List (List (PlaceParts × Entry)) };
 
     ghost view = { λ s. by_scope s.scopes.now };
 
-    ghost invariant = { λ s. HasLawfulPaths s.scopes.now };
+    ghost invariant = { λ s. HasWellFormedPaths s.scopes.now };
 }
 
 impl<'a> Cursor<ScopeLeft<'a>> for ScopesLeft<'a> {
@@ -158,10 +158,10 @@ impl<'a> Cursor<ScopeLeft<'a>> for ScopesLeft<'a> {
     }
 }
 
-/// The entries of a store that are left, in place order.
+/// A cursor over the entries of a store, in place order.
 #[derive(Drop)]
 pub struct Entries<'a> {
-    // By scope.
+    // Nested: entries within scopes.
     entries: Nested<ScopeLeft<'a>, ScopesLeft<'a>>,
 }
 
@@ -177,9 +177,9 @@ impl<'a> Model for Entries<'a> {
 }
 
 impl<'a> Entries<'a> {
-    // Those of maps by scope whose paths are lawful.
+    // Returns a cursor over the entries of maps by scope with valid paths.
     pub(crate) fn of_scopes(scopes: &'a ScopeMap) -> Self
-        requires paths { HasLawfulPaths scopes.now }
+        requires paths { HasWellFormedPaths scopes.now }
         ensures entries { result ≡ all_listed scopes.now }
     {
         let scopes = scopes.pairs();
@@ -191,7 +191,7 @@ impl<'a> Entries<'a> {
         }
     }
 
-    // Entries of one scope.
+    // Returns a cursor over the entries of one scope.
     pub(crate) fn of_scope(scope: &'a Scope, entries: PathEntries<'a>) -> Self
         ensures entries { result ≡ placed scope.now entries.entry }
     {
@@ -203,14 +203,14 @@ impl<'a> Entries<'a> {
         }
     }
 
-    /// Takes the first of them, if there is one. O(1), without memory.
+    /// Takes the next entry, if one is left. O(1). Allocates nothing.
     pub fn next_entry(&mut self) -> Option<Placed<'a>>
         ensures first { MatchOption result ((self.old ≡ []) × (self.new ≡ [])) (λ placed. self.old ≡ placed ∷ self.new) }
     {
         self.entries.next()
     }
 
-    /// The places of all of them. It fails for want of memory alone, and copies no bytes.
+    /// Returns the places of all entries that are left. Fails only if memory runs out. Copies no bytes.
     pub fn places(mut self, alloc: Global) -> Result<Vec<Place>, AllocError>
         ensures places { IfOk result (λ places. places.items ≡ map (λ p. p.0) self.entry) }
     {

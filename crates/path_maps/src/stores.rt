@@ -1,13 +1,14 @@
 //! Stores.
-ghost use Rattle.std.specs.Prelude.{◌≡◌, ◌≢◌, ◌≤◌, ◌↔◌, ◌+◌, None, IsTrue, IsSome, IsOk, IfOk, OnOk, OnErr, IfErr, filter, is_some, map};
+ghost use Rattle.std.specs.Prelude.{◌≡◌, ◌≢◌, ◌≤◌, ◌↔◌, ◌+◌, ℕ, List, None};
+ghost use Rattle.std.specs.Prelude.{IsTrue, IsSome, IsOk, IfOk, OnOk, OnErr, IfErr, filter, is_some, map};
 ghost use Rattle.std.specs.{Bool.{OnTrue, OnFalse}, Option.{option_copied}, List.Sorted.{IsStrictlySortedBy}};
 ghost use Rattle.std.specs.FinMap as finmap;
 ghost use Rattle.list_laws.specs.Members.{IsAmong};
-ghost use Rattle.load_places.specs.Places.{PlaceParts, place_cmp};
+ghost use Rattle.load_places.specs.{Places.{PlaceParts, place_cmp}, declared.places.Scope.TheVariants.{Host}};
 ghost use Rattle.edit_sums.specs.{declared.contents.Content.TheVariants.{Gone}, Flat.{at_fleet}};
 ghost use Rattle.edit_sums.specs.Sums.{changed_places, high_of, join, sum_of, visible_at, with_edit, IsStoreBelow};
-ghost use Rattle.path_maps.specs.{Beside.{beside}, Changes.{additions}, Folders.{is_within}, PlaceMaps.{AreScopes, all_held}};
-ghost use Rattle.path_maps.specs.{Scopes.{scope_of}, Views.{own_of, view_of}};
+ghost use Rattle.path_maps.specs.{Zipped.{zipped}, Changes.{additions}, Folders.{is_within}, PlaceMaps.{AreScopes, all_held}};
+ghost use Rattle.path_maps.specs.{Scopes.{scope_of}, HostLaws.{HoldsNothing, ShowsNothing}, HostViews.{own_of, host_view_of}};
 
 use crate::changes::count_changes;
 use crate::counts::{Counts, count_entries};
@@ -15,9 +16,9 @@ use crate::differences::find_unlike;
 use crate::held::Held;
 use crate::look_ups::host_at;
 use crate::places::Entries;
-use crate::places_beside::Beside;
-use crate::seen::{Own, Seen};
+use crate::places_zipped::Zipped;
 use crate::together::Together;
+use crate::view::{HostView, Own};
 use edit_sums::{Content, Edit, Entry, FlatEdit};
 use join_law::{
     AddAt, AddValue, Addition, Change, ChangeAt, Join, JoinMap, Overwrite, Rest, Version, Versioned,
@@ -90,9 +91,12 @@ impl Store {
         Ok(store)
     }
 
-    /// The sum of edits of before there were hosts, each the fleet's: what `from_edits` makes of these.
+    /// The sum of edits of before there were hosts, each the fleet's: what `from_edits` makes of these. It holds nothing at
+    /// any host's place, and shows nothing there: so each host sees of it what is seen without one.
     pub fn from_flat(alloc: Global, edits: &[FlatEdit]) -> Result<Store, AllocError>
         ensures sum { IfOk result (λ store. store ≡ sum_of (map at_fleet edits.now)) }
+        ensures held { IfOk result (λ store. (host : List ℕ) → HoldsNothing store (Host host)) }
+        ensures shown { IfOk result (λ store. (host : List ℕ) → ShowsNothing store (Host host)) }
     {
         let mut store = Store::new(alloc);
         for edit in edits {
@@ -137,14 +141,14 @@ impl Store {
 
     /// What a host looks at, or what is looked at without one: the host's own places and the fleet's, and nothing of other
     /// hosts. Two searches, without memory.
-    pub fn seen_by<'a>(&'a self, host: Option<&'a HostName>) -> Seen<'a>
-        ensures view { result ≡ view_of self.now (option_copied host.entry) }
+    pub fn host_view<'a>(&'a self, host: Option<&'a HostName>) -> HostView<'a>
+        ensures view { result ≡ host_view_of self.now (option_copied host.entry) }
     {
         let own = match host {
             Some(host) => Some(self.own_of(host)),
             None => None,
         };
-        Seen::new(own, self.held_in(&Scope::Fleet))
+        HostView::new(own, self.held_in(&Scope::Fleet))
     }
 
     // What a host has for itself.
@@ -157,7 +161,7 @@ impl Store {
 
     // What is held in a scope.
     fn held_in(&self, scope: &Scope) -> Held<'_>
-        ensures seen { result ≡ scope_of self.now scope.now }
+        ensures view { result ≡ scope_of self.now scope.now }
     {
         Held::of(self.allocator(), self.scopes.get(scope))
     }
@@ -198,11 +202,11 @@ impl Store {
 
     /// All entries with their places in place order, each with what another store holds there. Both are read side by side,
     /// without memory.
-    pub fn entries_beside<'a>(&'a self, other: &'a Store) -> Beside<'a>
-        ensures entries { result ≡ beside (finmap.get other.now) (finmap.entries self.now) }
+    pub fn entries_zipped<'a>(&'a self, other: &'a Store) -> Zipped<'a>
+        ensures entries { result ≡ zipped (finmap.get other.now) (finmap.entries self.now) }
         ensures within { finmap.len self.now ≤ u64.MAX }
     {
-        Beside::of_scopes(&self.scopes, &other.scopes)
+        Zipped::of_scopes(&self.scopes, &other.scopes)
     }
 
     /// The places at which something else is visible than in an older store, in place order: where a content was put, made
@@ -212,7 +216,7 @@ impl Store {
     /// more, where the older one holds a place that this one doesn't. It fails for want of memory alone, where the list
     /// grows, and copies no bytes.
     pub fn changed(&self, older: &Store) -> Result<Vec<Place>, AllocError>
-        ensures rising { IfOk result (λ places. IsStrictlySortedBy place_cmp places.items) }
+        ensures ascending { IfOk result (λ places. IsStrictlySortedBy place_cmp places.items) }
         ensures exact { IfOk result (λ places. (p : PlaceParts) →
             IsAmong p places.items ↔ (visible_at self.now p ≢ visible_at older.now p)) }
         ensures without_memory { ((p : PlaceParts) → visible_at self.now p ≡ visible_at older.now p) → IsOk result }

@@ -1,4 +1,4 @@
-//! The places of two stores, one after another in place order, each with what both show there.
+//! A cursor over the places of two stores in place order, each with what both show there.
 ghost use Rattle.std.specs.Prelude.{◌≡◌, ◌∷◌, ◌++◌, [], None, IfOk, IsOk, MatchOption};
 ghost use Rattle.edit_sums.specs.Sums.{shown};
 ghost use Rattle.path_maps.specs.Together.{differ, differing, of_both, only_new, only_old, together};
@@ -10,7 +10,7 @@ use std::alloc::{AllocError, Global};
 use std::cmp::Ordering;
 use std::marker::Model;
 
-// A place, and what a store and an older one show there.
+// A place, and what a store and an older store show there.
 #[derive(Drop)]
 struct Shown<'a> {
     placed: Placed<'a>,
@@ -28,7 +28,7 @@ impl<'a> Model for Shown<'a> {
 }
 
 impl<'a> Shown<'a> {
-    // Of a place that the new store alone holds.
+    // For a place that only the new store holds.
     fn of_new(new: Placed<'a>) -> Self
         ensures shown { result ≡ only_new new.entry }
     {
@@ -39,7 +39,7 @@ impl<'a> Shown<'a> {
         }
     }
 
-    // Of a place that the old store alone holds.
+    // For a place that only the old store holds.
     fn of_old(old: Placed<'a>) -> Self
         ensures shown { result ≡ only_old old.entry }
     {
@@ -50,7 +50,7 @@ impl<'a> Shown<'a> {
         }
     }
 
-    // Of a place that both hold.
+    // For a place that both stores hold.
     fn of_both(new: Placed<'a>, old: &Placed<'a>) -> Self
         ensures shown { result ≡ of_both new.entry old.now }
     {
@@ -61,7 +61,7 @@ impl<'a> Shown<'a> {
         }
     }
 
-    // Whether they show something else there: the contents are compared, and no versions.
+    // Returns whether the two stores show different things there. Compares contents, not versions.
     fn differs(&self) -> bool
         ensures differ { result ≡ differ self.now }
     {
@@ -69,12 +69,12 @@ impl<'a> Shown<'a> {
     }
 }
 
-/// The places that are left of two stores, in place order, each with what both show there.
+/// A cursor over the places of two stores, in place order, each with what both show there.
 ///
-/// Each store is read once: a place costs a comparison.
+/// Reads each store once. A place costs one comparison.
 #[derive(Drop)]
 pub(crate) struct Together<'a> {
-    // The first that is left of each, and what is left behind it; where there is no first, nothing is left.
+    // The next entry of each store, and the entries after it. Where there is no next entry, nothing is left.
     newer: Option<Placed<'a>>,
     older: Option<Placed<'a>>,
     newer_left: Entries<'a>,
@@ -91,7 +91,7 @@ impl<'a> Model for Together<'a> {
 }
 
 impl<'a> Together<'a> {
-    // Those of a store and of an older one.
+    // Returns a cursor over the places of a store and of an older store.
     pub(crate) fn of(mut newer: Entries<'a>, mut older: Entries<'a>) -> Self
         ensures shown { result ≡ together newer.entry older.entry }
     {
@@ -103,7 +103,7 @@ impl<'a> Together<'a> {
         }
     }
 
-    // Takes the first of them, if there is one. It takes no memory.
+    // Takes the next place, if one is left. Allocates nothing.
     fn next_shown(&mut self) -> Option<Shown<'a>>
         ensures first { MatchOption result ((self.old ≡ []) × (self.new ≡ [])) (λ shown. self.old ≡ shown ∷ self.new) }
     {
@@ -137,8 +137,8 @@ impl<'a> Together<'a> {
         }
     }
 
-    // The places where they show something else. It fails for want of memory alone, where the list grows, and copies no
-    // bytes.
+    // Returns the places where the two stores show different things. Allocates only when the list grows, and fails only
+    // if memory runs out. Copies no bytes.
     pub(crate) fn differing(mut self, alloc: Global) -> Result<Vec<Place>, AllocError>
         ensures places { IfOk result (λ places. places.items ≡ differing self.entry) }
         ensures without_memory { differing self.entry ≡ [] → IsOk result }

@@ -1,12 +1,11 @@
--- Byte strings that compare as equal are equal, so they hash alike.
-use Rattle.std.specs.Prelude.{◌≡◌, ℕ, List, IsTrue, refl}
-use Rattle.std.specs.Ordering.{nat_cmp, is_eq, eq_by_cmp}
+-- Byte strings that compare as equal are equal, so their hashes are equal too.
+use Rattle.std.proofs.Common.{◌≡◌, ap, IsTrue, List, refl, ℕ}
 use Rattle.std.specs.Cmp.Lexicographic.{slice_cmp}
-use Rattle.std.specs.FinMap.{slice_cmp-IsAntisymmetric, nat_cmp-IsAntisymmetric}
+use Rattle.std.specs.FinMap.{nat_cmp-IsAntisymmetric, slice_cmp-IsAntisymmetric}
+use Rattle.std.specs.Ordering.{eq_by_cmp, is_eq, nat_cmp}
 use Rattle.std.specs.declared.cmp.Ordering.{Ordering}
-use Rattle.std.specs.declared.cmp.Ordering.TheVariants.{Less, Equal, Greater}
+use Rattle.std.specs.declared.cmp.Ordering.TheVariants.{Equal, Greater, Less}
 use Rattle.std.specs.Hash as fed
-use Rattle.std.proofs.Common.{ap}
 
 is_equal : (o : Ordering) → IsTrue (is_eq o) → o ≡ Equal
 is_equal Less h = cc (h)

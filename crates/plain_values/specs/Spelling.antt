@@ -1,8 +1,8 @@
--- Numbers that bytes spell.
+-- Bytes read as a big-endian number.
 -- Source: this project's own.
-use Rattle.std.specs.Prelude.{ℕ, ◌+◌, ◌*◌, List, [], ◌∷◌}
+use Rattle.std.proofs.Common.{[], ◌*◌, ◌+◌, ◌∷◌, List, ℕ}
 
--- the number that bytes spell behind n, each worth 256 of the next
+-- the big-endian number that n followed by these bytes spells: each step multiplies by 256
 abbrev pub spelled : ℕ → List ℕ → ℕ
 spelled n [] = n
 spelled n (b ∷ bytes) = spelled (n * 256 + b) bytes

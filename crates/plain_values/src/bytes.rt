@@ -1,4 +1,4 @@
-//! Byte strings: short ones stand in the value itself, longer ones are shared by their copies.
+//! Byte strings. Short ones are stored inline, longer ones are shared by their copies.
 ghost use Rattle.std.specs.Prelude.{◌≡◌, ◌++◌, IfOk};
 
 use crate::keys::{Key, TryClone};
@@ -10,17 +10,17 @@ use std::cmp::Ordering;
 use std::hash::{Hash, Hasher};
 use std::marker::Model;
 
-// Where the bytes stand.
+// Where the bytes are stored.
 #[derive(Debug, Drop)]
 enum Held {
     Short(ShortBytes),
     Shared(SharedBytes),
 }
 
-/// A byte string, which need be no UTF-8, ordered by its bytes, a proper prefix first.
+/// A byte string, not necessarily UTF-8, in lexicographic order of its bytes.
 ///
-/// A copy takes neither time nor room for the bytes: up to 22 of them stand in the value itself, and take no memory, and
-/// more are shared by all copies.
+/// Up to 22 bytes are stored inline, without an allocation; a longer string is shared by all its copies. So a copy
+/// allocates nothing and copies at most 22 bytes.
 #[derive(Debug, Drop)]
 pub struct Bytes {
     held: Held,
@@ -36,7 +36,7 @@ impl Model for Bytes {
 }
 
 impl Bytes {
-    /// A copy of some bytes. It fails for want of memory alone.
+    /// Returns a copy of `bytes`. Allocates only for more than 22 bytes. Fails only if memory runs out.
     pub fn from_slice(alloc: Global, bytes: &[u8]) -> Result<Self, AllocError>
         ensures copy { IfOk result (λ copy. copy ≡ bytes.now) }
     {
@@ -50,18 +50,18 @@ impl Bytes {
         })
     }
 
-    /// A copy of two strings of bytes, one behind the other. It fails for want of memory alone, and asks for none where
-    /// together they are few.
-    pub fn joined(alloc: Global, front: &[u8], back: &[u8]) -> Result<Self, AllocError>
-        ensures joined { IfOk result (λ joined. joined ≡ front.now ++ back.now) }
+    /// Returns the concatenation of two byte strings. Allocates only if together they have more than 22 bytes. Fails
+    /// only if memory runs out.
+    pub fn joined(alloc: Global, prefix: &[u8], back: &[u8]) -> Result<Self, AllocError>
+        ensures joined { IfOk result (λ joined. joined ≡ prefix.now ++ back.now) }
     {
-        let len = front.len() + back.len();
+        let len = prefix.len() + back.len();
         if len <= SHORT {
-            let held = Held::Short(ShortBytes::joined(alloc, front, back));
+            let held = Held::Short(ShortBytes::joined(alloc, prefix, back));
             return Ok(Bytes { held });
         }
         let mut bytes = Vec::with_capacity(alloc, len)?;
-        bytes.extend_from_slice(front)?;
+        bytes.extend_from_slice(prefix)?;
         bytes.extend_from_slice(back)?;
         let shared = SharedBytes::from_vec(bytes)?;
         Ok(Bytes {
@@ -69,8 +69,8 @@ impl Bytes {
         })
     }
 
-    /// These bytes, without a copy of them where they are many. It fails for want of memory alone; the bytes are then
-    /// dropped.
+    /// Makes a byte string of a vector. More than 22 bytes are moved, not copied. Fails only if memory runs out; the
+    /// bytes are then dropped.
     pub fn from_vec(bytes: Vec<u8>) -> Result<Self, AllocError>
         ensures bytes { IfOk result (λ made. made ≡ bytes.items) }
     {
@@ -82,7 +82,7 @@ impl Bytes {
         Ok(Bytes { held })
     }
 
-    /// The bytes. It takes no memory.
+    /// Borrows the bytes. Allocates nothing.
     #[inline(always)]
     pub fn as_slice(&self) -> &[u8]
         ensures bytes { result.now ≡ self.now }
@@ -93,7 +93,7 @@ impl Bytes {
         }
     }
 
-    /// The allocator that its bytes came from.
+    /// Returns the allocator that the bytes came from.
     pub fn allocator(&self) -> Global {
         match &self.held {
             Held::Short(short) => short.allocator(),
@@ -101,7 +101,7 @@ impl Bytes {
         }
     }
 
-    /// The same bytes again. It fails for want of memory alone, which here is that there are too many copies of many bytes.
+    /// Returns an equal byte string, without an allocation. Fails only if shared bytes already have too many copies.
     pub fn try_clone(&self) -> Result<Bytes, AllocError>
         ensures copy { IfOk result (λ copy. copy ≡ self.now) }
     {

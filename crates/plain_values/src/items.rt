@@ -1,11 +1,11 @@
-//! Lists as values.
+//! Lists whose model is their elements.
 ghost use Rattle.std.specs.Prelude.{◌≡◌, OnOk, OnErr, [], ◌∷◌, ◌++◌};
 
 use crate::keys::TryClone;
 use std::alloc::{AllocError, Global};
 use std::marker::Model;
 
-/// A list that contracts see as its elements alone.
+/// A list that contracts see as its elements alone, without a capacity.
 #[derive(Debug, Drop)]
 pub struct Items<T: Drop> {
     elements: Vec<T>,
@@ -20,7 +20,7 @@ impl<T: Drop> Model for Items<T> {
 }
 
 impl<T: Drop> Items<T> {
-    /// No elements. It takes no memory.
+    /// Returns an empty list. Allocates nothing.
     pub fn new(alloc: Global) -> Self
         ensures empty { result ≡ [] }
     {
@@ -29,14 +29,14 @@ impl<T: Drop> Items<T> {
         }
     }
 
-    /// These elements, without a copy of them. It takes no memory.
+    /// Makes a list of a vector, without copying the elements. Allocates nothing.
     pub fn from_vec(elements: Vec<T>) -> Self
         ensures elements { result ≡ elements.items }
     {
         Items { elements }
     }
 
-    /// Puts an element behind the others. It fails for want of memory alone, and then changes nothing.
+    /// Appends an element. Fails only if memory runs out, and then changes nothing.
     pub fn push(&mut self, element: T) -> Result<(), AllocError>
         ensures ok { OnOk result (self.new ≡ self.old ++ element ∷ []) }
         ensures err { OnErr result (self.new ≡ self.old) }
@@ -45,8 +45,8 @@ impl<T: Drop> Items<T> {
         Ok(())
     }
 
-    /// Puts the elements of another list behind these, without a copy of them. It fails for want of memory alone, and then
-    /// changes nothing.
+    /// Moves the elements of another list to the end of this one. Fails only if memory runs out, and then changes
+    /// nothing.
     pub fn append(&mut self, other: Items<T>) -> Result<(), AllocError>
         ensures ok { OnOk result (self.new ≡ self.old ++ other) }
         ensures err { OnErr result (self.new ≡ self.old) }
@@ -55,14 +55,14 @@ impl<T: Drop> Items<T> {
         self.elements.append(&mut elements)
     }
 
-    /// Takes all elements away. It takes no memory, and keeps the room.
+    /// Removes all elements, but keeps the capacity. Allocates nothing.
     pub fn clear(&mut self)
         ensures empty { self.new ≡ [] }
     {
         self.elements.clear();
     }
 
-    /// The elements as a vector, without a copy of them. It takes no memory.
+    /// Returns the elements as a vector, without copying them. Allocates nothing.
     pub fn into_vec(self) -> Vec<T>
         ensures elements { result.items ≡ self }
     {
@@ -70,7 +70,7 @@ impl<T: Drop> Items<T> {
         elements
     }
 
-    /// The elements. It takes no memory.
+    /// Borrows the elements. Allocates nothing.
     pub fn as_slice(&self) -> &[T]
         ensures elements { result.now ≡ self.now }
     {

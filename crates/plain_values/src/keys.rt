@@ -1,18 +1,18 @@
-//! The traits of values that are copied where memory allows, and of keys.
+//! Traits of values that can be copied if memory allows, and of keys.
 ghost use Rattle.std.specs.{Prelude.{◌≡◌, IfOk}, declared.cmp.Ordering.TheVariants.{Equal}};
 
 use std::alloc::AllocError;
 
-/// Values that can be had again, or memory is refused.
+/// Values that can be copied, unless memory runs out.
 pub trait TryClone: Drop {
-    /// An equal value. It fails for want of memory alone.
+    /// Returns an equal value. Fails only if memory runs out.
     fn try_clone(&self) -> Result<Self, AllocError>
         ensures copy { IfOk result (λ copy. copy ≡ self.now) };
 }
 
-/// A total order whose `Equal` means equal values.
+/// Keys of maps: values with a total order in which `Equal` means that the two are equal.
 pub trait Key: Ord + TryClone {
-    // What compares as equal is equal.
+    // Values that compare as `Equal` are equal.
     ghost exact: { (x y : Self) → Self.cmp x y ≡ Equal → x ≡ y };
 }
 

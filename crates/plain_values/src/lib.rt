@@ -1,8 +1,13 @@
-//! Values that all layers hold: byte strings, which keys of maps, contents, texts and names are made of, and lists; and
-//! the traits of values that can be had again and of keys. A short byte string stands in the value itself, and copies of
-//! a longer one share its bytes; any value can be shared.
+//! Basic values that all layers use: byte strings, lists, shared values, and the traits `TryClone` and `Key`. Copying a
+//! byte string is cheap: up to 22 bytes are stored inline, and copies of a longer string share its bytes.
 //!
 //! Promise: the store is its map.
+//!
+//! - `Bytes`: a byte string, of which keys, contents, texts and names are made; `SharedBytes`: one whose bytes are
+//!   always shared.
+//! - `Items`: a list that contracts see as its elements; `Shared`: any value, shared by its copies.
+//! - `TryClone`: values whose copy may fail if memory runs out; `Key`: those with a total order.
+//! - `order` and `same`: comparison of byte slices, several bytes at a time.
 #![tactic(auto)]
 
 mod bytes;

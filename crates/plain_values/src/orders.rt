@@ -1,20 +1,20 @@
-//! The order of byte strings, and whether they are the same.
+//! Order and equality of byte strings.
 ghost use Rattle.std.specs.{Prelude.{◌≡◌, ◌≢◌, ◌≤◌, ◌+◌, None, length, take}, Option.{IfSome}, Ordering.{eq_by_cmp, nat_cmp}};
 ghost use Rattle.std.specs.{Cmp.Lexicographic.{slice_cmp}, declared.cmp.Ordering.TheVariants.{Equal}};
 ghost use Rattle.plain_values.specs.Spelling.{spelled};
 
 use std::cmp::Ordering;
 
-// So many bytes are compared as one number.
+// The number of bytes that are compared as one `u64`.
 const WORD: usize = 8;
 
-// So many bytes are half a word.
+// The number of bytes in half a word.
 const HALF: usize = 4;
 
-// So many bytes are four words.
+// The number of bytes in four words.
 const LINE: usize = 32;
 
-/// How two strings of bytes are ordered: eight bytes at a time as numbers, and the last ones one by one.
+/// Compares two byte strings lexicographically: eight bytes at a time as big-endian numbers, the last ones singly.
 pub fn order(a: &[u8], b: &[u8]) -> Ordering
     ensures order { result ≡ slice_cmp nat_cmp a.now b.now }
 {
@@ -31,7 +31,7 @@ pub fn order(a: &[u8], b: &[u8]) -> Ordering
     order_of_few(a_left, b_left)
 }
 
-// The same, byte by byte.
+// The same comparison, byte by byte.
 fn order_of_few(a: &[u8], b: &[u8]) -> Ordering
     ensures order { result ≡ slice_cmp nat_cmp a.now b.now }
 {
@@ -44,7 +44,7 @@ fn order_of_few(a: &[u8], b: &[u8]) -> Ordering
     a.len().cmp(&b.len())
 }
 
-// The number that the first eight bytes spell.
+// The first eight bytes as a big-endian number.
 fn first_word(bytes: &[u8]) -> u64
     requires eight { 8 ≤ length bytes.now }
     ensures word { result ≡ spelled 0 (take 8 bytes.now) }
@@ -54,7 +54,8 @@ fn first_word(bytes: &[u8]) -> u64
     ])
 }
 
-/// Whether two strings of bytes are the same: 32 bytes at a time, then eight, then four, and the last ones one by one.
+/// Returns whether two byte strings are equal. Compares 32 bytes at a time, then eight, then four, and the last ones
+/// singly.
 pub fn same(a: &[u8], b: &[u8]) -> bool
     ensures same { result ≡ eq_by_cmp (slice_cmp nat_cmp) a.now b.now }
 {
@@ -67,7 +68,7 @@ pub fn same(a: &[u8], b: &[u8]) -> bool
     }
 }
 
-// What is left of two strings behind the words that both have, if these are the same.
+// Skips the whole words that both strings begin with, and returns what remains of each; `None` if two words differ.
 fn past_all_words<'a>(a: &'a [u8], b: &'a [u8]) -> Option<(&'a [u8], &'a [u8])>
     ensures left { IfSome result (λ left. slice_cmp nat_cmp left.0.now left.1.now ≡ slice_cmp nat_cmp a.now b.now) }
     ensures differ { result ≡ None → slice_cmp nat_cmp a.now b.now ≢ Equal }
@@ -79,7 +80,7 @@ fn past_all_words<'a>(a: &'a [u8], b: &'a [u8]) -> Option<(&'a [u8], &'a [u8])>
     Some((a_left, b_left))
 }
 
-// What is left of two strings behind lines of 32 bytes that both have, if these are the same.
+// Skips whole lines of 32 bytes, and returns what remains of each string; `None` if two words differ.
 fn past_lines<'a>(a: &'a [u8], b: &'a [u8]) -> Option<(&'a [u8], &'a [u8])>
     ensures left { IfSome result (λ left. slice_cmp nat_cmp left.0.now left.1.now ≡ slice_cmp nat_cmp a.now b.now) }
     ensures differ { result ≡ None → slice_cmp nat_cmp a.now b.now ≢ Equal }
@@ -95,14 +96,14 @@ fn past_lines<'a>(a: &'a [u8], b: &'a [u8]) -> Option<(&'a [u8], &'a [u8])>
     Some((a_left, b_left))
 }
 
-// What is left of two strings behind their first eight bytes, if these are the same.
+// Skips the first eight bytes, and returns what remains of each string; `None` if they differ.
 #[inline(always)]
 fn past_word<'a>(a: &'a [u8], b: &'a [u8]) -> Option<(&'a [u8], &'a [u8])>
     requires eight { 8 ≤ length a.now }
     requires other_eight { 8 ≤ length b.now }
     ensures left { IfSome result (λ left. slice_cmp nat_cmp left.0.now left.1.now ≡ slice_cmp nat_cmp a.now b.now) }
-    ensures behind { IfSome result (λ left. 8 + length left.0.now ≡ length a.now) }
-    ensures other_behind { IfSome result (λ left. 8 + length left.1.now ≡ length b.now) }
+    ensures following { IfSome result (λ left. 8 + length left.0.now ≡ length a.now) }
+    ensures other_following { IfSome result (λ left. 8 + length left.1.now ≡ length b.now) }
     ensures differ { result ≡ None → slice_cmp nat_cmp a.now b.now ≢ Equal }
 {
     if first_word(a) != first_word(b) {
@@ -111,7 +112,7 @@ fn past_word<'a>(a: &'a [u8], b: &'a [u8]) -> Option<(&'a [u8], &'a [u8])>
     Some((&a[WORD..], &b[WORD..]))
 }
 
-// Whether two strings of a few bytes are the same: four of them at once, if both have as many.
+// Returns whether two strings of fewer than eight bytes are equal. Compares four bytes at once if both have as many.
 fn are_few_same(a: &[u8], b: &[u8]) -> bool
     ensures same { result ≡ eq_by_cmp (slice_cmp nat_cmp) a.now b.now }
 {
@@ -124,7 +125,7 @@ fn are_few_same(a: &[u8], b: &[u8]) -> bool
     order_of_few(&a[HALF..], &b[HALF..]).is_eq()
 }
 
-// The number that the first four bytes spell.
+// The first four bytes as a big-endian number.
 fn first_half(bytes: &[u8]) -> u32
     requires four { 4 ≤ length bytes.now }
     ensures half { result ≡ spelled 0 (take 4 bytes.now) }

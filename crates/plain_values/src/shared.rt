@@ -1,11 +1,11 @@
-//! Bytes that are shared.
+//! Byte strings with shared bytes.
 ghost use Rattle.std.specs.Prelude.{◌≡◌, IfOk};
 
 use std::alloc::{AllocError, Global};
 use std::marker::Model;
 use std::sync::Arc;
 
-/// A byte string whose bytes are shared by all its copies, so that a copy takes no time and no room for them.
+/// A byte string whose copies all share its bytes, so that a copy takes constant time and no memory.
 #[derive(Debug, Drop)]
 pub struct SharedBytes {
     shared: Arc<Vec<u8>, Global>,
@@ -20,7 +20,8 @@ impl Model for SharedBytes {
 }
 
 impl SharedBytes {
-    /// These bytes, without a copy of them. It fails for want of memory alone; the bytes are then dropped.
+    /// Makes a shared byte string of a vector, without copying the bytes. Fails only if memory runs out; the bytes are
+    /// then dropped.
     pub fn from_vec(bytes: Vec<u8>) -> Result<Self, AllocError>
         ensures bytes { IfOk result (λ made. made ≡ bytes.items) }
     {
@@ -30,7 +31,7 @@ impl SharedBytes {
         })
     }
 
-    /// The bytes. It takes no memory.
+    /// Borrows the bytes. Allocates nothing.
     #[inline(always)]
     pub fn as_slice(&self) -> &[u8]
         ensures bytes { result.now ≡ self.now }
@@ -38,12 +39,12 @@ impl SharedBytes {
         self.shared.as_slice()
     }
 
-    /// The allocator that its bytes came from.
+    /// Returns the allocator that the bytes came from.
     pub fn allocator(&self) -> Global {
         *self.shared.allocator()
     }
 
-    /// The same bytes again, shared. It fails for want of memory alone, which here is that there are too many copies.
+    /// Returns an equal byte string that shares the bytes. Fails only if there are too many copies already.
     pub fn try_clone(&self) -> Result<SharedBytes, AllocError>
         ensures copy { IfOk result (λ copy. copy ≡ self.now) }
     {

@@ -1,4 +1,4 @@
-//! Values that are shared.
+//! Values shared by their copies.
 ghost use Rattle.std.specs.Prelude.{◌≡◌, IfOk};
 
 use crate::keys::TryClone;
@@ -6,7 +6,7 @@ use std::alloc::{AllocError, Global};
 use std::marker::Model;
 use std::sync::Arc;
 
-/// A value that all its copies share, so that a copy takes no time and no room for it. Contracts see the value.
+/// A value that all its copies share, so that a copy takes constant time and no memory. Contracts see the value itself.
 #[derive(Debug, Drop)]
 pub struct Shared<T: Drop> {
     value: Arc<T, Global>,
@@ -21,7 +21,7 @@ impl<T: Drop> Model for Shared<T> {
 }
 
 impl<T: Drop> Shared<T> {
-    /// A value that can be shared. It fails for want of memory alone; the value is then dropped.
+    /// Makes a shared value. Fails only if memory runs out; the value is then dropped.
     pub fn new(alloc: Global, value: T) -> Result<Self, AllocError>
         ensures value { IfOk result (λ shared. shared ≡ value) }
     {
@@ -30,7 +30,7 @@ impl<T: Drop> Shared<T> {
         })
     }
 
-    /// The value. It takes no memory.
+    /// Borrows the value. Allocates nothing.
     pub fn get(&self) -> &T
         ensures value { result.now ≡ self.now }
     {
@@ -39,7 +39,7 @@ impl<T: Drop> Shared<T> {
 }
 
 impl<T: Drop> TryClone for Shared<T> {
-    /// The same value again, shared. It fails for want of memory alone, which here is that there are too many copies.
+    /// Returns an equal value that shares this one. Fails only if there are too many copies already.
     fn try_clone(&self) -> Result<Shared<T>, AllocError> {
         Ok(Shared {
             value: Arc::try_clone(&self.value)?,

@@ -1,13 +1,13 @@
-//! Few bytes, which stand in the value itself.
+//! Short byte strings, stored inline.
 ghost use Rattle.std.specs.Prelude.{◌≡◌, ◌≤◌, ◌+◌, ◌++◌, length};
 
 use std::alloc::Global;
 use std::marker::Model;
 
-/// The most bytes that stand in the value itself.
+/// The most bytes that are stored inline.
 pub const SHORT: usize = 22;
 
-/// At most 22 bytes.
+/// At most 22 bytes, stored inline.
 #[derive(Debug, Drop)]
 pub struct ShortBytes {
     alloc: Global,
@@ -26,7 +26,7 @@ impl Model for ShortBytes {
 }
 
 impl ShortBytes {
-    /// A copy of these bytes.
+    /// Returns a copy of `bytes`. Allocates nothing.
     pub fn of(alloc: Global, bytes: &[u8]) -> ShortBytes
         requires few { length bytes.now ≤ 22 }
         ensures copy { result ≡ bytes.now }
@@ -40,15 +40,15 @@ impl ShortBytes {
         }
     }
 
-    /// A copy of these bytes, one string behind the other.
-    pub fn joined(alloc: Global, front: &[u8], back: &[u8]) -> ShortBytes
-        requires few { length front.now + length back.now ≤ 22 }
-        ensures joined { result ≡ front.now ++ back.now }
+    /// Returns the concatenation of two byte strings. Allocates nothing.
+    pub fn joined(alloc: Global, prefix: &[u8], back: &[u8]) -> ShortBytes
+        requires few { length prefix.now + length back.now ≤ 22 }
+        ensures joined { result ≡ prefix.now ++ back.now }
     {
-        let len = front.len() + back.len();
+        let len = prefix.len() + back.len();
         let mut held = [0; 22];
-        held[..front.len()].copy_from_slice(front);
-        held[front.len()..len].copy_from_slice(back);
+        held[..prefix.len()].copy_from_slice(prefix);
+        held[prefix.len()..len].copy_from_slice(back);
         ShortBytes {
             alloc,
             len: len as u8,
@@ -56,7 +56,7 @@ impl ShortBytes {
         }
     }
 
-    /// The bytes.
+    /// Borrows the bytes.
     #[inline(always)]
     pub fn as_slice(&self) -> &[u8]
         ensures bytes { result.now ≡ self.now }
@@ -64,12 +64,12 @@ impl ShortBytes {
         &self.bytes[..self.len as usize]
     }
 
-    /// The allocator of what is made from them.
+    /// Returns the allocator for values made from these bytes.
     pub fn allocator(&self) -> Global {
         self.alloc
     }
 
-    /// The same bytes again.
+    /// Returns an equal byte string.
     pub fn copy(&self) -> ShortBytes
         ensures copy { result ≡ self.now }
     {

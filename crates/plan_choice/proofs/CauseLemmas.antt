@@ -1,22 +1,10 @@
--- The causes of refusals, by marks and rows.
-use Rattle.std.proofs.Common.{◌≡◌, ◌<◌, ℕ, ◌↔◌, Bool, true, false, IsTrue, List, length, get_or, arith}
+-- The causes of refusals, over bit sets and adjacency lists.
+use Rattle.std.proofs.Common.{◌<◌, ◌↔◌, ◌≡◌, arith, Bool, false, get_or, IsTrue, length, List, true, ℕ}
 use Rattle.std.specs.Ordering.{nat_cmp}
-use Rattle.std.specs.declared.vec.Vec.{Vec}
 use Rattle.std.specs.declared.alloc.Global.{Global}
-use Rattle.list_laws.specs.Members.{IsAmong}
-use Rattle.index_rows.specs.Least.{IsLeast}
-use Rattle.index_rows.specs.MarkLaws.{marked_read, unmarked_read}
-use Rattle.index_rows.specs.Rows.{Marked}
-use Rattle.index_rows.specs.StepLaws.{steps-below}
-use Rattle.index_rows.specs.Steps.{steps_from}
-use Rattle.start_order.specs.OrderLaws.{least_along}
-use Rattle.plan_choice.specs.declared.cases.PlanRows.{PlanRows}
-use Rattle.plan_choice.specs.Sets.{IsNeeded, AreInConflict}
-use Rattle.plan_choice.specs.Answers.{IsFirstPair, IsUnloadedNeed, LacksRequisite, AreNeededRivals, IsClearBelow}
-use Rattle.plan_choice.specs.RowCases.{case_of, count_of}
-use Rattle.plan_choice.specs.Marking.{AreMarksOf, ArePairsOf}
-use Rattle.plan_choice.specs.Soundness.{IsIdle}
-use Rattle.plan_choice.proofs.Fitting.{stable, untrue, is_false}
+use Rattle.std.specs.declared.vec.Vec.{Vec}
+use Rattle.plan_choice.proofs.Prelude.{AreBitsOf, AreInConflict, AreNeededConflicts, ArePairsOf, case_of, count_of, IndexedCase, IsAmong, IsClearBelow, IsFirstPair, IsIdle, IsLeast, IsMember, IsNeeded, IsUnloadedNeed, LacksRequisite, least_along, member_read, non_members_read, successors-below, successors_from}
+use Rattle.plan_choice.proofs.Fitting.{is_false, stable, untrue}
 
 pub pair_along : (R S : ℕ → ℕ → Type 0) → ((u v : ℕ) → R u v ↔ S u v) → (a b : ℕ) → IsFirstPair nat_cmp R a b → IsFirstPair nat_cmp S a b
 pair_along R S same a b f = record {
@@ -24,50 +12,50 @@ pair_along R S same a b f = record {
   inner = least_along nat_cmp (R a) (S a) (λ y. (same a y).0) (λ y. (same a y).1) b f.inner;
 }
 
-module _ (p : PlanRows) (needed : List Bool) (n : AreMarksOf (count_of p) (IsNeeded (case_of p)) needed) where
-  module _ (unloaded : List Bool) (left : (v : ℕ) → Marked unloaded v ↔ (Marked needed v × ¬ Marked p.loaded.items v)) where
-    all_loaded : ((v : ℕ) → ¬ Marked unloaded v) → (u : ℕ) → IsNeeded (case_of p) u → IsTrue ((case_of p).is_loaded u)
-    all_loaded none u h = stable ((case_of p).is_loaded u) (λ out. none u ((left u).1 ((n.marked u).1 h, out)))
+module _ (p : IndexedCase) (needed : List Bool) (n : AreBitsOf (count_of p) (IsNeeded (case_of p)) needed) where
+  module _ (unloaded : List Bool) (left : (v : ℕ) → IsMember unloaded v ↔ (IsMember needed v × ¬ IsMember p.loaded.items v)) where
+    all_loaded : ((v : ℕ) → ¬ IsMember unloaded v) → (u : ℕ) → IsNeeded (case_of p) u → IsTrue ((case_of p).is_loaded u)
+    all_loaded none u h = stable ((case_of p).is_loaded u) (λ out. none u ((left u).1 ((n.sets u).1 h, out)))
 
-    -- the target and what it needs are loaded, and it may be started, as was read
+    -- the target and what it needs are loaded, and the target may be started, as was read
     pub clear_4 : (loaded refuses : Bool) → loaded ≡ get_or p.loaded.items p.target loaded → loaded ≡ true
         → refuses ≡ get_or p.refuses_manual_start.items p.target refuses → refuses ≡ false
-        → ((v : ℕ) → ¬ Marked unloaded v) → IsClearBelow nat_cmp (case_of p) 4
+        → ((v : ℕ) → ¬ IsMember unloaded v) → IsClearBelow nat_cmp (case_of p) 4
     clear_4 loaded refuses load_read is switch_read may none =
-        let inside : p.target < length p.refuses_manual_start.items = omega (arith, p.lawful_target, p.lawful_refuses) in
+        let inside : p.target < length p.refuses_manual_start.items = omega (arith, p.valid_target, p.valid_refuses) in
         record {
-          target_loaded = λ l. marked_read p.loaded.items p.target loaded load_read p.lawful_target is;
+          target_loaded = λ l. member_read p.loaded.items p.target loaded load_read p.valid_target is;
           needs_loaded = λ l. all_loaded none;
-          may_start = λ l. is_false _ (unmarked_read p.refuses_manual_start.items p.target refuses switch_read inside may);
+          may_start = λ l. is_false _ (non_members_read p.refuses_manual_start.items p.target refuses switch_read inside may);
           requisites_run = λ l. absurd (omega arith);
           at_peace = λ l. absurd (omega arith);
           none_waits = λ l. absurd (omega arith);
         }
 
-    pub first_unloaded : (u : ℕ) → IsLeast nat_cmp (Marked unloaded) u → IsLeast nat_cmp (IsUnloadedNeed nat_cmp (case_of p)) u
-    first_unloaded u l = least_along nat_cmp (Marked unloaded) (IsUnloadedNeed nat_cmp (case_of p))
-        (λ v m. (let k = (left v).0 m in ((n.marked v).0 k.0, is_false ((case_of p).is_loaded v) k.1)))
-        (λ v h. (left v).1 ((n.marked v).1 h.0, untrue ((case_of p).is_loaded v) h.1)) u l
+    pub first_unloaded : (u : ℕ) → IsLeast nat_cmp (IsMember unloaded) u → IsLeast nat_cmp (IsUnloadedNeed nat_cmp (case_of p)) u
+    first_unloaded u l = least_along nat_cmp (IsMember unloaded) (IsUnloadedNeed nat_cmp (case_of p))
+        (λ v m. (let k = (left v).0 m in ((n.sets v).0 k.0, is_false ((case_of p).is_loaded v) k.1)))
+        (λ v h. (left v).1 ((n.sets v).1 h.0, untrue ((case_of p).is_loaded v) h.1)) u l
 
-  module _ (idle : List Bool) (i : AreMarksOf (count_of p) (IsIdle (count_of p) (case_of p)) idle) where
-    pub lacking : (u v : ℕ) → (Marked needed u × IsAmong v (steps_from p.requisites u) × Marked idle v) ↔ LacksRequisite nat_cmp (case_of p) u v
+  module _ (idle : List Bool) (i : AreBitsOf (count_of p) (IsIdle (count_of p) (case_of p)) idle) where
+    pub lacking : (u v : ℕ) → (IsMember needed u × IsAmong v (successors_from p.requisites u) × IsMember idle v) ↔ LacksRequisite nat_cmp (case_of p) u v
     lacking u v = (
-      λ h. ((n.marked u).0 h.0, h.1, is_false ((case_of p).is_running v) ((i.marked v).0 h.2).1),
-      λ h. ((n.marked u).1 h.0, h.1, (i.marked v).1 (steps-below (count_of p) p.requisites u v p.lawful_requisites h.1, untrue ((case_of p).is_running v) h.2)),
+      λ h. ((n.sets u).0 h.0, h.1, is_false ((case_of p).is_running v) ((i.sets v).0 h.2).1),
+      λ h. ((n.sets u).1 h.0, h.1, (i.sets v).1 (successors-below (count_of p) p.requisites u v p.valid_requisites h.1, untrue ((case_of p).is_running v) h.2)),
     )
 
-    pub all_run : ((u v : ℕ) → ¬ (Marked needed u × IsAmong v (steps_from p.requisites u) × Marked idle v)) → (u v : ℕ) → IsNeeded (case_of p) u → IsAmong v ((case_of p).requisites u) → IsTrue ((case_of p).is_running v)
+    pub all_run : ((u v : ℕ) → ¬ (IsMember needed u × IsAmong v (successors_from p.requisites u) × IsMember idle v)) → (u v : ℕ) → IsNeeded (case_of p) u → IsAmong v ((case_of p).requisites u) → IsTrue ((case_of p).is_running v)
     all_run none u v h a = stable ((case_of p).is_running v) (λ out. none u v ((lacking u v).1 (h, a, is_false ((case_of p).is_running v) out)))
 
-  module _ (rivals : List (List (Vec ℕ Global))) (r : ArePairsOf (count_of p) (AreInConflict (case_of p)) rivals) where
-    pub rivalry : (u v : ℕ) → (Marked needed u × IsAmong v (steps_from rivals u) × Marked needed v) ↔ AreNeededRivals nat_cmp (case_of p) u v
+  module _ (conflicting : List (List (Vec ℕ Global))) (r : ArePairsOf (count_of p) (AreInConflict (case_of p)) conflicting) where
+    pub rivalry : (u v : ℕ) → (IsMember needed u × IsAmong v (successors_from conflicting u) × IsMember needed v) ↔ AreNeededConflicts nat_cmp (case_of p) u v
     rivalry u v = (
-      λ h. ((n.marked u).0 h.0, (n.marked v).0 h.2, (r.pairs u v).0 h.1),
-      λ h. ((n.marked u).1 h.0, (r.pairs u v).1 h.2, (n.marked v).1 h.1),
+      λ h. ((n.sets u).0 h.0, (n.sets v).0 h.2, (r.pairs u v).0 h.1),
+      λ h. ((n.sets u).1 h.0, (r.pairs u v).1 h.2, (n.sets v).1 h.1),
     )
 
--- what was looked at so far
-module _ (p : PlanRows) where
+-- what was tested so far
+module _ (p : IndexedCase) where
   pub clear_2 : IsTrue ((case_of p).is_loaded p.target) → IsClearBelow nat_cmp (case_of p) 2
   clear_2 t = record {
     target_loaded = λ l. t;

@@ -1,34 +1,26 @@
--- Marks, rows and options, as the code reads them.
-use Rattle.std.proofs.Common.{◌≡◌, ℕ, zero, suc, ◌<◌, ◌∷◌, [], arith, Bool, true, false, not, IsTrue, List, refl, sym, subst, Option, Some, None, get_or}
-use Rattle.std.specs.List.{All}
-use Rattle.std.specs.Option.{MatchOption, is_some}
-use Rattle.std.specs.declared.vec.Vec.{Vec}
-use Rattle.std.specs.declared.alloc.Global.{Global}
+-- Bit sets, adjacency lists and options, as the code reads them.
+use Rattle.std.proofs.Common.{[], ◌<◌, ◌∷◌, ◌≡◌, All, arith, Bool, false, get_or, is_some, IsTrue, List, MatchOption, None, not, Option, refl, Some, subst, suc, sym, true, zero, ℕ}
 use Rattle.std.proofs.lemmas.List.Elements.{Contains-get_or}
-use Rattle.list_laws.specs.Members.{IsAmong, among_from_contains}
-use Rattle.name_closure.specs.Chains.{IsReached}
-use Rattle.name_closure.specs.SourceLaws.{same_reached, AreSameNodes, AreSameSteps}
-use Rattle.index_rows.specs.Rows.{AreRowsOf, row}
-use Rattle.index_rows.specs.RowLaws.{All-row}
-use Rattle.index_rows.specs.Steps.{AreStepsOf}
-use Rattle.plan_choice.specs.Marking.{AreMarksOf}
+use Rattle.std.specs.declared.alloc.Global.{Global}
+use Rattle.std.specs.declared.vec.Vec.{Vec}
+use Rattle.plan_choice.proofs.Prelude.{All-neighbors, among_from_contains, AreAdjacencyOf, AreBitsOf, AreSameNodes, AreSameSuccessors, AreSuccessorsOf, IsAmong, IsReached, neighbors, same_reached}
 
--- a row has places in marks of so many units
-pub row_fits : (m n : ℕ) (rows : List (Vec ℕ Global)) (u : ℕ) (r : List ℕ) → r ≡ row rows u → AreRowsOf n rows → m ≡ n → All (λ v. v < m) r
-row_fits m n rows u r e lawful f =
+-- the nodes of an adjacency list are below the length of a bit set of n units
+pub neighbors_fits : (m n : ℕ) (adjacency : List (Vec ℕ Global)) (u : ℕ) (r : List ℕ) → r ≡ neighbors adjacency u → AreAdjacencyOf n adjacency → m ≡ n → All (λ v. v < m) r
+neighbors_fits m n adjacency u r e well_formed f =
     let P : List ℕ → Type 0 = λ l. All (λ v. v < m) l in
-    let Q : ℕ → Type 0 = λ k. All (λ v. v < k) (row rows u) in
-    subst P (sym e) (subst Q (sym f) (All-row n rows u lawful.within))
+    let Q : ℕ → Type 0 = λ k. All (λ v. v < k) (neighbors adjacency u) in
+    subst P (sym e) (subst Q (sym f) (All-neighbors n adjacency u well_formed.within))
 
--- steps between so many units fit marks of so many
-pub steps_fit : (m n : ℕ) (steps : List (List (Vec ℕ Global))) → AreStepsOf n steps → m ≡ n → AreStepsOf m steps
-steps_fit m n steps a e = let P : ℕ → Type 0 = λ k. AreStepsOf k steps in subst P (sym e) a
+-- edges between n units fit a bit set of n units
+pub successors_fit : (m n : ℕ) (successors : List (List (Vec ℕ Global))) → AreSuccessorsOf n successors → m ≡ n → AreSuccessorsOf m successors
+successors_fit m n successors a e = let P : ℕ → Type 0 = λ k. AreSuccessorsOf k successors in subst P (sym e) a
 
 pub one_place : (n u : ℕ) → u < n → All (λ v. v < n) (u ∷ [])
 one_place n u l zero d lt = l
 one_place n u l (suc k) d lt = absurd (omega arith)
 
--- what holds of each member of a list holds at each place of it
+-- what holds of each member of a list holds at each position
 pub all_places : (P : ℕ → Type 0) (xs : List ℕ) → ((x : ℕ) → IsAmong x xs → P x) → All P xs
 all_places P xs h k d lt = h (get_or xs k d) (among_from_contains (get_or xs k d) xs (Contains-get_or xs k d lt))
 
@@ -66,9 +58,9 @@ pub nothing_there_is : (a b : Bool) → not a ≡ b → b ≡ false → a ≡ tr
 nothing_there_is true b e f = refl
 nothing_there_is false b e f = cc
 
--- marks at what is reached by sources and steps are marks at what is reached by the same ones said otherwise
-pub marks_along : (count : ℕ) (S T : ℕ → Type 0) (E F : ℕ → ℕ → Type 0) (marks : List Bool) → AreMarksOf count (IsReached S E) marks → AreSameNodes S T → AreSameSteps E F → AreMarksOf count (IsReached T F) marks
-marks_along count S T E F marks m s e = record {
+-- the set of what is reached over some sources and edges is that over the same ones in other words
+pub bits_along : (count : ℕ) (S T : ℕ → Type 0) (E F : ℕ → ℕ → Type 0) (bits : List Bool) → AreBitsOf count (IsReached S E) bits → AreSameNodes S T → AreSameSuccessors E F → AreBitsOf count (IsReached T F) bits
+bits_along count S T E F bits m s e = record {
   units = m.units;
-  marked = λ u. (λ k. (same_reached S T E F s e u).0 ((m.marked u).0 k), λ r. (m.marked u).1 ((same_reached S T E F s e u).1 r));
+  sets = λ u. (λ k. (same_reached S T E F s e u).0 ((m.sets u).0 k), λ r. (m.sets u).1 ((same_reached S T E F s e u).1 r));
 }

@@ -1,5 +1,6 @@
+pub mod Prelude
 pub mod Fitting
-pub mod WishLemmas
+pub mod WeakDependencyLemmas
 pub mod ChoiceLemmas
 pub mod CauseLemmas
 pub mod PlanLemmas

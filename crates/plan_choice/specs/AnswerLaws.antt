@@ -1,33 +1,26 @@
--- A plan has one answer at most, and what a plan promises.
-use Rattle.std.proofs.Common.{◌≡◌, ℕ, ◌<◌, ◌≤◌, Bool, true, false, IsTrue, refl, ap, sym, ◌∙◌, subst, arith, List, ◌∷◌, ◌++◌, inl}
+-- A request has at most one answer; and what a plan promises.
+use Rattle.std.proofs.Common.{◌++◌, ◌<◌, ◌∙◌, ◌∷◌, ◌≡◌, ◌≤◌, ap, arith, Bool, false, inl, IsTrue, List, refl, subst, sym, true, ℕ}
 use Rattle.std.specs.Cmp.{IsTotalOrder}
 use Rattle.std.specs.FinMap.{IsAntisymmetric}
 use Rattle.std.specs.declared.cmp.Ordering.{Ordering}
-use Rattle.list_laws.specs.Members.{IsAmong}
-use Rattle.name_closure.specs.ClosureLaws.{one_closure}
-use Rattle.index_rows.specs.Least.{IsLeast}
-use Rattle.start_order.specs.OrderLaws.{one_least, one_start_list}
-use Rattle.start_order.specs.CycleLaws.{one_cycle, cycle_stuck}
-use Rattle.plan_choice.specs.Case.{Case}
-use Rattle.plan_choice.specs.Sets.{AreInConflict, Precedes, IsChosen, Starts, IsOusted, TakesAlong}
-use Rattle.plan_choice.specs.SetLaws.{SparesItself, chosen_closed, chosen_loaded, chosen_requisites, chosen_peace}
-use Rattle.plan_choice.specs.Answers.{Refusal, rank, IsFirstPair, IsUnloadedNeed, LacksRequisite, AreNeededRivals, WaitsForever, Stands, IsClearBelow, IsRefusal, IsPlan}
-use Rattle.plan_choice.specs.Answers.Refusal.{target_fault, need_fault, manual_start, requisite, conflict, cycle}
+use Rattle.plan_choice.specs.Prelude.{cycle_stuck, IsAmong, IsLeast, one_closure, one_cycle, one_least, one_start_list}
+use Rattle.plan_choice.specs.{Answers.AreNeededConflicts, Answers.IsClearBelow, Answers.IsFirstPair, Answers.IsPlan, Answers.IsRefusal, Answers.IsUnloadedNeed, Answers.LacksRequisite, Answers.rank, Answers.Refusal, Answers.Refusal.conflict, Answers.Refusal.cycle, Answers.Refusal.manual_start, Answers.Refusal.need_fault, Answers.Refusal.requisite, Answers.Refusal.target_fault, Answers.Stands, Answers.WaitsForever, Case.Case, SetLaws.chosen_closed, SetLaws.chosen_loaded, SetLaws.chosen_peace, SetLaws.chosen_requisites, SetLaws.SparesItself, Sets.AreInConflict, Sets.IsChosen, Sets.IsStoppedByConflict, Sets.Precedes, Sets.Starts, Sets.TakesAlong}
 
--- What a plan chooses is closed under need, loaded, at peace, and has its requisites running; and each unit that starts comes after all started units before it.
+-- What a plan chooses is closed under need and loaded, its requisites are running, and no two chosen units conflict.
+-- Each unit that starts comes after all started units before it.
 pub record KeepsPromises {N : Type 0} (order : N → N → Ordering) (c : Case N) (starts : List N) : Type 0 where
   pub target : IsChosen order c c.target
   pub closed : (u v : N) → IsChosen order c u → IsAmong v (c.needs u) → IsChosen order c v
   pub loaded : (u : N) → IsChosen order c u → IsTrue (c.is_loaded u)
   pub requisites : (u v : N) → IsChosen order c u → IsAmong v (c.requisites u) → IsTrue (c.is_running v)
   pub peace : (u v : N) → IsChosen order c u → IsChosen order c v → ¬ AreInConflict c u v
-  pub after : (front : List N) (u : N) (rest : List N) → starts ≡ front ++ u ∷ rest → (v : N) → Starts order c v → Precedes c v u → IsAmong v front
+  pub after : (prefix : List N) (u : N) (rest : List N) → starts ≡ prefix ++ u ∷ rest → (v : N) → Starts order c v → Precedes c v u → IsAmong v prefix
 
 unlike : (b : Bool) → b ≡ false → ¬ (b ≡ true)
 unlike b f t = cc
 
 module _ {N : Type 0} (order : N → N → Ordering) (c : Case N) where
-  -- no cause of lesser rank stands
+  -- no cause of lesser rank holds
   pub clear_first : (k : ℕ) (other : Refusal N) → IsClearBelow order c k → Stands order c other → rank other < k → ⊥
   clear_first k (target_fault u) clear s l = unlike _ s.1 (clear.target_loaded l)
   clear_first k (need_fault u) clear s l = unlike _ s.member.1 (clear.needs_loaded l u s.member.0)
@@ -44,11 +37,11 @@ module _ {N : Type 0} (order : N → N → Ordering) (c : Case N) where
   rank_small (conflict u v) = omega arith
   rank_small (cycle list) = omega arith
 
-  -- where there is a plan, no cause stands
+  -- where there is a plan, no cause holds
   pub plan_unrefused : (stops starts : List N) → IsPlan order c stops starts → (other : Refusal N) → ¬ Stands order c other
   plan_unrefused stops starts p other s = clear_first 7 other p.clear s (rank_small other)
 
-  -- a refusal is the first whose cause stands
+  -- a refusal has the first cause that holds
   pub refusal_first : (r other : Refusal N) → IsRefusal order c r → Stands order c other → rank r ≤ rank other
   refusal_first r other p s = let out : ¬ (rank other < rank r) = λ l. clear_first (rank r) other p.clear s l in omega arith
 
@@ -69,22 +62,22 @@ module _ {N : Type 0} (order : N → N → Ordering) (c : Case N) where
         let g = one_inner (LacksRequisite order c) a b x y p q in
         cc
     same_at (conflict a b) (conflict x y) e p q =
-        let f = one_outer (AreNeededRivals order c) a b x y p q in
-        let g = one_inner (AreNeededRivals order c) a b x y p q in
+        let f = one_outer (AreNeededConflicts order c) a b x y p q in
+        let g = one_inner (AreNeededConflicts order c) a b x y p q in
         cc
     same_at (cycle xs) (cycle ys) e p q = ap cycle (one_cycle order (WaitsForever order c) (Precedes c) total exact xs ys p q)
     same_at r s e p q = absurd (omega arith)
 
-    -- there is one refusal at most
+    -- there is at most one refusal
     pub one_refusal : (r s : Refusal N) → IsRefusal order c r → IsRefusal order c s → r ≡ s
     one_refusal r s p q =
         let a = refusal_first r s p q.stands in
         let b = refusal_first s r q p.stands in
         same_at r s (omega (arith, a, b)) p.stands q.stands
 
-    -- there is one plan at most
+    -- there is at most one plan
     pub one_stop : (xs ys xs' ys' : List N) → IsPlan order c xs ys → IsPlan order c xs' ys' → xs ≡ xs'
-    one_stop xs ys xs' ys' p q = one_closure (IsOusted order c) (TakesAlong order c) order total xs xs' p.stopped q.stopped
+    one_stop xs ys xs' ys' p q = one_closure (IsStoppedByConflict order c) (TakesAlong order c) order total xs xs' p.stopped q.stopped
 
     pub one_start : (xs ys xs' ys' : List N) → IsPlan order c xs ys → IsPlan order c xs' ys' → ys ≡ ys'
     one_start xs ys xs' ys' p q = one_start_list (Starts order c) (Precedes c) order total exact ys ys' p.started q.started
@@ -96,5 +89,5 @@ module _ {N : Type 0} (order : N → N → Ordering) (c : Case N) where
       loaded = chosen_loaded c order (p.clear.needs_loaded (omega arith));
       requisites = chosen_requisites c order (p.clear.requisites_run (omega arith));
       peace = chosen_peace c order (p.clear.at_peace (omega arith)) total exact spares;
-      after = λ front u rest e v s b. (p.started.each_least front u rest e).member.ready v s b;
+      after = λ prefix u rest e v s b. (p.started.each_least prefix u rest e).member.ready v s b;
     }

@@ -1,15 +1,11 @@
--- Which answer a plan is: what stops and starts, or the first refusal whose cause stands.
+-- What planning answers: what stops and starts, or the first refusal whose cause holds.
 -- Source: this project's own.
-use Rattle.std.specs.Prelude.{◌≡◌, ◌<◌, ℕ, false, IsTrue, List}
+use Rattle.std.proofs.Common.{◌<◌, ◌≡◌, false, IsTrue, List, ℕ}
 use Rattle.std.specs.declared.cmp.Ordering.{Ordering}
-use Rattle.list_laws.specs.Members.{IsAmong}
-use Rattle.name_closure.specs.Chains.{IsClosure}
-use Rattle.index_rows.specs.Least.{IsLeast}
-use Rattle.start_order.specs.StartOrder.{IsStartList, IsStuck, IsCycle}
-use Rattle.plan_choice.specs.Case.{Case}
-use Rattle.plan_choice.specs.Sets.{IsNeeded, AreInConflict, Precedes, Starts, IsOusted, TakesAlong}
+use Rattle.plan_choice.specs.Prelude.{IsAmong, IsClosure, IsCycle, IsLeast, IsStartList, IsStuck}
+use Rattle.plan_choice.specs.{Case.Case, Sets.AreInConflict, Sets.IsNeeded, Sets.IsStoppedByConflict, Sets.Precedes, Sets.Starts, Sets.TakesAlong}
 
--- Why there is no plan, in the order in which the causes are looked at.
+-- Why there is no plan, in the order in which the causes are tested.
 pub data Refusal (N : Type 0) : Type 0 where
   -- the target isn't loaded
   target_fault : N → Refusal N
@@ -17,7 +13,7 @@ pub data Refusal (N : Type 0) : Type 0 where
   need_fault : N → Refusal N
   -- the target refuses to be started by hand
   manual_start : Refusal N
-  -- a needed unit has a requisite that doesn't run
+  -- a needed unit has a requisite that isn't running
   requisite : N → N → Refusal N
   -- two needed units conflict
   conflict : N → N → Refusal N
@@ -45,23 +41,23 @@ module _ {N : Type 0} (order : N → N → Ordering) where
     abbrev pub LacksRequisite : N → N → Type 0
     LacksRequisite u v = IsNeeded c u × IsAmong v (c.requisites u) × (c.is_running v ≡ false)
 
-    abbrev pub AreNeededRivals : N → N → Type 0
-    AreNeededRivals u v = IsNeeded c u × IsNeeded c v × AreInConflict c u v
+    abbrev pub AreNeededConflicts : N → N → Type 0
+    AreNeededConflicts u v = IsNeeded c u × IsNeeded c v × AreInConflict c u v
 
     -- started units that wait for each other
     abbrev pub WaitsForever : N → Type 0
     WaitsForever = IsStuck (Starts order c) (Precedes c)
 
-    -- the cause of the refusal stands, with the units that it names
+    -- the cause of the refusal holds, for the units that it names
     abbrev pub Stands : Refusal N → Type 0
     Stands (target_fault u) = (u ≡ c.target) × (c.is_loaded c.target ≡ false)
     Stands (need_fault u) = IsLeast order IsUnloadedNeed u
     Stands manual_start = IsTrue (c.refuses_manual_start c.target)
     Stands (requisite u v) = IsFirstPair LacksRequisite u v
-    Stands (conflict u v) = IsFirstPair AreNeededRivals u v
+    Stands (conflict u v) = IsFirstPair AreNeededConflicts u v
     Stands (cycle list) = IsCycle order WaitsForever (Precedes c) list
 
-    -- None of the causes of lesser rank stands.
+    -- No cause of lesser rank holds.
     pub record IsClearBelow (k : ℕ) : Type 0 where
       pub target_loaded : 1 < k → IsTrue (c.is_loaded c.target)
       pub needs_loaded : 2 < k → (u : N) → IsNeeded c u → IsTrue (c.is_loaded u)
@@ -70,13 +66,13 @@ module _ {N : Type 0} (order : N → N → Ordering) where
       pub at_peace : 5 < k → (u v : N) → IsNeeded c u → IsNeeded c v → ¬ AreInConflict c u v
       pub none_waits : 6 < k → (u : N) → ¬ WaitsForever u
 
-    -- its cause stands, and none that is looked at before it
+    -- its cause holds, and none that is tested before it does
     pub record IsRefusal (refusal : Refusal N) : Type 0 where
       pub stands : Stands refusal
       pub clear : IsClearBelow (rank refusal)
 
-    -- no cause stands; what stops is listed in order, and what starts in the order in which it starts
+    -- no cause holds; what stops is listed in ascending order, and what starts in its start order
     pub record IsPlan (stops starts : List N) : Type 0 where
       pub clear : IsClearBelow 7
-      pub stopped : IsClosure (IsOusted order c) (TakesAlong order c) order stops
+      pub stopped : IsClosure (IsStoppedByConflict order c) (TakesAlong order c) order stops
       pub started : IsStartList order (Starts order c) (Precedes c) starts

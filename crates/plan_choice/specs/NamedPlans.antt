@@ -1,28 +1,18 @@
--- Plans and refusals are carried from numbers to names.
-use Rattle.std.proofs.Common.{◌≡◌, ℕ, ◌<◌, ◌⊎◌, ◌↔◌, inl, inr, Bool, true, false, IsTrue, List, [], ◌∷◌, map, refl, ap, sym, ◌∙◌, subst}
+-- Plans and refusals are carried from indices to names.
+use Rattle.std.proofs.Common.{[], ◌<◌, ◌↔◌, ◌∙◌, ◌∷◌, ◌≡◌, ◌⊎◌, ap, Bool, false, inl, inr, IsTrue, List, map, refl, subst, sym, true, ℕ}
 use Rattle.std.specs.Cmp.{IsTotalOrder}
 use Rattle.std.specs.Ordering.{nat_cmp}
 use Rattle.std.specs.declared.cmp.Ordering.{Ordering}
 use Rattle.std.specs.declared.cmp.Ordering.TheVariants.{Less}
-use Rattle.list_laws.specs.Members.{IsAmong}
-use Rattle.name_closure.specs.Chains.{IsReached}
-use Rattle.name_closure.specs.ListedLaws.{Listed, Named}
-use Rattle.index_rows.specs.Numbering.{IsNumbering, AreNames, AreNamedSteps}
-use Rattle.index_rows.specs.NumberingLaws.{names_compare, number_of, listed_names, reached_named, closure_named}
-use Rattle.start_order.specs.NamedOrders.{least_named, both_named, start_list_named, stuck_named, cycle_named}
-use Rattle.plan_choice.specs.Case.{Case}
-use Rattle.plan_choice.specs.Sets.{Needs, IsNeeded, AreInConflict, IsGood, Pulls, IsPulled, IsExtra, IsDropped, Keeps, IsChosen, Precedes, Starts, IsOutside, IsOusted, TakesAlong}
-use Rattle.plan_choice.specs.SetLaws.{needs_itself}
-use Rattle.plan_choice.specs.Answers.{Refusal, rank, IsFirstPair, IsUnloadedNeed, LacksRequisite, AreNeededRivals, WaitsForever, Stands, IsClearBelow, IsRefusal, IsPlan}
-use Rattle.plan_choice.specs.Answers.Refusal.{target_fault, need_fault, manual_start, requisite, conflict, cycle}
-use Rattle.plan_choice.specs.NamedCases.{IsNamedCase, named_refusal}
+use Rattle.plan_choice.specs.Prelude.{AreNamedSuccessors, AreNames, both_named, closure_named, cycle_named, index_of, IsAmong, IsIndexing, IsReached, least_named, Listed, listed_names, Named, names_compare, reached_named, start_list_named, stuck_named}
+use Rattle.plan_choice.specs.{Answers.AreNeededConflicts, Answers.IsClearBelow, Answers.IsFirstPair, Answers.IsPlan, Answers.IsRefusal, Answers.IsUnloadedNeed, Answers.LacksRequisite, Answers.rank, Answers.Refusal, Answers.Refusal.conflict, Answers.Refusal.cycle, Answers.Refusal.manual_start, Answers.Refusal.need_fault, Answers.Refusal.requisite, Answers.Refusal.target_fault, Answers.Stands, Answers.WaitsForever, Case.Case, NamedCases.IsNamedCase, NamedCases.named_refusal, SetLaws.needs_itself, Sets.AreInConflict, Sets.IsChosen, Sets.IsDropped, Sets.IsExtra, Sets.IsGood, Sets.IsNeeded, Sets.IsOutside, Sets.IsPulled, Sets.IsStoppedByConflict, Sets.Keeps, Sets.Needs, Sets.Precedes, Sets.Pulls, Sets.Starts, Sets.TakesAlong}
 
 -- sets with the same members
 same_names : {N : Type 0} (count : ℕ) (name : ℕ → N) (P R : ℕ → Type 0) (Q S : N → Type 0) → AreNames count name P Q → ((i : ℕ) → P i ↔ R i) → ((u : N) → Q u ↔ S u) → AreNames count name R S
 same_names count name P R Q S a p q = record {
   within = λ i h. a.within i ((p i).1 h);
   named = λ i h. (q (name i)).0 (a.named i ((p i).1 h));
-  numbered = λ u h. (let r = a.numbered u ((q u).1 h) in (r.0, ((p r.0).0 r.1.0, r.1.1)));
+  indexed = λ u h. (let r = a.indexed u ((q u).1 h) in (r.0, ((p r.0).0 r.1.0, r.1.1)));
 }
 
 -- what is in one of two sets
@@ -30,7 +20,7 @@ either_named : {N : Type 0} (count : ℕ) (name : ℕ → N) (P P' : ℕ → Typ
 either_named count name P P' Q Q' a b = record {
   within = λ i h. elim h [ inl k ↦ a.within i k | inr k ↦ b.within i k ];
   named = λ i h. elim h [ inl k ↦ inl (a.named i k) | inr k ↦ inr (b.named i k) ];
-  numbered = λ u h. elim h [ inl k ↦ (let r = a.numbered u k in (r.0, (inl r.1.0, r.1.1))) | inr k ↦ (let r = b.numbered u k in (r.0, (inr r.1.0, r.1.1))) ];
+  indexed = λ u h. elim h [ inl k ↦ (let r = a.indexed u k in (r.0, (inl r.1.0, r.1.1))) | inr k ↦ (let r = b.indexed u k in (r.0, (inr r.1.0, r.1.1))) ];
 }
 
 unlike : (b : Bool) → b ≡ false → ¬ (b ≡ true)
@@ -40,17 +30,17 @@ is_false : (b : Bool) → ¬ (b ≡ true) → b ≡ false
 is_false true h = absurd (h refl)
 is_false false h = refl
 
-module _ {N : Type 0} (count : ℕ) (name : ℕ → N) (order : N → N → Ordering) (total : IsTotalOrder order) (n : IsNumbering count name order) where
-  -- what is in one set and not in another one
+module _ {N : Type 0} (count : ℕ) (name : ℕ → N) (order : N → N → Ordering) (total : IsTotalOrder order) (n : IsIndexing count name order) where
+  -- what is in one set and not in another
   without_named : (P P' : ℕ → Type 0) (Q Q' : N → Type 0) → AreNames count name P Q → AreNames count name P' Q' → AreNames count name (λ i. P i × ¬ P' i) (λ u. Q u × ¬ Q' u)
   without_named P P' Q Q' a b = record {
     within = λ i h. a.within i h.0;
-    named = λ i h. (a.named i h.0, λ q. h.1 (number_of count name order total n P' Q' b i (a.within i h.0) q));
-    numbered = λ u h. (let r = a.numbered u h.0 in (r.0, ((r.1.0, λ p. h.1 (subst Q' r.1.1 (b.named r.0 p))), r.1.1)));
+    named = λ i h. (a.named i h.0, λ q. h.1 (index_of count name order total n P' Q' b i (a.within i h.0) q));
+    indexed = λ u h. (let r = a.indexed u h.0 in (r.0, ((r.1.0, λ p. h.1 (subst Q' r.1.1 (b.named r.0 p))), r.1.1)));
   }
 
   -- the first pair of a relation, by name
-  pair_named : (R : ℕ → ℕ → Type 0) (S : N → N → Type 0) → AreNames count name (λ x. (y : ℕ) × R x y) (λ x. (y : N) × S x y) → AreNamedSteps count name R S
+  pair_named : (R : ℕ → ℕ → Type 0) (S : N → N → Type 0) → AreNames count name (λ x. (y : ℕ) × R x y) (λ x. (y : N) × S x y) → AreNamedSuccessors count name R S
       → (a b : ℕ) → IsFirstPair nat_cmp R a b → IsFirstPair order S (name a) (name b)
   pair_named R S o s a b f = record {
     outer = (least_named count name order total n (λ x. (y : ℕ) × R x y) (λ x. (y : N) × S x y) o).named a f.outer;
@@ -63,7 +53,7 @@ module _ {N : Type 0} (count : ℕ) (name : ℕ → N) (order : N → N → Orde
         reached_named count name (Listed (i ∷ [])) (Listed (name i ∷ [])) (Named c.needs) (Named d.needs)
         (listed_names count name (i ∷ []) (λ j k. elim k [ inl e ↦ subst (λ x. x < count) e l | inr none ↦ absurd none ])) h.needs
 
-    from_target : (E : ℕ → ℕ → Type 0) (F : N → N → Type 0) → AreNamedSteps count name E F → AreNames count name (IsReached (Listed (c.target ∷ [])) E) (IsReached (Listed (d.target ∷ [])) F)
+    from_target : (E : ℕ → ℕ → Type 0) (F : N → N → Type 0) → AreNamedSuccessors count name E F → AreNames count name (IsReached (Listed (c.target ∷ [])) E) (IsReached (Listed (d.target ∷ [])) F)
     from_target E F s =
         subst (λ t. AreNames count name (IsReached (Listed (c.target ∷ [])) E) (IsReached (Listed (t ∷ [])) F)) h.target
         (reached_named count name (Listed (c.target ∷ [])) (Listed (name c.target ∷ [])) E F
@@ -72,20 +62,20 @@ module _ {N : Type 0} (count : ℕ) (name : ℕ → N) (order : N → N → Orde
     needed_named : AreNames count name (IsNeeded c) (IsNeeded d)
     needed_named = from_target (Named c.needs) (Named d.needs) h.needs
 
-    -- a relation between named units, by numbers and by names
-    step_number : (f : ℕ → List ℕ) (g : N → List N) → AreNamedSteps count name (Named f) (Named g) → (i j : ℕ) → i < count → j < count → IsAmong (name j) (g (name i)) → IsAmong j (f i)
-    step_number f g s i j l m a = number_of count name order total n (λ x. IsAmong x (f i)) (λ u. IsAmong u (g (name i))) (s i l) j m a
+    -- a relation between named units, by indices and by names
+    step_index : (f : ℕ → List ℕ) (g : N → List N) → AreNamedSuccessors count name (Named f) (Named g) → (i j : ℕ) → i < count → j < count → IsAmong (name j) (g (name i)) → IsAmong j (f i)
+    step_index f g s i j l m a = index_of count name order total n (λ x. IsAmong x (f i)) (λ u. IsAmong u (g (name i))) (s i l) j m a
 
     conflict_named : (i j : ℕ) → i < count → j < count → AreInConflict c i j → AreInConflict d (name i) (name j)
     conflict_named i j l m (inl a) = inl ((h.conflicts i l).named j a)
     conflict_named i j l m (inr a) = inr ((h.conflicts j m).named i a)
 
-    conflict_number : (i j : ℕ) → i < count → j < count → AreInConflict d (name i) (name j) → AreInConflict c i j
-    conflict_number i j l m (inl a) = inl (step_number c.conflicts d.conflicts h.conflicts i j l m a)
-    conflict_number i j l m (inr a) = inr (step_number c.conflicts d.conflicts h.conflicts j i m l a)
+    conflict_index : (i j : ℕ) → i < count → j < count → AreInConflict d (name i) (name j) → AreInConflict c i j
+    conflict_index i j l m (inl a) = inl (step_index c.conflicts d.conflicts h.conflicts i j l m a)
+    conflict_index i j l m (inr a) = inr (step_index c.conflicts d.conflicts h.conflicts j i m l a)
 
     good_named : AreNames count name (IsGood c) (IsGood d)
-    good_named = record { within = within; named = to; numbered = from }
+    good_named = record { within = within; named = to; indexed = from }
       where
         within : (i : ℕ) → IsGood c i → i < count
         within i g = h.loaded.within i (g.all_loaded i (needs_itself c i))
@@ -94,27 +84,27 @@ module _ {N : Type 0} (count : ℕ) (name : ℕ → N) (order : N → N → Orde
         to i g =
             let l = within i g in
             record {
-              all_loaded = λ v k. (let j = (needs_named i l).numbered v k in subst (λ x. IsTrue (d.is_loaded x)) j.1.1 (h.loaded.named j.0 (g.all_loaded j.0 j.1.0)));
-              requisites_run = λ v w k a. (let j = (needs_named i l).numbered v k in
-                  let m = (h.requisites j.0 ((needs_named i l).within j.0 j.1.0)).numbered w (subst (λ x. IsAmong w (d.requisites x)) (sym j.1.1) a) in
+              all_loaded = λ v k. (let j = (needs_named i l).indexed v k in subst (λ x. IsTrue (d.is_loaded x)) j.1.1 (h.loaded.named j.0 (g.all_loaded j.0 j.1.0)));
+              requisites_run = λ v w k a. (let j = (needs_named i l).indexed v k in
+                  let m = (h.requisites j.0 ((needs_named i l).within j.0 j.1.0)).indexed w (subst (λ x. IsAmong w (d.requisites x)) (sym j.1.1) a) in
                   subst (λ x. IsTrue (d.is_running x)) m.1.1 (h.running.named m.0 (g.requisites_run j.0 m.0 j.1.0 m.1.0)));
-              at_peace = λ v w k m r. (let j = (needs_named i l).numbered v k in
-                  let o = needed_named.numbered w m in
+              at_peace = λ v w k m r. (let j = (needs_named i l).indexed v k in
+                  let o = needed_named.indexed w m in
                   let q = subst (λ x. AreInConflict d x w) (sym j.1.1) r in
-                  g.at_peace j.0 o.0 j.1.0 o.1.0 (conflict_number j.0 o.0 ((needs_named i l).within j.0 j.1.0) (needed_named.within o.0 o.1.0) (subst (λ x. AreInConflict d (name j.0) x) (sym o.1.1) q)));
+                  g.at_peace j.0 o.0 j.1.0 o.1.0 (conflict_index j.0 o.0 ((needs_named i l).within j.0 j.1.0) (needed_named.within o.0 o.1.0) (subst (λ x. AreInConflict d (name j.0) x) (sym o.1.1) q)));
             }
 
         from : (u : N) → IsGood d u → (i : ℕ) × (IsGood c i × (name i ≡ u))
         from u g =
-            let r = h.loaded.numbered u (g.all_loaded u (needs_itself d u)) in
+            let r = h.loaded.indexed u (g.all_loaded u (needs_itself d u)) in
             let l = h.loaded.within r.0 r.1.0 in
             let g' : IsGood d (name r.0) = subst (IsGood d) (sym r.1.1) g in (
               r.0,
               (
                 record {
-                  all_loaded = λ v k. number_of count name order total n (λ i. IsTrue (c.is_loaded i)) (λ x. IsTrue (d.is_loaded x)) h.loaded v ((needs_named r.0 l).within v k) (g'.all_loaded (name v) ((needs_named r.0 l).named v k));
+                  all_loaded = λ v k. index_of count name order total n (λ i. IsTrue (c.is_loaded i)) (λ x. IsTrue (d.is_loaded x)) h.loaded v ((needs_named r.0 l).within v k) (g'.all_loaded (name v) ((needs_named r.0 l).named v k));
                   requisites_run = λ v w k a. (let lv = (needs_named r.0 l).within v k in
-                      number_of count name order total n (λ i. IsTrue (c.is_running i)) (λ x. IsTrue (d.is_running x)) h.running w ((h.requisites v lv).within w a)
+                      index_of count name order total n (λ i. IsTrue (c.is_running i)) (λ x. IsTrue (d.is_running x)) h.running w ((h.requisites v lv).within w a)
                       (g'.requisites_run (name v) (name w) ((needs_named r.0 l).named v k) ((h.requisites v lv).named w a)));
                   at_peace = λ v w k m q. g'.at_peace (name v) (name w) ((needs_named r.0 l).named v k) (needed_named.named w m) (conflict_named v w ((needs_named r.0 l).within v k) (needed_named.within w m) q);
                 },
@@ -131,7 +121,7 @@ module _ {N : Type 0} (count : ℕ) (name : ℕ → N) (order : N → N → Orde
         (λ i. (λ p. record { pulled = p.0; beyond = p.1 }, λ e. (e.pulled, e.beyond))) (λ u. (λ p. record { pulled = p.0; beyond = p.1 }, λ e. (e.pulled, e.beyond)))
 
     dropped_named : AreNames count name (IsDropped nat_cmp c) (IsDropped order d)
-    dropped_named = record { within = λ i k. pulled_named.within i k.pulled; named = to; numbered = from }
+    dropped_named = record { within = λ i k. pulled_named.within i k.pulled; named = to; indexed = from }
       where
         to : (i : ℕ) → IsDropped nat_cmp c i → IsDropped order d (name i)
         to i k =
@@ -146,18 +136,18 @@ module _ {N : Type 0} (count : ℕ) (name : ℕ → N) (order : N → N → Orde
                 extra = extra_named.named k.loser k.lost.extra;
                 other_extra = extra_named.named k.winner k.lost.other_extra;
                 is_named = (h.conflicts k.winner lw).named k.loser k.lost.is_named;
-                greater = λ a. names_compare count name order total n k.winner k.loser lw ll ∙ k.lost.greater (step_number c.conflicts d.conflicts h.conflicts k.loser k.winner ll lw a);
+                greater = λ a. names_compare count name order total n k.winner k.loser lw ll ∙ k.lost.greater (step_index c.conflicts d.conflicts h.conflicts k.loser k.winner ll lw a);
               };
               needed = (needs_named i l).named k.loser k.needed;
             }
 
         from : (u : N) → IsDropped order d u → (i : ℕ) × (IsDropped nat_cmp c i × (name i ≡ u))
         from u k =
-            let r = pulled_named.numbered u k.pulled in
+            let r = pulled_named.indexed u k.pulled in
             let l = pulled_named.within r.0 r.1.0 in
-            let x = extra_named.numbered k.loser k.lost.extra in
+            let x = extra_named.indexed k.loser k.lost.extra in
             let lx = extra_named.within x.0 x.1.0 in
-            let w = extra_named.numbered k.winner k.lost.other_extra in
+            let w = extra_named.indexed k.winner k.lost.other_extra in
             let lw = extra_named.within w.0 w.1.0 in
             let a : IsAmong (name x.0) (d.conflicts (name w.0)) = subst (λ v. IsAmong v (d.conflicts (name w.0))) (sym x.1.1) (subst (λ v. IsAmong k.loser (d.conflicts v)) (sym w.1.1) k.lost.is_named) in
             let b : Needs d (name r.0) (name x.0) = subst (λ v. Needs d v (name x.0)) (sym r.1.1) (subst (λ v. Needs d u v) (sym x.1.1) k.needed) in
@@ -171,8 +161,8 @@ module _ {N : Type 0} (count : ℕ) (name : ℕ → N) (order : N → N → Orde
                   pulled = r.1.0;
                   loser = x.0;
                   winner = w.0;
-                  lost = record { extra = x.1.0; other_extra = w.1.0; is_named = step_number c.conflicts d.conflicts h.conflicts w.0 x.0 lw lx a; greater = greater };
-                  needed = number_of count name order total n (Needs c r.0) (Needs d (name r.0)) (needs_named r.0 l) x.0 lx b;
+                  lost = record { extra = x.1.0; other_extra = w.1.0; is_named = step_index c.conflicts d.conflicts h.conflicts w.0 x.0 lw lx a; greater = greater };
+                  needed = index_of count name order total n (Needs c r.0) (Needs d (name r.0)) (needs_named r.0 l) x.0 lx b;
                 },
                 r.1.1,
               ),
@@ -181,7 +171,7 @@ module _ {N : Type 0} (count : ℕ) (name : ℕ → N) (order : N → N → Orde
     chosen_named : AreNames count name (IsChosen nat_cmp c) (IsChosen order d)
     chosen_named = from_target (Keeps nat_cmp c) (Keeps order d) keeps
       where
-        keeps : AreNamedSteps count name (Keeps nat_cmp c) (Keeps order d)
+        keeps : AreNamedSuccessors count name (Keeps nat_cmp c) (Keeps order d)
         keeps i l = same_names count name (λ v. (IsAmong v (c.needs i) ⊎ IsAmong v (c.wants i)) × (IsPulled c v × ¬ IsDropped nat_cmp c v)) (Keeps nat_cmp c i)
             (λ v. (IsAmong v (d.needs (name i)) ⊎ IsAmong v (d.wants (name i))) × (IsPulled d v × ¬ IsDropped order d v)) (Keeps order d (name i))
             (both_named count name order total n (λ v. IsAmong v (c.needs i) ⊎ IsAmong v (c.wants i)) (λ v. IsPulled c v × ¬ IsDropped nat_cmp c v)
@@ -201,29 +191,29 @@ module _ {N : Type 0} (count : ℕ) (name : ℕ → N) (order : N → N → Orde
         (without_named (λ i. IsTrue (c.is_running i)) (IsChosen nat_cmp c) (λ u. IsTrue (d.is_running u)) (IsChosen order d) h.running chosen_named)
         (λ i. (λ p. record { runs = p.0; unchosen = p.1 }, λ s. (s.runs, s.unchosen))) (λ u. (λ p. record { runs = p.0; unchosen = p.1 }, λ s. (s.runs, s.unchosen)))
 
-    ousted_named : AreNames count name (IsOusted nat_cmp c) (IsOusted order d)
-    ousted_named = record {
+    stopped_by_conflict_named : AreNames count name (IsStoppedByConflict nat_cmp c) (IsStoppedByConflict order d)
+    stopped_by_conflict_named = record {
       within = λ i k. outside_named.within i k.outside;
       named = λ i k. record {
         outside = outside_named.named i k.outside;
-        rival = name k.rival;
-        chosen = chosen_named.named k.rival k.chosen;
-        conflict = conflict_named i k.rival (outside_named.within i k.outside) (chosen_named.within k.rival k.chosen) k.conflict;
+        conflicting_unit = name k.conflicting_unit;
+        chosen = chosen_named.named k.conflicting_unit k.chosen;
+        conflict = conflict_named i k.conflicting_unit (outside_named.within i k.outside) (chosen_named.within k.conflicting_unit k.chosen) k.conflict;
       };
-      numbered = λ u k. (let r = outside_named.numbered u k.outside in
-          let o = chosen_named.numbered k.rival k.chosen in
+      indexed = λ u k. (let r = outside_named.indexed u k.outside in
+          let o = chosen_named.indexed k.conflicting_unit k.chosen in
           let q : AreInConflict d (name r.0) (name o.0) = subst (λ v. AreInConflict d v (name o.0)) (sym r.1.1) (subst (λ v. AreInConflict d u v) (sym o.1.1) k.conflict) in
-          (r.0, (record { outside = r.1.0; rival = o.0; chosen = o.1.0; conflict = conflict_number r.0 o.0 (outside_named.within r.0 r.1.0) (chosen_named.within o.0 o.1.0) q }, r.1.1)));
+          (r.0, (record { outside = r.1.0; conflicting_unit = o.0; chosen = o.1.0; conflict = conflict_index r.0 o.0 (outside_named.within r.0 r.1.0) (chosen_named.within o.0 o.1.0) q }, r.1.1)));
     }
 
-    takes_named : AreNamedSteps count name (TakesAlong nat_cmp c) (TakesAlong order d)
+    takes_named : AreNamedSuccessors count name (TakesAlong nat_cmp c) (TakesAlong order d)
     takes_named i l = record {
       within = λ j k. outside_named.within j k.outside;
       named = λ j k. record { outside = outside_named.named j k.outside; tied = (h.stops_with j (outside_named.within j k.outside)).named i k.tied };
-      numbered = λ u k. (let r = outside_named.numbered u k.outside in
+      indexed = λ u k. (let r = outside_named.indexed u k.outside in
           let lr = outside_named.within r.0 r.1.0 in
           let a : IsAmong (name i) (d.stops_with (name r.0)) = subst (λ v. IsAmong (name i) (d.stops_with v)) (sym r.1.1) k.tied in
-          (r.0, (record { outside = r.1.0; tied = step_number c.stops_with d.stops_with h.stops_with r.0 i lr l a }, r.1.1)));
+          (r.0, (record { outside = r.1.0; tied = step_index c.stops_with d.stops_with h.stops_with r.0 i lr l a }, r.1.1)));
     }
 
     waits_named : AreNames count name (WaitsForever nat_cmp c) (WaitsForever order d)
@@ -232,39 +222,39 @@ module _ {N : Type 0} (count : ℕ) (name : ℕ → N) (order : N → N → Orde
     clear_named : (k : ℕ) → IsClearBelow nat_cmp c k → IsClearBelow order d k
     clear_named k s = record {
       target_loaded = λ l. subst (λ u. IsTrue (d.is_loaded u)) h.target (h.loaded.named c.target (s.target_loaded l));
-      needs_loaded = λ l u m. (let r = needed_named.numbered u m in subst (λ v. IsTrue (d.is_loaded v)) r.1.1 (h.loaded.named r.0 (s.needs_loaded l r.0 r.1.0)));
+      needs_loaded = λ l u m. (let r = needed_named.indexed u m in subst (λ v. IsTrue (d.is_loaded v)) r.1.1 (h.loaded.named r.0 (s.needs_loaded l r.0 r.1.0)));
       may_start = λ l. h.refuses ∙ s.may_start l;
-      requisites_run = λ l u v m a. (let r = needed_named.numbered u m in
-          let o = (h.requisites r.0 (needed_named.within r.0 r.1.0)).numbered v (subst (λ x. IsAmong v (d.requisites x)) (sym r.1.1) a) in
+      requisites_run = λ l u v m a. (let r = needed_named.indexed u m in
+          let o = (h.requisites r.0 (needed_named.within r.0 r.1.0)).indexed v (subst (λ x. IsAmong v (d.requisites x)) (sym r.1.1) a) in
           subst (λ x. IsTrue (d.is_running x)) o.1.1 (h.running.named o.0 (s.requisites_run l r.0 o.0 r.1.0 o.1.0)));
-      at_peace = λ l u v m k q. (let r = needed_named.numbered u m in
-          let o = needed_named.numbered v k in
-          s.at_peace l r.0 o.0 r.1.0 o.1.0 (conflict_number r.0 o.0 (needed_named.within r.0 r.1.0) (needed_named.within o.0 o.1.0)
+      at_peace = λ l u v m k q. (let r = needed_named.indexed u m in
+          let o = needed_named.indexed v k in
+          s.at_peace l r.0 o.0 r.1.0 o.1.0 (conflict_index r.0 o.0 (needed_named.within r.0 r.1.0) (needed_named.within o.0 o.1.0)
           (subst (λ x. AreInConflict d x (name o.0)) (sym r.1.1) (subst (λ x. AreInConflict d u x) (sym o.1.1) q))));
-      none_waits = λ l u w. (let r = waits_named.numbered u w in s.none_waits l r.0 r.1.0);
+      none_waits = λ l u w. (let r = waits_named.indexed u w in s.none_waits l r.0 r.1.0);
     }
 
-    -- the names of a plan are a plan of names
+    -- the names of a plan are a plan over names
     pub plan_named : (stops starts : List ℕ) → IsPlan nat_cmp c stops starts → IsPlan order d (map name stops) (map name starts)
     plan_named stops starts p = record {
       clear = clear_named 7 p.clear;
-      stopped = closure_named count name order total n (IsOusted nat_cmp c) (IsOusted order d) (TakesAlong nat_cmp c) (TakesAlong order d) ousted_named takes_named stops p.stopped;
+      stopped = closure_named count name order total n (IsStoppedByConflict nat_cmp c) (IsStoppedByConflict order d) (TakesAlong nat_cmp c) (TakesAlong order d) stopped_by_conflict_named takes_named stops p.stopped;
       started = start_list_named count name order total n (Starts nat_cmp c) (Precedes c) (Starts order d) (Precedes d) starts_named h.predecessors starts p.started;
     }
 
     -- ---- refusals
 
     false_named : (P : ℕ → Bool) (Q : N → Bool) → AreNames count name (λ i. IsTrue (P i)) (λ u. IsTrue (Q u)) → (i : ℕ) → i < count → P i ≡ false → Q (name i) ≡ false
-    false_named P Q a i l e = is_false (Q (name i)) (λ q. unlike (P i) e (number_of count name order total n (λ j. IsTrue (P j)) (λ u. IsTrue (Q u)) a i l q))
+    false_named P Q a i l e = is_false (Q (name i)) (λ q. unlike (P i) e (index_of count name order total n (λ j. IsTrue (P j)) (λ u. IsTrue (Q u)) a i l q))
 
-    false_number : (P : ℕ → Bool) (Q : N → Bool) → AreNames count name (λ i. IsTrue (P i)) (λ u. IsTrue (Q u)) → (i : ℕ) → Q (name i) ≡ false → P i ≡ false
-    false_number P Q a i e = is_false (P i) (λ p. unlike (Q (name i)) e (a.named i p))
+    false_index : (P : ℕ → Bool) (Q : N → Bool) → AreNames count name (λ i. IsTrue (P i)) (λ u. IsTrue (Q u)) → (i : ℕ) → Q (name i) ≡ false → P i ≡ false
+    false_index P Q a i e = is_false (P i) (λ p. unlike (Q (name i)) e (a.named i p))
 
     unloaded_named : AreNames count name (IsUnloadedNeed nat_cmp c) (IsUnloadedNeed order d)
     unloaded_named = record {
       within = λ i k. needed_named.within i k.0;
       named = λ i k. (needed_named.named i k.0, false_named c.is_loaded d.is_loaded h.loaded i (needed_named.within i k.0) k.1);
-      numbered = λ u k. (let r = needed_named.numbered u k.0 in (r.0, ((r.1.0, false_number c.is_loaded d.is_loaded h.loaded r.0 (subst (λ v. d.is_loaded v ≡ false) (sym r.1.1) k.1)), r.1.1)));
+      indexed = λ u k. (let r = needed_named.indexed u k.0 in (r.0, ((r.1.0, false_index c.is_loaded d.is_loaded h.loaded r.0 (subst (λ v. d.is_loaded v ≡ false) (sym r.1.1) k.1)), r.1.1)));
     }
 
     lacks_to : (i j : ℕ) → LacksRequisite nat_cmp c i j → LacksRequisite order d (name i) (name j)
@@ -274,26 +264,26 @@ module _ {N : Type 0} (count : ℕ) (name : ℕ → N) (order : N → N → Orde
 
     lacks_from : (i : ℕ) → i < count → (v : N) → LacksRequisite order d (name i) v → (j : ℕ) × (LacksRequisite nat_cmp c i j × (name j ≡ v))
     lacks_from i l v k =
-        let o = (h.requisites i l).numbered v k.1 in
-        (o.0, ((number_of count name order total n (IsNeeded c) (IsNeeded d) needed_named i l k.0, o.1.0, false_number c.is_running d.is_running h.running o.0 (subst (λ x. d.is_running x ≡ false) (sym o.1.1) k.2)), o.1.1))
+        let o = (h.requisites i l).indexed v k.1 in
+        (o.0, ((index_of count name order total n (IsNeeded c) (IsNeeded d) needed_named i l k.0, o.1.0, false_index c.is_running d.is_running h.running o.0 (subst (λ x. d.is_running x ≡ false) (sym o.1.1) k.2)), o.1.1))
 
-    rivals_to : (i j : ℕ) → AreNeededRivals nat_cmp c i j → AreNeededRivals order d (name i) (name j)
-    rivals_to i j k = (needed_named.named i k.0, needed_named.named j k.1, conflict_named i j (needed_named.within i k.0) (needed_named.within j k.1) k.2)
+    conflicting_to : (i j : ℕ) → AreNeededConflicts nat_cmp c i j → AreNeededConflicts order d (name i) (name j)
+    conflicting_to i j k = (needed_named.named i k.0, needed_named.named j k.1, conflict_named i j (needed_named.within i k.0) (needed_named.within j k.1) k.2)
 
-    rivals_from : (i : ℕ) → i < count → (v : N) → AreNeededRivals order d (name i) v → (j : ℕ) × (AreNeededRivals nat_cmp c i j × (name j ≡ v))
-    rivals_from i l v k =
-        let o = needed_named.numbered v k.1 in
-        (o.0, ((number_of count name order total n (IsNeeded c) (IsNeeded d) needed_named i l k.0, o.1.0, conflict_number i o.0 l (needed_named.within o.0 o.1.0) (subst (λ x. AreInConflict d (name i) x) (sym o.1.1) k.2)), o.1.1))
+    conflicting_from : (i : ℕ) → i < count → (v : N) → AreNeededConflicts order d (name i) v → (j : ℕ) × (AreNeededConflicts nat_cmp c i j × (name j ≡ v))
+    conflicting_from i l v k =
+        let o = needed_named.indexed v k.1 in
+        (o.0, ((index_of count name order total n (IsNeeded c) (IsNeeded d) needed_named i l k.0, o.1.0, conflict_index i o.0 l (needed_named.within o.0 o.1.0) (subst (λ x. AreInConflict d (name i) x) (sym o.1.1) k.2)), o.1.1))
 
-    -- the first pair of a relation between what is needed and other units, by name
+    -- the first pair of a relation between needed units and other units, by name
     needed_pair_named : (R : ℕ → ℕ → Type 0) (S : N → N → Type 0) → ((i j : ℕ) → R i j → IsNeeded c i) → ((x y : N) → S x y → IsNeeded d x)
-        → AreNamedSteps count name R S → (a b : ℕ) → IsFirstPair nat_cmp R a b → IsFirstPair order S (name a) (name b)
-    needed_pair_named R S numbers names s = pair_named R S
+        → AreNamedSuccessors count name R S → (a b : ℕ) → IsFirstPair nat_cmp R a b → IsFirstPair order S (name a) (name b)
+    needed_pair_named R S indices names s = pair_named R S
         (record {
-          within = λ i k. needed_named.within i (numbers i k.0 k.1);
-          named = λ i k. (name k.0, (s i (needed_named.within i (numbers i k.0 k.1))).named k.0 k.1);
-          numbered = λ x k. (let r = needed_named.numbered x (names x k.0 k.1) in
-              let j = (s r.0 (needed_named.within r.0 r.1.0)).numbered k.0 (subst (λ y. S y k.0) (sym r.1.1) k.1) in
+          within = λ i k. needed_named.within i (indices i k.0 k.1);
+          named = λ i k. (name k.0, (s i (needed_named.within i (indices i k.0 k.1))).named k.0 k.1);
+          indexed = λ x k. (let r = needed_named.indexed x (names x k.0 k.1) in
+              let j = (s r.0 (needed_named.within r.0 r.1.0)).indexed k.0 (subst (λ y. S y k.0) (sym r.1.1) k.1) in
               (r.0, ((j.0, j.1.0), r.1.1)));
         })
         s
@@ -303,9 +293,9 @@ module _ {N : Type 0} (count : ℕ) (name : ℕ → N) (order : N → N → Orde
     stands_named (need_fault u) s = (least_named count name order total n (IsUnloadedNeed nat_cmp c) (IsUnloadedNeed order d) unloaded_named).named u s
     stands_named manual_start s = h.refuses ∙ s
     stands_named (requisite u v) s = needed_pair_named (LacksRequisite nat_cmp c) (LacksRequisite order d) (λ i j k. k.0) (λ x y k. k.0)
-        (λ i l. record { within = λ j k. (h.requisites i l).within j k.1; named = lacks_to i; numbered = lacks_from i l }) u v s
-    stands_named (conflict u v) s = needed_pair_named (AreNeededRivals nat_cmp c) (AreNeededRivals order d) (λ i j k. k.0) (λ x y k. k.0)
-        (λ i l. record { within = λ j k. needed_named.within j k.1; named = rivals_to i; numbered = rivals_from i l }) u v s
+        (λ i l. record { within = λ j k. (h.requisites i l).within j k.1; named = lacks_to i; indexed = lacks_from i l }) u v s
+    stands_named (conflict u v) s = needed_pair_named (AreNeededConflicts nat_cmp c) (AreNeededConflicts order d) (λ i j k. k.0) (λ x y k. k.0)
+        (λ i l. record { within = λ j k. needed_named.within j k.1; named = conflicting_to i; indexed = conflicting_from i l }) u v s
     stands_named (cycle list) s = cycle_named count name order total n (WaitsForever nat_cmp c) (Precedes c) (WaitsForever order d) (Precedes d) waits_named h.predecessors list s
 
     rank_named : (r : Refusal ℕ) → rank r ≡ rank (named_refusal name r)
@@ -316,6 +306,6 @@ module _ {N : Type 0} (count : ℕ) (name : ℕ → N) (order : N → N → Orde
     rank_named (conflict u v) = refl
     rank_named (cycle list) = refl
 
-    -- and the refusal with names for numbers is that of names
+    -- and the refusal with names in place of indices is that over names
     pub refusal_is_named : (r : Refusal ℕ) → IsRefusal nat_cmp c r → IsRefusal order d (named_refusal name r)
     refusal_is_named r s = record { stands = stands_named r s.stands; clear = subst (λ k. IsClearBelow order d k) (rank_named r) (clear_named (rank r) s.clear) }

@@ -1,16 +1,11 @@
--- What a plan chooses is closed under need, loaded, at peace, and has its requisites running.
-use Rattle.std.proofs.Common.{◌≡◌, ℕ, zero, suc, ◌⊎◌, inl, inr, IsTrue, refl, sym, subst, [], ◌∷◌}
+-- What a plan chooses is closed under need and loaded, its requisites are running, and no two chosen units conflict.
+use Rattle.std.proofs.Common.{[], ◌∷◌, ◌≡◌, ◌⊎◌, inl, inr, IsTrue, refl, subst, suc, sym, zero, ℕ}
 use Rattle.std.specs.Cmp.{IsTotalOrder}
 use Rattle.std.specs.FinMap.{IsAntisymmetric}
 use Rattle.std.specs.declared.cmp.Ordering.{Ordering}
-use Rattle.std.specs.declared.cmp.Ordering.TheVariants.{Less, Equal, Greater}
-use Rattle.list_laws.specs.Members.{IsAmong}
-use Rattle.list_laws.specs.Orderings.{turned}
-use Rattle.name_closure.specs.Chains.{IsChain}
-use Rattle.name_closure.specs.ClosureLaws.{reached_closed, reached_least}
-use Rattle.name_closure.specs.ListedLaws.{Listed, Named}
-use Rattle.plan_choice.specs.Case.{Case}
-use Rattle.plan_choice.specs.Sets.{Needs, IsNeeded, AreInConflict, IsGood, Pulls, IsPulled, IsExtra, LosesTo, IsDropped, Keeps, IsChosen}
+use Rattle.std.specs.declared.cmp.Ordering.TheVariants.{Equal, Greater, Less}
+use Rattle.plan_choice.specs.Prelude.{IsAmong, IsChain, Listed, Named, reached_closed, reached_least, turned}
+use Rattle.plan_choice.specs.{Case.Case, Sets.AreInConflict, Sets.IsChosen, Sets.IsDropped, Sets.IsExtra, Sets.IsGood, Sets.IsNeeded, Sets.IsPulled, Sets.Keeps, Sets.LosesTo, Sets.Needs, Sets.Pulls}
 
 -- no unit's own settings conflict with the unit itself
 abbrev pub SparesItself : {N : Type 0} → Case N → Type 0
@@ -23,7 +18,7 @@ module _ {N : Type 0} (c : Case N) where
   pub needs_more : (u v w : N) → Needs c u v → IsAmong w (c.needs v) → Needs c u w
   needs_more u v w = (λ n a. (reached_closed (Listed (u ∷ [])) (Named c.needs)).stepped v w n a)
 
-  -- what u needs, all need that what is reached from u needs
+  -- u needs all that the units that it needs need
   pub needs_all : (u v w : N) → Needs c u v → Needs c v w → Needs c u w
   needs_all u v w n m = reached_least (Listed (v ∷ [])) (Named c.needs) (Needs c u) (record {
     started = λ x h. elim h [ inl e ↦ subst (Needs c u) e n | inr none ↦ absurd none ];
@@ -40,7 +35,7 @@ module _ {N : Type 0} (c : Case N) where
   pub pulled_more : (u v : N) → IsPulled c u → Pulls c u v → IsPulled c v
   pulled_more u v p l = (reached_closed (Listed (c.target ∷ [])) (Pulls c)).stepped u v p l
 
-  -- pulled, because the target needs it or a good unit does
+  -- pulled because the target or a good unit needs it
   abbrev HasReason : N → Type 0
   HasReason v = IsNeeded c v ⊎ ((y : N) × (IsGood c y × Needs c y v))
 
@@ -53,7 +48,7 @@ module _ {N : Type 0} (c : Case N) where
       step u w h (inr a) = inr (w, (a.1, needs_itself w))
 
   module _ (order : N → N → Ordering) where
-    -- the target is needed, so it never loses, and neither does what it needs
+    -- the target is needed, so it never loses a conflict, and neither does what it needs
     pub chosen_kept : (v : N) → IsChosen order c v → IsPulled c v × ¬ IsDropped order c v
     chosen_kept v h = by h.steps v h.chain
       where
@@ -93,7 +88,8 @@ module _ {N : Type 0} (c : Case N) where
       needed_peace u v n p k = elim (pulled_reason v p) [ inl m ↦ none u v n m k | inr g ↦ g.1.0.at_peace v u g.1.1 n (flip u v k) ]
 
       module _ (total : IsTotalOrder order) (exact : IsAntisymmetric order) (spares : SparesItself c) where
-        -- where an extra unit names another one, one of the two loses: that one at once, unless it names the first and is less
+        -- where an extra unit names another one, one of the two loses: the named one, unless it names the other and is
+        -- less
         one_loses : (u v : N) → IsExtra c u → IsExtra c v → IsAmong v (c.conflicts u) → ¬ LosesTo order c u v → ¬ LosesTo order c v u → ⊥
         one_loses u v eu ev a out off = by (order u v) refl
           where

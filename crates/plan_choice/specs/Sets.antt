@@ -1,34 +1,33 @@
--- The sets of units of which a plan speaks. Each closure is one of `name_closure`'s: what is reached from sources by steps.
+-- The sets of units that a plan is defined by. Each closure is one of `name_closure`: what is reached from sources
+-- along edges.
 -- Source: systemd.unit(5), "Wants=", "Requires=", "Requisite=", "BindsTo=", "PartOf=", "Conflicts=";
--- which wishes are good and who loses a conflict is this project's own.
-use Rattle.std.specs.Prelude.{◌≡◌, ◌⊎◌, IsTrue, [], ◌∷◌}
+-- which weak dependencies are good, and which unit loses a conflict, is this project's own.
+use Rattle.std.proofs.Common.{[], ◌∷◌, ◌≡◌, ◌⊎◌, IsTrue}
 use Rattle.std.specs.declared.cmp.Ordering.{Ordering}
 use Rattle.std.specs.declared.cmp.Ordering.TheVariants.{Less}
-use Rattle.list_laws.specs.Members.{IsAmong}
-use Rattle.name_closure.specs.Chains.{IsReached}
-use Rattle.name_closure.specs.ListedLaws.{Listed, Named}
+use Rattle.plan_choice.specs.Prelude.{IsAmong, IsReached, Listed, Named}
 use Rattle.plan_choice.specs.Case.{Case}
 
 module _ {N : Type 0} (c : Case N) where
-  -- v is u, or u needs it, itself or by what it needs
+  -- v is u, or u needs v, directly or over what it needs
   abbrev pub Needs : N → N → Type 0
   Needs u v = IsReached (Listed (u ∷ [])) (Named c.needs) v
 
   abbrev pub IsNeeded : N → Type 0
   IsNeeded = Needs c.target
 
-  -- either names the other
+  -- one of the two names the other
   abbrev pub AreInConflict : N → N → Type 0
   AreInConflict u v = IsAmong v (c.conflicts u) ⊎ IsAmong u (c.conflicts v)
 
-  -- A unit that may be pulled by a mere wish: all that it needs is loaded, has its requisites running,
-  -- and conflicts with nothing that the target needs.
+  -- A unit that may be pulled over a weak dependency: all that it needs is loaded, has its requisites running, and
+  -- conflicts with nothing that the target needs.
   pub record IsGood (u : N) : Type 0 where
     pub all_loaded : (v : N) → Needs u v → IsTrue (c.is_loaded v)
     pub requisites_run : (v w : N) → Needs u v → IsAmong w (c.requisites v) → IsTrue (c.is_running w)
     pub at_peace : (v w : N) → Needs u v → IsNeeded w → ¬ AreInConflict v w
 
-  -- u needs v, or wants v, which is good
+  -- u needs v, or wants v and v is good
   abbrev pub Pulls : N → N → Type 0
   Pulls u v = IsAmong v (c.needs u) ⊎ (IsAmong v (c.wants u) × IsGood v)
 
@@ -52,7 +51,7 @@ module _ {N : Type 0} (order : N → N → Ordering) (c : Case N) where
     pub is_named : IsAmong loser (c.conflicts winner)
     pub greater : IsAmong winner (c.conflicts loser) → order winner loser ≡ Less
 
-  -- a loser, or pulled and in need of one
+  -- loses a conflict, or is pulled and needs a unit that does
   pub record IsDropped (u : N) : Type 0 where
     pub pulled : IsPulled c u
     pub loser : N
@@ -66,7 +65,7 @@ module _ {N : Type 0} (order : N → N → Ordering) (c : Case N) where
     pub pulled : IsPulled c v
     pub stays : ¬ IsDropped v
 
-  -- what the target reaches inside what is pulled and not dropped
+  -- what is reached from the target within what is pulled and not dropped
   abbrev pub IsChosen : N → Type 0
   IsChosen = IsReached (Listed (c.target ∷ [])) Keeps
 
@@ -80,14 +79,14 @@ module _ {N : Type 0} (order : N → N → Ordering) (c : Case N) where
     pub runs : IsTrue (c.is_running u)
     pub unchosen : ¬ IsChosen u
 
-  -- a running unit outside that conflicts with a chosen one
-  pub record IsOusted (u : N) : Type 0 where
+  -- stopped by a conflict: a running unit outside the chosen ones that conflicts with a chosen one
+  pub record IsStoppedByConflict (u : N) : Type 0 where
     pub outside : IsOutside u
-    pub rival : N
-    pub chosen : IsChosen rival
-    pub conflict : AreInConflict c u rival
+    pub conflicting_unit : N
+    pub chosen : IsChosen conflicting_unit
+    pub conflict : AreInConflict c u conflicting_unit
 
-  -- where v stops, the running unit u outside stops with it
+  -- where v stops, the running unit u outside the chosen ones stops with it
   pub record TakesAlong (v u : N) : Type 0 where
     pub outside : IsOutside u
     pub tied : IsAmong v (c.stops_with u)

@@ -1,15 +1,14 @@
 -- What is wrong with a unit itself, apart from what it needs. Only private clauses cite this.
-use Rattle.std.specs.Prelude.{ℕ, IsTrue, ◌<◌}
-use Rattle.list_laws.specs.Members.{IsAmong}
-use Rattle.plan_choice.specs.Case.{Case}
-use Rattle.plan_choice.specs.Sets.{IsNeeded, AreInConflict}
+use Rattle.std.proofs.Common.{◌<◌, IsTrue, ℕ}
+use Rattle.plan_choice.specs.Prelude.{IsAmong}
+use Rattle.plan_choice.specs.{Case.Case, Sets.AreInConflict, Sets.IsNeeded}
 
--- nothing is: it is loaded, its requisites run, and it conflicts with nothing that the target needs
+-- nothing is: it is loaded, its requisites are running, and it conflicts with nothing that the target needs
 pub record IsSound (c : Case ℕ) (u : ℕ) : Type 0 where
   pub loaded : IsTrue (c.is_loaded u)
   pub requisites_run : (v : ℕ) → IsAmong v (c.requisites u) → IsTrue (c.is_running v)
   pub at_peace : (v : ℕ) → IsNeeded c v → ¬ AreInConflict c u v
 
--- it is one of so many units, and doesn't run
+-- it is one of `count` units, and isn't running
 abbrev pub IsIdle : (count : ℕ) → Case ℕ → ℕ → Type 0
 IsIdle count c u = (u < count) × ¬ IsTrue (c.is_running u)

@@ -1,23 +1,23 @@
-//! What a plan of numbered units is made from.
+//! The input of planning over indexed units.
 ghost use Rattle.std.specs.Prelude.{◌≡◌, ◌<◌, length};
-ghost use Rattle.index_rows.specs.{Rows.{AreRowsOf, AreTurned, row as row_of}, Steps.{AreOpposite, AreStepsOf, steps_from}};
+ghost use Rattle.index_rows.specs.{Adjacency.{AreAdjacencyOf, AreTransposed, neighbors as neighbors_of}, Successors.{AreOpposite, AreSuccessorsOf, successors_from}};
 
-use index_rows::Steps;
+use index_rows::Successors;
 
-/// What is known of units that are numbered from 0, and the target. Each vector has one place for
-/// each unit; the rows and steps, which are lent, have units in any order, and more than once or not.
+/// What is known of units given by indices from 0, and the target. Each vector has one element for each unit. The
+/// adjacency lists are borrowed; they have units in any order, possibly repeated.
 #[derive(Drop)]
-pub struct PlanRows<'a> {
+pub struct IndexedCase<'a> {
     pub target: usize,
     pub loaded: Vec<bool>,
     pub refuses_manual_start: Vec<bool>,
     pub running: Vec<bool>,
     /// What each unit requires or binds to.
-    pub needs: Steps<'a>,
+    pub needs: Successors<'a>,
     /// What requires each unit or binds to it.
-    pub needed_by: Steps<'a>,
-    pub wants: Steps<'a>,
-    pub requisites: Steps<'a>,
+    pub needed_by: Successors<'a>,
+    pub wants: Successors<'a>,
+    pub requisites: Successors<'a>,
     /// What each unit's own settings conflict with.
     pub conflicts: &'a [Vec<usize>],
     /// The units whose own settings conflict with each unit.
@@ -27,23 +27,23 @@ pub struct PlanRows<'a> {
     /// What is to start after each unit.
     pub successors: &'a [Vec<usize>],
     /// What each unit requires, has as requisite, binds to or is part of.
-    pub stops_with: Steps<'a>,
+    pub stops_with: Successors<'a>,
     /// What requires each unit, has it as requisite, binds to it or is part of it.
-    pub takes_along: Steps<'a>,
-    pub ghost lawful_target: { target < length loaded.items },
-    pub ghost lawful_refuses: { length refuses_manual_start.items ≡ length loaded.items },
-    pub ghost lawful_running: { length running.items ≡ length loaded.items },
-    pub ghost lawful_needs: { AreStepsOf (length loaded.items) needs },
-    pub ghost lawful_needed_by: { AreStepsOf (length loaded.items) needed_by },
-    pub ghost lawful_wants: { AreStepsOf (length loaded.items) wants },
-    pub ghost lawful_requisites: { AreStepsOf (length loaded.items) requisites },
-    pub ghost lawful_conflicts: { AreRowsOf (length loaded.items) conflicts.now },
-    pub ghost lawful_conflicted_by: { AreRowsOf (length loaded.items) conflicted_by.now },
-    pub ghost lawful_predecessors: { AreRowsOf (length loaded.items) predecessors.now },
-    pub ghost lawful_successors: { AreRowsOf (length loaded.items) successors.now },
-    pub ghost lawful_takes: { AreStepsOf (length loaded.items) takes_along },
-    pub ghost needs_turned: { AreOpposite (steps_from needs) (steps_from needed_by) },
-    pub ghost conflicts_turned: { AreOpposite (row_of conflicts.now) (row_of conflicted_by.now) },
-    pub ghost predecessors_turned: { AreTurned predecessors.now successors.now },
-    pub ghost stops_turned: { AreOpposite (steps_from stops_with) (steps_from takes_along) },
+    pub takes_along: Successors<'a>,
+    pub ghost valid_target: { target < length loaded.items },
+    pub ghost valid_refuses: { length refuses_manual_start.items ≡ length loaded.items },
+    pub ghost valid_running: { length running.items ≡ length loaded.items },
+    pub ghost valid_needs: { AreSuccessorsOf (length loaded.items) needs },
+    pub ghost valid_needed_by: { AreSuccessorsOf (length loaded.items) needed_by },
+    pub ghost valid_wants: { AreSuccessorsOf (length loaded.items) wants },
+    pub ghost valid_requisites: { AreSuccessorsOf (length loaded.items) requisites },
+    pub ghost valid_conflicts: { AreAdjacencyOf (length loaded.items) conflicts.now },
+    pub ghost valid_conflicted_by: { AreAdjacencyOf (length loaded.items) conflicted_by.now },
+    pub ghost valid_predecessors: { AreAdjacencyOf (length loaded.items) predecessors.now },
+    pub ghost valid_successors: { AreAdjacencyOf (length loaded.items) successors.now },
+    pub ghost valid_takes: { AreSuccessorsOf (length loaded.items) takes_along },
+    pub ghost needs_transposed: { AreOpposite (successors_from needs) (successors_from needed_by) },
+    pub ghost conflicts_transposed: { AreOpposite (neighbors_of conflicts.now) (neighbors_of conflicted_by.now) },
+    pub ghost predecessors_transposed: { AreTransposed predecessors.now successors.now },
+    pub ghost stops_transposed: { AreOpposite (successors_from stops_with) (successors_from takes_along) },
 }

@@ -1,26 +1,26 @@
-//! Why there is no plan: what the target needs is looked at first.
+//! Why there is no plan: the units that the target needs are tested first.
 ghost use Rattle.std.specs.{Prelude.{◌≡◌, ◌<◌, ℕ, length, IfOk, IsTrue, MatchOption}, Ordering.{nat_cmp}};
 ghost use Rattle.list_laws.specs.Members.{IsAmong};
-ghost use Rattle.index_rows.specs.{Rows.{Marked}, Steps.{AreStepsOf, steps_from}};
-ghost use Rattle.plan_choice.specs.{RowCases.{case_of}, RowRefusals.{refusal_of}, Answers.{IsFirstPair, IsRefusal, IsClearBelow}};
+ghost use Rattle.index_rows.specs.{Adjacency.{IsMember}, Successors.{AreSuccessorsOf, successors_from}};
+ghost use Rattle.plan_choice.specs.{IndexedCases.{case_of}, IndexedRefusals.{refusal_of}, Answers.{IsFirstPair, IsRefusal, IsClearBelow}};
 
-use crate::answers::RowRefusal;
-use crate::marked_cases::MarkedCase;
-use index_rows::{Steps, first_marked, without};
+use crate::answers::IndexedRefusal;
+use crate::case_sets::CaseSets;
+use index_rows::{Successors, first_member, without};
 use std::alloc::{AllocError, Global};
 
-// The first pair of a marked unit and a marked one to which a step leads from it.
-fn first_pair(sources: &[bool], steps: &Steps, marks: &[bool]) -> Option<(usize, usize)>
-    requires sources { length sources.now ≡ length marks.now }
-    requires steps { AreStepsOf (length marks.now) steps.now }
+// The first pair of a member of `sources` and a successor of it that is in `marks`.
+fn first_pair(sources: &[bool], successors: &Successors, bits: &[bool]) -> Option<(usize, usize)>
+    requires sources { length sources.now ≡ length bits.now }
+    requires successors { AreSuccessorsOf (length bits.now) successors.now }
     ensures { MatchOption result
-        ((u v : ℕ) → ¬ (Marked sources.now u × IsAmong v (steps_from steps.now u) × Marked marks.now v))
-        (λ pair. IsFirstPair nat_cmp (λ u v. Marked sources.now u × IsAmong v (steps_from steps.now u) × Marked marks.now v)
+        ((u v : ℕ) → ¬ (IsMember sources.now u × IsAmong v (successors_from successors.now u) × IsMember bits.now v))
+        (λ pair. IsFirstPair nat_cmp (λ u v. IsMember sources.now u × IsAmong v (successors_from successors.now u) × IsMember bits.now v)
         pair.0 pair.1) }
 {
     for (unit, is_source) in sources.iter().enumerate() {
         if *is_source {
-            if let Some(other) = steps.least_marked(unit, marks) {
+            if let Some(other) = successors.least_member(unit, bits) {
                 return Some((unit, other));
             }
         }
@@ -28,29 +28,32 @@ fn first_pair(sources: &[bool], steps: &Steps, marks: &[bool]) -> Option<(usize,
     None
 }
 
-impl<'c, 'a> MarkedCase<'c, 'a> {
-    // The first cause that stands of those that are looked at before what starts.
-    pub fn refusal(&self, alloc: Global) -> Result<Option<RowRefusal>, AllocError>
+impl<'c, 'a> CaseSets<'c, 'a> {
+    // The first cause that holds among those that are tested before the start order.
+    pub fn refusal(&self, alloc: Global) -> Result<Option<IndexedRefusal>, AllocError>
         ensures { IfOk result (λ answer. MatchOption answer (IsClearBelow nat_cmp (case_of self.now) 6)
             (λ refusal. IsRefusal nat_cmp (case_of self.now) (refusal_of refusal))) }
     {
         let case = self.case;
         if !case.loaded[case.target] {
-            return Ok(Some(RowRefusal::Target(case.target)));
+            return Ok(Some(IndexedRefusal::Target(case.target)));
         }
         let unloaded = without(alloc, &self.needed, &case.loaded)?;
-        if let Some(unit) = first_marked(&unloaded) {
-            return Ok(Some(RowRefusal::Need(unit)));
+        if let Some(unit) = first_member(&unloaded) {
+            return Ok(Some(IndexedRefusal::Need(unit)));
         }
         if case.refuses_manual_start[case.target] {
-            return Ok(Some(RowRefusal::ManualStart));
+            return Ok(Some(IndexedRefusal::ManualStart));
         }
         if let Some((unit, requisite)) = first_pair(&self.needed, &case.requisites, &self.idle) {
-            return Ok(Some(RowRefusal::Requisite(unit, requisite)));
+            return Ok(Some(IndexedRefusal::Requisite(unit, requisite)));
         }
-        match first_pair(&self.needed, &self.rivals, &self.needed) {
+        match first_pair(&self.needed, &self.conflicting, &self.needed) {
             None => Ok(None),
-            Some((unit, rival)) => Ok(Some(RowRefusal::Conflict(unit, rival))),
+            Some((unit, conflicting_unit)) => Ok(Some(IndexedRefusal::Conflict(
+                unit,
+                conflicting_unit,
+            ))),
         }
     }
 }

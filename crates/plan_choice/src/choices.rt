@@ -1,32 +1,32 @@
-//! What is pulled, what is dropped of it, and what is chosen.
+//! Which units are pulled, which of them are dropped, and which are chosen.
 ghost use Rattle.std.specs.{Prelude.{◌≡◌, ◌<◌, ◌⊎◌, ◌↔◌, ◌++◌, ℕ, length, All, IfOk, IsTrue, slice_index}, Ordering.{nat_cmp}};
 ghost use Rattle.list_laws.specs.Members.{IsAmong};
-ghost use Rattle.index_rows.specs.Rows.{Marked};
-ghost use Rattle.plan_choice.specs.{Answers.{IsClearBelow}, RowCases.{case_of, count_of}, Sets.{IsPulled, IsExtra, IsDropped, IsChosen}};
-ghost use Rattle.plan_choice.specs.{Marking.{AreMarksOf, IsListOf}, Losing.{IsLoser, SetsMarks}};
+ghost use Rattle.index_rows.specs.Adjacency.{IsMember};
+ghost use Rattle.plan_choice.specs.{Answers.{IsClearBelow}, IndexedCases.{case_of, count_of}, Sets.{IsPulled, IsExtra, IsDropped, IsChosen}};
+ghost use Rattle.plan_choice.specs.{BitSets.{AreBitsOf, IsListOf}, Losing.{IsLoser, SetsBits}};
 
-use crate::cases::PlanRows;
-use crate::marked_cases::MarkedCase;
-use index_rows::{Steps, no_marks, reached, reached_inside, row, without};
+use crate::case_sets::CaseSets;
+use crate::cases::IndexedCase;
+use index_rows::{Successors, empty_bits, neighbors, reached, reached_inside, without};
 use std::alloc::{AllocError, Global};
 
-impl<'c, 'a> MarkedCase<'c, 'a> {
-    // Marks at what is pulled: what is reached inside what is good. All that the target needs is good where nothing is wrong
-    // with it.
-    fn pulled(&self, alloc: Global, asks: &Steps) -> Result<Vec<bool>, AllocError>
+impl<'c, 'a> CaseSets<'c, 'a> {
+    // The set of pulled units: those reached within the good ones. If nothing is wrong with what the target needs, all
+    // of it is good.
+    fn pulled(&self, alloc: Global, asks: &Successors) -> Result<Vec<bool>, AllocError>
         requires asks { asks.now ≡ self.now.needs ++ self.now.wants }
         requires clear { IsClearBelow nat_cmp (case_of self.now) 6 }
-        ensures { IfOk result (λ marks. AreMarksOf (count_of self.now) (IsPulled (case_of self.now)) marks.items) }
+        ensures { IfOk result (λ bits. AreBitsOf (count_of self.now) (IsPulled (case_of self.now)) bits.items) }
     {
-        let good = self.good_wishes(alloc)?;
+        let good = self.good_weak_dependencies(alloc)?;
         reached_inside(alloc, asks, &good, &[self.case.target])
     }
 
-    // Marks at what is left of what is pulled: neither a loser nor in need of one.
+    // The pulled units that remain: those that neither lose a conflict nor need a unit that does.
     fn remaining(&self, alloc: Global, pulled: &[bool]) -> Result<Vec<bool>, AllocError>
-        requires { AreMarksOf (count_of self.now) (IsPulled (case_of self.now)) pulled.now }
-        ensures { IfOk result (λ marks. AreMarksOf (count_of self.now)
-            (λ u. IsPulled (case_of self.now) u × ¬ IsDropped nat_cmp (case_of self.now) u) marks.items) }
+        requires { AreBitsOf (count_of self.now) (IsPulled (case_of self.now)) pulled.now }
+        ensures { IfOk result (λ bits. AreBitsOf (count_of self.now)
+            (λ u. IsPulled (case_of self.now) u × ¬ IsDropped nat_cmp (case_of self.now) u) bits.items) }
     {
         let extra = without(alloc, pulled, &self.needed)?;
         let losers = losers(alloc, self.case, &extra)?;
@@ -34,33 +34,33 @@ impl<'c, 'a> MarkedCase<'c, 'a> {
         without(alloc, pulled, &fallen)
     }
 
-    // Marks at what is chosen: what is reached inside what is pulled and not dropped.
+    // The set of chosen units: those reached within what is pulled and not dropped.
     pub fn chosen(&self, alloc: Global) -> Result<Vec<bool>, AllocError>
         requires { IsClearBelow nat_cmp (case_of self.now) 6 }
-        ensures { IfOk result (λ marks. AreMarksOf (count_of self.now) (IsChosen nat_cmp (case_of self.now)) marks.items) }
+        ensures { IfOk result (λ bits. AreBitsOf (count_of self.now) (IsChosen nat_cmp (case_of self.now)) bits.items) }
     {
-        let asks = Steps::both(alloc, &self.case.needs, &self.case.wants)?;
+        let asks = Successors::both(alloc, &self.case.needs, &self.case.wants)?;
         let pulled = self.pulled(alloc, &asks)?;
         let rest = self.remaining(alloc, &pulled)?;
         reached_inside(alloc, &asks, &rest, &[self.case.target])
     }
 }
 
-// Sets the marks of the nodes.
-fn set_marks(marks: &mut Vec<bool>, nodes: &[usize], value: bool)
-    requires { All (λ v. v < length marks.old.items) nodes.now }
-    ensures { SetsMarks marks.old.items marks.new.items nodes.now value }
+// Sets the bits of the nodes to `value`.
+fn set_bits(bits: &mut Vec<bool>, nodes: &[usize], value: bool)
+    requires { All (λ v. v < length bits.old.items) nodes.now }
+    ensures { SetsBits bits.old.items bits.new.items nodes.now value }
 {
     for node in nodes {
-        marks[*node] = value;
+        bits[*node] = value;
     }
 }
 
-// Whether the unit loses: where another marked unit names it, and isn't named by it or is less.
+// Whether the unit loses a conflict: another member of `extra` names it, and either isn't named by it or is less.
 fn loses(extra: &[bool], named: &[bool], namers: &[usize], unit: usize) -> bool
     requires named { length named.now ≡ length extra.now }
     requires namers { All (λ v. v < length extra.now) namers.now }
-    ensures { IsTrue result ↔ ((v : ℕ) × (IsAmong v namers.now × Marked extra.now v × (Marked named.now v → v < unit))) }
+    ensures { IsTrue result ↔ ((v : ℕ) × (IsAmong v namers.now × IsMember extra.now v × (IsMember named.now v → v < unit))) }
 {
     for other in namers {
         if extra[*other] && *other < unit {
@@ -74,16 +74,16 @@ fn loses(extra: &[bool], named: &[bool], namers: &[usize], unit: usize) -> bool
 }
 
 // The extra units that lose a conflict.
-fn losers(alloc: Global, case: &PlanRows, extra: &[bool]) -> Result<Vec<usize>, AllocError>
-    requires { AreMarksOf (count_of case.now) (IsExtra (case_of case.now)) extra.now }
+fn losers(alloc: Global, case: &IndexedCase, extra: &[bool]) -> Result<Vec<usize>, AllocError>
+    requires { AreBitsOf (count_of case.now) (IsExtra (case_of case.now)) extra.now }
     ensures { IfOk result (λ units. IsListOf (count_of case.now) (IsLoser (case_of case.now)) units.items) }
 {
-    let mut named = no_marks(alloc, extra.len())?;
+    let mut named = empty_bits(alloc, extra.len())?;
     let mut units = Vec::new(alloc);
     for (unit, is_extra) in extra.iter().enumerate() {
-        set_marks(&mut named, row(case.conflicts, unit), true);
-        let lost = loses(extra, &named, row(case.conflicted_by, unit), unit);
-        set_marks(&mut named, row(case.conflicts, unit), false);
+        set_bits(&mut named, neighbors(case.conflicts, unit), true);
+        let lost = loses(extra, &named, neighbors(case.conflicted_by, unit), unit);
+        set_bits(&mut named, neighbors(case.conflicts, unit), false);
         if lost && *is_extra {
             units.push(unit)?;
         }

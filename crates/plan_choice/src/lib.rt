@@ -1,23 +1,28 @@
-//! Which units a plan starts and stops, and why there may be none. The definitions are of any units; the code is of
-//! numbered units, and a law carries what it answers to their names.
+//! Which units a plan starts and stops, and why there may be no plan. The definitions are for any units; the code works
+//! on indices, and a law carries its results over to names.
 //!
 //! Promise: the plan is exact.
 //!
-//! The target pulls what it needs, and by wishes what is good: what can be started beside it. Of pulled units in
-//! conflict one is dropped, and all that need it. What is left is chosen: it starts, and what conflicts with it
-//! stops.
+//! The target pulls what it needs, and over weak dependencies (`Wants=`) those units that are good, that is, that can
+//! be started along with it. Of two pulled units in conflict one is dropped, with all units that need it. The rest is
+//! chosen: it starts, and running units that conflict with it stop.
+//!
+//! - `cases`: the input of a plan.
+//! - `wishes`, `choices`: which weak dependencies are good, and which units are chosen.
+//! - `causes`: why there is no plan.
+//! - `plans`: the plan, `indexed_plan`.
 #![tactic(auto)]
 
 mod answers;
+mod case_sets;
 mod cases;
 mod causes;
 mod choices;
 mod laws;
-mod marked_cases;
 mod plans;
-mod wishes;
+mod weak_dependencies;
 
-pub use answers::{RowPlan, RowRefusal};
-pub use cases::PlanRows;
+pub use answers::{IndexedPlan, IndexedRefusal};
+pub use cases::IndexedCase;
 pub use laws::{plans_are_one, plans_by_name, plans_keep_promises};
-pub use plans::plan_rows;
+pub use plans::indexed_plan;

@@ -1,55 +1,60 @@
-//! The plan, or the first refusal whose cause stands.
+//! The plan, or the first refusal whose cause holds.
 ghost use Rattle.std.specs.{Prelude.{◌≡◌, ℕ, length, IfOk, IfErr}, Ordering.{nat_cmp}};
 ghost use Rattle.list_laws.specs.Members.{IsAmong};
-ghost use Rattle.index_rows.specs.{Rows.{Marked}, Steps.{AreStepsOf, steps_from}};
+ghost use Rattle.index_rows.specs.{Adjacency.{IsMember}, Successors.{AreSuccessorsOf, successors_from}};
 ghost use Rattle.name_closure.specs.Chains.{IsClosure};
-ghost use Rattle.plan_choice.specs.{RowCases.{case_of, count_of}, RowRefusals.{IsAnswer, refusal_of}};
-ghost use Rattle.plan_choice.specs.{Sets.{IsChosen, Starts, IsOusted, TakesAlong}, Answers.{IsClearBelow, IsRefusal, IsPlan}};
-ghost use Rattle.plan_choice.specs.Marking.{AreMarksOf, IsListOf};
+ghost use Rattle.plan_choice.specs.{IndexedCases.{case_of, count_of}, IndexedRefusals.{IsAnswer, refusal_of}};
+ghost use Rattle.plan_choice.specs.{Sets.{IsChosen, Starts, IsStoppedByConflict, TakesAlong}, Answers.{IsClearBelow, IsRefusal, IsPlan}};
+ghost use Rattle.plan_choice.specs.BitSets.{AreBitsOf, IsListOf};
 
-use crate::answers::{RowPlan, RowRefusal};
-use crate::cases::PlanRows;
-use crate::marked_cases::MarkedCase;
-use index_rows::{Steps, marked_nodes, reached_inside, without};
+use crate::answers::{IndexedPlan, IndexedRefusal};
+use crate::case_sets::CaseSets;
+use crate::cases::IndexedCase;
+use index_rows::{Successors, members_of, reached_inside, without};
 use start_order::start_order;
 use std::alloc::{AllocError, Global};
 
-// The running units outside that conflict with a chosen one.
-fn ousted(
+// The members of `outside` that conflict with a chosen unit.
+fn stopped_by_conflict(
     alloc: Global,
     outside: &[bool],
-    rivals: &Steps,
+    conflicting: &Successors,
     chosen: &[bool],
 ) -> Result<Vec<usize>, AllocError>
     requires units { length chosen.now ≡ length outside.now }
-    requires rivals { AreStepsOf (length chosen.now) rivals.now }
-    ensures { IfOk result (λ units. IsListOf (length chosen.now) (λ u. Marked outside.now u
-        × ((v : ℕ) × (IsAmong v (steps_from rivals.now u) × Marked chosen.now v))) units.items) }
+    requires conflicting { AreSuccessorsOf (length chosen.now) conflicting.now }
+    ensures { IfOk result (λ units. IsListOf (length chosen.now) (λ u. IsMember outside.now u
+        × ((v : ℕ) × (IsAmong v (successors_from conflicting.now u) × IsMember chosen.now v))) units.items) }
 {
     let mut units = Vec::new(alloc);
     for (unit, is_outside) in outside.iter().enumerate() {
-        if *is_outside && rivals.least_marked(unit, chosen).is_some() {
+        if *is_outside && conflicting.least_member(unit, chosen).is_some() {
             units.push(unit)?;
         }
     }
     Ok(units)
 }
 
-impl<'c, 'a> MarkedCase<'c, 'a> {
-    // What stops, rising: what is ousted, and what stops with it.
+impl<'c, 'a> CaseSets<'c, 'a> {
+    // The units that stop, in ascending order: those stopped by a conflict, and those that stop with them.
     fn stops(&self, alloc: Global, chosen: &[bool]) -> Result<Vec<usize>, AllocError>
-        requires { AreMarksOf (count_of self.now) (IsChosen nat_cmp (case_of self.now)) chosen.now }
-        ensures { IfOk result (λ units. IsClosure (IsOusted nat_cmp (case_of self.now))
+        requires { AreBitsOf (count_of self.now) (IsChosen nat_cmp (case_of self.now)) chosen.now }
+        ensures { IfOk result (λ units. IsClosure (IsStoppedByConflict nat_cmp (case_of self.now))
             (TakesAlong nat_cmp (case_of self.now)) nat_cmp units.items) }
     {
         let outside = without(alloc, &self.case.running, chosen)?;
-        let ousted = ousted(alloc, &outside, &self.rivals, chosen)?;
-        let stopped = reached_inside(alloc, &self.case.takes_along, &outside, &ousted)?;
-        Ok(marked_nodes(alloc, &stopped)?)
+        let stopped_by_conflict = stopped_by_conflict(alloc, &outside, &self.conflicting, chosen)?;
+        let stopped = reached_inside(
+            alloc,
+            &self.case.takes_along,
+            &outside,
+            &stopped_by_conflict,
+        )?;
+        Ok(members_of(alloc, &stopped)?)
     }
 
-    // The plan where nothing is wrong with what the target needs, or the cycle of what is to start.
-    fn plan(&self, alloc: Global) -> Result<Result<RowPlan, RowRefusal>, AllocError>
+    // The plan if nothing is wrong with what the target needs, or the cycle among the units that are to start.
+    fn plan(&self, alloc: Global) -> Result<Result<IndexedPlan, IndexedRefusal>, AllocError>
         requires { IsClearBelow nat_cmp (case_of self.now) 6 }
         ensures { IfOk result (IsAnswer (case_of self.now)) }
     {
@@ -57,19 +62,23 @@ impl<'c, 'a> MarkedCase<'c, 'a> {
         let chosen = self.chosen(alloc)?;
         let starting = without(alloc, &chosen, &case.running)?;
         match start_order(alloc, &starting, case.predecessors, case.successors)? {
-            Err(cycle) => Ok(Err(RowRefusal::Cycle(cycle))),
+            Err(cycle) => Ok(Err(IndexedRefusal::Cycle(cycle))),
             Ok(starts) => {
                 let stops = self.stops(alloc, &chosen)?;
-                Ok(Ok(RowPlan { stops, starts }))
+                Ok(Ok(IndexedPlan { stops, starts }))
             }
         }
     }
 }
 
-/// The plan of numbered units, or why there is none: the first refusal whose cause stands.
+/// Returns the plan over indexed units, or why there is none: the refusal whose cause is the first that holds. Fails
+/// only if memory runs out.
 ///
-/// O(n log n) and the steps.
-pub fn plan_rows(alloc: Global, case: &PlanRows) -> Result<Result<RowPlan, RowRefusal>, AllocError>
+/// O(n log n + m), for n units and m edges.
+pub fn indexed_plan(
+    alloc: Global,
+    case: &IndexedCase,
+) -> Result<Result<IndexedPlan, IndexedRefusal>, AllocError>
     ensures plan { IfOk result (λ answer. IfOk answer (λ plan. IsPlan nat_cmp (case_of case.now) plan.stops.items
         plan.starts.items)) }
     ensures all { IfOk result (λ answer. IfOk answer (λ plan. (u : ℕ) → Starts nat_cmp (case_of case.now) u
@@ -77,9 +86,9 @@ pub fn plan_rows(alloc: Global, case: &PlanRows) -> Result<Result<RowPlan, RowRe
     ensures refusal { IfOk result (λ answer. IfErr answer (λ refusal. IsRefusal nat_cmp (case_of case.now)
         (refusal_of refusal))) }
 {
-    let marked = MarkedCase::of(alloc, case)?;
-    match marked.refusal(alloc)? {
+    let sets = CaseSets::of(alloc, case)?;
+    match sets.refusal(alloc)? {
         Some(refusal) => Ok(Err(refusal)),
-        None => marked.plan(alloc),
+        None => sets.plan(alloc),
     }
 }

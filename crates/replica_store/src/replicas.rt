@@ -13,16 +13,16 @@ use std::alloc::{AllocError, Global};
 use std::marker::Model;
 use thiserror::Error;
 
-/// Why an edit was refused. The replica is then unchanged.
+/// Why an edit was refused. A refused edit leaves the replica unchanged.
 #[derive(Clone, Copy, Debug, PartialEq, Eq, Error)]
 pub enum EditFault {
-    /// E1: the greatest counter is held already.
+    /// E1: the replica already holds the greatest possible counter.
     #[error("E1 VersionsSpent")]
     VersionsSpent,
     /// E2: nothing is visible that could be removed.
     #[error("E2 Nothing")]
     Nothing,
-    /// Memory was refused.
+    /// Memory ran out.
     #[error("out of memory")]
     Memory,
 }
@@ -45,7 +45,7 @@ impl Model for Replica {
 }
 
 impl Replica {
-    /// A replica that holds nothing. It takes no memory.
+    /// Makes a replica that holds nothing. Allocates nothing.
     pub fn new(alloc: Global, writer: u32) -> Replica
         ensures empty { result ≡ record { store = finmap.empty; writer = writer } }
     {
@@ -55,21 +55,21 @@ impl Replica {
         }
     }
 
-    /// A replica that holds this store. It takes no memory.
+    /// Makes a replica that holds this store. Allocates nothing.
     pub fn from_store(writer: u32, store: Store) -> Replica
         ensures given { result ≡ record { store = store; writer = writer } }
     {
         Replica { writer, store }
     }
 
-    /// Its store, without a copy.
+    /// Borrows its store.
     pub fn store(&self) -> &Store
         ensures store { result.now ≡ self.now.store }
     {
         &self.store
     }
 
-    /// Its store, given out.
+    /// Returns its store, and drops the rest.
     pub fn into_store(self) -> Store
         ensures store { result ≡ self.store }
     {
@@ -77,25 +77,26 @@ impl Replica {
         store
     }
 
-    /// The number under which it writes.
+    /// Returns the number under which it writes.
     pub fn writer(&self) -> u32
         ensures writer { result ≡ self.now.writer }
     {
         self.writer
     }
 
-    /// The greatest counter held, 0 where nothing is. O(1), without memory.
+    /// Returns the greatest counter that it holds, or 0 if it holds nothing. O(1). Allocates nothing.
     pub fn high(&self) -> u64
         ensures high { result ≡ high_of self.now.store }
     {
         self.store.high()
     }
 
-    /// Writes a content at a place, under the next version: `high` + 1 and the writer. A removal is
-    /// written whether or not anything is visible. A search and at most one shift of entries in each of three maps.
+    /// Writes a content at a place and returns the version, which is the next one: `high` + 1 and the writer. A removal
+    /// is written whether or not anything is visible. Costs a search and at most one shift of entries in each of four
+    /// maps.
     ///
-    /// It is refused as `VersionsSpent` exactly where `high` is the greatest counter, and else for
-    /// want of memory alone, and not even that at a place that is held. A refusal changes nothing.
+    /// Fails with `VersionsSpent` exactly if `high` is the greatest possible counter, and with `Memory` only if memory
+    /// runs out, which can't happen at a place that is already held. A refused edit changes nothing.
     pub fn put(&mut self, place: Place, content: Content) -> Result<Version, EditFault>
         ensures version { IfOk result (λ version. version ≡ next_version self.old) }
         ensures joined { OnOk result (self.new ≡ with_put self.old (record
@@ -119,11 +120,12 @@ impl Replica {
         }
     }
 
-    /// Removes what is visible at a place, under the next version. The removal is an entry that
-    /// stays.
+    /// Removes what is visible at a place and returns the version of the removal, which is the next one. The removal is
+    /// an entry that stays.
     ///
-    /// It is refused as `Nothing` exactly where nothing is visible, else as `put` is. It takes no
-    /// memory, since the place is held, and seeks it once. A refusal changes nothing.
+    /// Fails with `Nothing` exactly if nothing is visible, and with `VersionsSpent` if something is visible and `high`
+    /// is the greatest possible counter. Searches for the place once and allocates nothing, since the place is held. A
+    /// refused edit changes nothing.
     pub fn remove(&mut self, place: Place) -> Result<Version, EditFault>
         ensures version { IfOk result (λ version. version ≡ next_version self.old) }
         ensures joined { OnOk result (self.new ≡ with_put self.old (record
@@ -147,7 +149,8 @@ impl Replica {
         }
     }
 
-    // The version of its next edit: `high` + 1 and the writer; none, where `high` is the greatest counter.
+    // Returns the version of its next edit: `high` + 1 and the writer. Returns `None` if `high` is the greatest
+    // possible counter.
     fn next_version(&self) -> Option<Version>
         ensures next { MatchOption result (high_of self.now.store ≡ u64.MAX)
             (λ version. (version ≡ next_version self.now) × (high_of self.now.store ≢ u64.MAX)) }
@@ -159,11 +162,12 @@ impl Replica {
         })
     }
 
-    /// Joins copies of what a store holds, and answers how many places changed. Both are read side by side; then it costs
-    /// what is news and a search for each, or one pass over both, whichever is less. Copies of entries share their bytes.
+    /// Joins copies of what a store holds, and returns how many places changed. Reads both side by side to count what
+    /// changes; if anything does, the join costs the changed entries and a search for each, or one pass over both,
+    /// whichever is less. Copies of entries share their bytes.
     ///
-    /// Where memory is refused, the store lies between what it was and the join, and the same call
-    /// may be made again; where the other has one entry, the replica is as it was.
+    /// Fails only if memory runs out. The store then lies between what it was and the join, and the same call can be
+    /// repeated; if the other store has just one entry, the replica is unchanged.
     pub fn merge(&mut self, other: &Store) -> Result<u64, AllocError>
         ensures ok { OnOk result (self.new ≡ record self.old { store = join self.old.store other.now }) }
         ensures changed { IfOk result (λ changed. changed ≡ changed_places self.old.store self.new.store) }
@@ -176,11 +180,12 @@ impl Replica {
         self.store.merge(other)
     }
 
-    /// Joins what a store holds, and answers how many places changed. Both are read side by side; then it costs what is
-    /// news and a search for each, or one pass over both, whichever is less.
+    /// Joins what a store holds, and returns how many places changed. Reads both side by side to count what changes; if
+    /// anything does, the join costs the changed entries and a search for each, or one pass over both, whichever is
+    /// less.
     ///
-    /// Where memory is refused, the store lies between what it was and the join, and joining the rest that comes back
-    /// gives that join; where the other has one entry, the replica is as it was.
+    /// Fails only if memory runs out. The store then lies between what it was and the join, and joining the returned
+    /// rest gives that join; if the other store has just one entry, the replica is unchanged.
     pub fn absorb(&mut self, other: Store) -> Result<u64, Rest<Store>>
         ensures ok { OnOk result (self.new ≡ record self.old { store = join self.old.store other }) }
         ensures changed { IfOk result (λ changed. changed ≡ changed_places self.old.store self.new.store) }
@@ -193,7 +198,7 @@ impl Replica {
         self.store.absorb(other)
     }
 
-    /// An equal replica. It fails for want of memory alone.
+    /// Returns an equal replica. Fails only if memory runs out.
     pub fn try_clone(&self) -> Result<Replica, AllocError>
         ensures copy { IfOk result (λ copy. copy ≡ self.now) }
     {

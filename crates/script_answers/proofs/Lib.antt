@@ -1,3 +1,4 @@
-mod Lent
+pub mod Prelude
+mod Borrowed
 mod Reading
-mod Told
+mod Rendered

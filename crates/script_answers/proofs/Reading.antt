@@ -1,14 +1,9 @@
--- The names of a request, as they are read.
-use Rattle.std.proofs.Common.{◌≡◌, inl, inr, ℕ, List, Result, Ok, Err, refl, ap, ◌∙◌}
-use Rattle.load_places.specs.Levels.{Looker}
-use Rattle.unit_name.specs.declared.names.NameFault.{NameFault}
+-- How the names of a request are read.
+use Rattle.std.proofs.Common.{◌∙◌, ◌≡◌, ap, Err, inl, inr, List, Ok, refl, Result, ℕ}
+use Rattle.script_answers.proofs.Prelude.{Fault, fault_of_name, IsFaultOf, IsNameFault, Name, name_of, NameFault, names_in, request_of, request_with, Viewer}
 use Rattle.unit_name.specs.declared.names.NameFault.TheVariants as name
-use Rattle.unit_name.specs.Names.{IsFaultOf, Name, name_of}
-use Rattle.script_commands.specs.declared.commands.Fault.{Fault}
-use Rattle.script_commands.specs.Faults.{fault_of_name}
-use Rattle.script_answers.specs.Requests.{IsNameFault, names_in, request_of, request_with}
 
--- what is wrong with a word is wrong with its name
+-- a fault of a word is a fault of its name
 pub name_fault : (word : List ℕ) (fault : NameFault) → IsFaultOf word fault → IsNameFault (name_of word) (fault_of_name fault)
 name_fault word name.Length e = inr (name.Length, e, refl)
 name_fault word name.Kind e = inr (name.Kind, e, refl)
@@ -16,7 +11,7 @@ name_fault word name.EmptyPrefix e = inr (name.EmptyPrefix, e, refl)
 name_fault word (name.BadByte place) e = inr (name.BadByte place, e, refl)
 name_fault word name.Memory e = inl refl
 
-module _ (host : Looker) (unit : List ℕ) (running : List (List ℕ)) where
+module _ (host : Viewer) (unit : List ℕ) (running : List (List ℕ)) where
   pub request_made : (target : Name) (names : List Name) → name_of unit ≡ Ok target → names_in running ≡ Ok names
       → request_of host unit running ≡ Ok (record { host = host; target = target; running = names })
   request_made target names e also =

@@ -1,13 +1,9 @@
--- What is told in one way for each host is told in one way for the one that is asked for, and so is what never tells of spent counters.
-use Rattle.std.proofs.Common.{◌≡◌, ℕ, false, List, Option, Result, Ok, Err, sym, ap, ◌∙◌}
-use Rattle.std.specs.Prelude.{MatchResult}
-use Rattle.edit_sums.specs.Sums.{EntryMap}
-use Rattle.load_places.specs.Levels.{Looker}
-use Rattle.load_places.specs.declared.hosts.HostFault.{HostFault}
-use Rattle.load_places.specs.declared.hosts.HostFault.TheVariants as host
-use Rattle.script_commands.specs.Hosts.{host_asked}
-use Rattle.script_commands.specs.Outcomes.{Outcome, is_spent}
+-- What has one answer for each host has one for the host that is named, and so for answers that are never that counters
+-- are spent.
+use Rattle.std.proofs.Common.{◌∙◌, ◌≡◌, ap, Err, false, List, MatchResult, Ok, Option, Result, sym, ℕ}
+use Rattle.script_answers.specs.Prelude.{EntryMap, host_asked, HostFault, is_spent, Outcome, Viewer}
 use Rattle.script_answers.specs.Hosts.{ForHost, RefusesHost}
+use Rattle.load_places.specs.declared.hosts.HostFault.TheVariants as host
 
 host_refused_once : (a b : Outcome) (fault : HostFault) → RefusesHost fault a → RefusesHost fault b → a ≡ b
 host_refused_once a b host.HostName p q = p ∙ sym q
@@ -17,17 +13,17 @@ host_unspent : (outcome : Outcome) (fault : HostFault) → RefusesHost fault out
 host_unspent outcome host.HostName p = ap is_spent p
 host_unspent outcome host.Memory p = absurd p
 
-module _ (Tells : Looker → EntryMap → Outcome → Type 0) (asked : Option (List ℕ)) (s : EntryMap) where
-  pub for_host_once : ((host : Looker) (a b : Outcome) → Tells host s a → Tells host s b → a ≡ b) → (a b : Outcome) → ForHost asked Tells s a → ForHost asked Tells s b → a ≡ b
+module _ (Renders : Viewer → EntryMap → Outcome → Type 0) (asked : Option (List ℕ)) (s : EntryMap) where
+  pub for_host_once : ((host : Viewer) (a b : Outcome) → Renders host s a → Renders host s b → a ≡ b) → (a b : Outcome) → ForHost asked Renders s a → ForHost asked Renders s b → a ≡ b
   for_host_once once a b = by (host_asked asked)
     where
-      by : (r : Result Looker HostFault) → MatchResult r (λ host. Tells host s a) (λ fault. RefusesHost fault a) → MatchResult r (λ host. Tells host s b) (λ fault. RefusesHost fault b) → a ≡ b
+      by : (r : Result Viewer HostFault) → MatchResult r (λ host. Renders host s a) (λ fault. RefusesHost fault a) → MatchResult r (λ host. Renders host s b) (λ fault. RefusesHost fault b) → a ≡ b
       by (Ok host) p q = once host a b p q
       by (Err fault) p q = host_refused_once a b fault p q
 
-  pub for_host_unspent : ((host : Looker) (outcome : Outcome) → Tells host s outcome → is_spent outcome ≡ false) → (outcome : Outcome) → ForHost asked Tells s outcome → is_spent outcome ≡ false
+  pub for_host_unspent : ((host : Viewer) (outcome : Outcome) → Renders host s outcome → is_spent outcome ≡ false) → (outcome : Outcome) → ForHost asked Renders s outcome → is_spent outcome ≡ false
   for_host_unspent unspent outcome = by (host_asked asked)
     where
-      by : (r : Result Looker HostFault) → MatchResult r (λ host. Tells host s outcome) (λ fault. RefusesHost fault outcome) → is_spent outcome ≡ false
+      by : (r : Result Viewer HostFault) → MatchResult r (λ host. Renders host s outcome) (λ fault. RefusesHost fault outcome) → is_spent outcome ≡ false
       by (Ok host) p = unspent host outcome p
       by (Err fault) p = host_unspent outcome fault p

@@ -1,5 +1,7 @@
+pub mod Prelude
 pub mod CrowdLaws
 pub mod Crowds
+pub mod FileHostLaws
 pub mod FileLaws
 pub mod Hosts
 pub mod HostLaws
@@ -7,7 +9,7 @@ pub mod Files
 pub mod Plans
 pub mod PulledLines
 pub mod Requests
-pub mod Tells
-pub mod TellsLaws
+pub mod Renders
+pub mod RendersLaws
 pub mod Texts
 pub mod UnitLines

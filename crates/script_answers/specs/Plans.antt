@@ -1,15 +1,9 @@
--- How a plan is written, and why there is none.
+-- How a plan is written, or why there is none.
 -- Source: systemctl(1), "start"; the texts are this project's own.
-use Rattle.std.specs.Prelude.{◌≡◌, ℕ, codes, List, ◌++◌, Err}
+use Rattle.std.proofs.Common.{◌++◌, ◌≡◌, codes, Err, List, ℕ}
 use Rattle.std.specs.List.{flat_map}
-use Rattle.unit_name.specs.Names.{Name}
-use Rattle.script_commands.specs.declared.commands.Fault.{Fault}
+use Rattle.script_answers.specs.Prelude.{Bad, Conflict, Cycle, Fault, LineRefusal, ManualStart, Masked, Name, NotFound, Outcome, Plan, PlanRefusal, Requisite, Template}
 use Rattle.script_commands.specs.declared.commands.Fault.TheVariants as fault
-use Rattle.script_commands.specs.declared.commands.LineRefusal.{LineRefusal}
-use Rattle.script_commands.specs.declared.commands.LineRefusal.TheVariants.{Template, NotFound, Masked, Bad, ManualStart, Requisite, Conflict, Cycle}
-use Rattle.script_commands.specs.Outcomes.{Outcome}
-use Rattle.start_plan.specs.declared.requests.Plan.{Plan}
-use Rattle.start_plan.specs.declared.requests.Refusal.{Refusal as PlanRefusal}
 use Rattle.start_plan.specs.declared.requests.Refusal.TheVariants as plan
 
 -- ---- how a plan is written
@@ -36,14 +30,14 @@ fault_of_plan (plan.Masked unit) = fault.Refused (Masked unit)
 fault_of_plan (plan.Bad unit) = fault.Refused (Bad unit)
 fault_of_plan plan.ManualStart = fault.Refused ManualStart
 fault_of_plan (plan.Requisite unit needs) = fault.Refused (Requisite unit needs)
-fault_of_plan (plan.Conflict unit rival) = fault.Refused (Conflict unit rival)
+fault_of_plan (plan.Conflict unit conflicting_unit) = fault.Refused (Conflict unit conflicting_unit)
 fault_of_plan (plan.Cycle units) = fault.Refused (Cycle units)
 fault_of_plan plan.Memory = fault.Memory
 
--- ---- how a refusal is told
+-- ---- how a refusal is written
 
--- the outcome is that a plan is refused so
+-- the outcome is this refusal of a plan
 pub record RefusesPlan (cause : PlanRefusal) (outcome : Outcome) : Type 0 where
   pub refusal : LineRefusal
-  pub told : fault_of_plan cause ≡ fault.Refused refusal
+  pub rendered : fault_of_plan cause ≡ fault.Refused refusal
   pub outcome_is : outcome ≡ Err refusal

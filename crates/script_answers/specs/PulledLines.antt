@@ -1,9 +1,9 @@
--- How what a unit pulls is written: each unit with its least distance.
+-- How the units that a unit pulls are written, each with its least distance.
 -- Source: systemctl(1), "list-dependencies"; the texts are this project's own.
-use Rattle.std.specs.Prelude.{ℕ, codes, List, ◌++◌}
+use Rattle.std.proofs.Common.{◌++◌, codes, List, ℕ}
 use Rattle.std.specs.Fmt.{decimal}
 use Rattle.std.specs.List.{flat_map}
-use Rattle.unit_name.specs.Names.{Name}
+use Rattle.script_answers.specs.Prelude.{Name}
 
 -- a distance and a name
 abbrev pub depth_line : ℕ × Name → List ℕ

@@ -1,20 +1,10 @@
 -- How answers are written.
 -- Source: this project's own.
-use Rattle.std.specs.Prelude.{ℕ, codes, List, [], ◌++◌, length, Ok, Err}
-use Rattle.std.specs.List.{flat_map}
+use Rattle.std.proofs.Common.{[], ◌++◌, codes, Err, length, List, Ok, ℕ}
 use Rattle.std.specs.Fmt.{decimal}
+use Rattle.std.specs.List.{flat_map}
+use Rattle.script_answers.specs.Prelude.{Arguments, Bad, BadByte, BadLink, BadText, Component, Conflict, Content, Cycle, Depth, Directory, EmptyPrefix, Entry, EntryMap, File, FileTooLarge, Gone, HostName, Kind, Length, LineRefusal, LineTooLong, Link, ManualStart, Masked, Name, NodeTaken, NotFound, Nothing, Outcome, place_text, PlaceParts, Requisite, Seats, Template, TooManyUnits, UnknownCommand, UnknownNode, UnknownPiece, Version, VersionsSpent, Workers, WriterTaken}
 use Rattle.std.specs.FinMap as finmap
-use Rattle.join_law.specs.declared.versions.Version.{Version}
-use Rattle.load_places.specs.Places.{PlaceParts}
-use Rattle.load_places.specs.Texts.{place_text}
-use Rattle.edit_sums.specs.declared.contents.Content.{Content}
-use Rattle.edit_sums.specs.declared.contents.Content.TheVariants.{Gone, Link, File}
-use Rattle.edit_sums.specs.Entries.{Entry}
-use Rattle.edit_sums.specs.Sums.{EntryMap}
-use Rattle.unit_name.specs.Names.{Name}
-use Rattle.script_commands.specs.declared.commands.LineRefusal.{LineRefusal}
-use Rattle.script_commands.specs.Outcomes.{Outcome}
-use Rattle.script_commands.specs.declared.commands.LineRefusal.TheVariants.{UnknownCommand, Arguments, UnknownNode, BadText, UnknownPiece, NodeTaken, WriterTaken, LineTooLong, HostName, Directory, Depth, Component, FileTooLarge, BadLink, VersionsSpent, Nothing, Length, Kind, EmptyPrefix, BadByte, NotFound, Masked, Bad, Template, Workers, TooManyUnits, ManualStart, Requisite, Conflict, Cycle, Seats}
 
 -- the counter, a dot, the writer
 abbrev pub version_text : Version → List ℕ
@@ -41,7 +31,7 @@ content_text (File bytes) = codes "file " ++ decimal (length bytes)
 abbrev pub entry_line : PlaceParts × Entry → List ℕ
 entry_line p = place_text p.0 ++ codes " " ++ version_text p.1.version ++ codes " " ++ content_text p.1.content ++ codes "\n"
 
--- all that is held, in place order
+-- all entries of a store, in the order of their places
 abbrev pub files_text : EntryMap → List ℕ
 files_text s = flat_map entry_line (finmap.entries s) ++ codes "end\n"
 
@@ -75,26 +65,26 @@ refusal_name Workers = codes "L1 Workers"
 refusal_name TooManyUnits = codes "L2 TooManyUnits"
 refusal_name ManualStart = codes "P5 ManualStart"
 refusal_name (Requisite unit needs) = codes "P6 Requisite"
-refusal_name (Conflict unit rival) = codes "P7 Conflict"
+refusal_name (Conflict unit conflicting_unit) = codes "P7 Conflict"
 refusal_name (Cycle units) = codes "P8 Cycle"
 refusal_name Seats = codes "A1 Seats"
 
--- a name behind a space
+-- a name after a space
 abbrev pub spaced_name : Name → List ℕ
 spaced_name name = codes " " ++ name
 
--- names, each behind a space
+-- names, each after a space
 abbrev pub spaced_names : List Name → List ℕ
 spaced_names names = flat_map spaced_name names
 
--- the values of a refusal, each behind a space
+-- the values of a refusal, each after a space
 abbrev pub refusal_values : LineRefusal → List ℕ
 refusal_values (BadByte place) = codes " " ++ decimal place
 refusal_values (NotFound unit) = spaced_name unit
 refusal_values (Masked unit) = spaced_name unit
 refusal_values (Bad unit) = spaced_name unit
 refusal_values (Requisite unit needs) = spaced_name unit ++ spaced_name needs
-refusal_values (Conflict unit rival) = spaced_name unit ++ spaced_name rival
+refusal_values (Conflict unit conflicting_unit) = spaced_name unit ++ spaced_name conflicting_unit
 refusal_values (Cycle units) = spaced_names units
 refusal_values other = []
 

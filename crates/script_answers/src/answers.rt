@@ -50,7 +50,7 @@ fn code_and_name(refusal: &LineRefusal) -> &'static [u8]
     }
 }
 
-// Appends the values of a refusal, each behind a space.
+// Appends the values of a refusal, each after a space.
 fn append_values(alloc: Global, out: &mut Vec<u8>, refusal: &LineRefusal) -> Result<(), AllocError>
     ensures appended { OnOk result (out.new.items ≡ out.old.items ++ refusal_values refusal.now) }
 {
@@ -71,7 +71,7 @@ fn append_values(alloc: Global, out: &mut Vec<u8>, refusal: &LineRefusal) -> Res
     }
 }
 
-// The line of a refusal that is kept.
+// The line of a borrowed refusal.
 fn refusal_line(alloc: Global, refusal: &LineRefusal) -> Result<Vec<u8>, AllocError>
     ensures line { IfOk result (λ line. line.items ≡ error_line refusal.now) }
 {
@@ -82,14 +82,14 @@ fn refusal_line(alloc: Global, refusal: &LineRefusal) -> Result<Vec<u8>, AllocEr
     Ok(line)
 }
 
-/// The line of a refusal.
+/// Returns the line of a refusal.
 pub fn refused(alloc: Global, refusal: LineRefusal) -> Result<Vec<u8>, AllocError>
     ensures line { IfOk result (λ line. line.items ≡ error_line refusal) }
 {
     refusal_line(alloc, &refusal)
 }
 
-/// The line of an edit that was put.
+/// Returns the line of an edit that was put.
 pub fn put_done(alloc: Global, version: Version) -> Result<Vec<u8>, AllocError>
     ensures line { IfOk result (λ line. line.items ≡ ok_line version) }
 {
@@ -98,28 +98,28 @@ pub fn put_done(alloc: Global, version: Version) -> Result<Vec<u8>, AllocError>
     Ok(format!(in alloc; "ok {counter}.{writer}\n")?.into_bytes())
 }
 
-/// The line of a merge.
+/// Returns the line of a merge.
 pub fn merge_done(alloc: Global, changed: u64) -> Result<Vec<u8>, AllocError>
     ensures line { IfOk result (λ line. line.items ≡ changed_line changed) }
 {
     Ok(format!(in alloc; "changed {changed}\n")?.into_bytes())
 }
 
-/// The line of a piece that was cut.
+/// Returns the line of a piece that was cut.
 pub fn part_done(alloc: Global, entries: usize) -> Result<Vec<u8>, AllocError>
     ensures line { IfOk result (λ line. line.items ≡ entries_line entries) }
 {
     Ok(format!(in alloc; "entries {entries}\n")?.into_bytes())
 }
 
-/// The line of a crowd: its takes, and the paths that it held.
+/// Returns the line of a crowd: its takes, and the paths that it held.
 pub(crate) fn crowd_done(alloc: Global, takes: u64, paths: u64) -> Result<Vec<u8>, AllocError>
     ensures line { IfOk result (λ line. line.items ≡ crowd_line takes paths) }
 {
     Ok(format!(in alloc; "takes {takes} paths {paths}\n")?.into_bytes())
 }
 
-// Appends a content's words. The scratch is room for numbers.
+// Appends a content as text. `scratch` is a buffer for numbers.
 fn append_content(
     out: &mut Vec<u8>,
     scratch: &mut String,
@@ -142,7 +142,7 @@ fn append_content(
     }
 }
 
-// Appends a version's numbers. The scratch is room for them.
+// Appends a version's numbers. `scratch` is a buffer for them.
 fn append_version(
     out: &mut Vec<u8>,
     scratch: &mut String,
@@ -178,8 +178,8 @@ fn append_entry(out: &mut Vec<u8>, scratch: &mut String, placed: &Placed) -> Res
     Ok(())
 }
 
-/// All that a store holds, a line for each entry, in place order. Linear in what is written; all
-/// numbers share one piece of memory.
+/// Returns the text of everything that a store holds, a line for each entry, in place order. Linear in the length of
+/// the text; all numbers share one buffer.
 pub fn list_files(alloc: Global, store: &Store) -> Result<Vec<u8>, AllocError>
     ensures lines { IfOk result (λ text. text.items ≡ files_text store.now) }
 {

@@ -1,13 +1,13 @@
-//! Questions of a node's store, and what is told of their answers.
+//! Questions on a node's store, and how their answers are rendered.
 ghost use Rattle.script_commands.specs.Outcomes.{IsSaid};
-ghost use Rattle.script_answers.specs.Tells.{IsOutcomeOf, TellsInquiry};
+ghost use Rattle.script_answers.specs.Renders.{IsOutcomeOf, RendersInquiry};
 
-use crate::crews::Crew;
 use crate::plan_lines::plan_text;
 use crate::pulled_lines::pulled_text;
 use crate::refusals::fault_of_plan;
 use crate::requests::{Inquiry, read_question};
 use crate::unit_lines::unit_text;
+use crate::worker_counts::WorkerCount;
 use fleet_answers::{Answer, AnswerFault, Snapshots, answer_again};
 use replica_store::Store;
 use script_commands::{Fault, LineRefusal, Word, read_host};
@@ -15,13 +15,14 @@ use std::alloc::Global;
 use std::thread::Threads;
 use worker_rounds::OpenGate;
 
-/// Tells what words ask of the units of a node, as all that must be loaded of its store comes to it for the host that another
-/// word asks for. Refused are, in this order, a word that names no host; the first word that is no unit name; a template; a
-/// store of which more than 4,096 names must be loaded; and a request without a plan, for the first cause that stands.
+/// Answers an inquiry on the units of a node, for the host that `host` names or for the fleet: loads what must be
+/// loaded of the node's store, and returns the answer as text. It is refused, in this order, for a word that isn't a
+/// host's name; for the first word that isn't a unit's name; for a template; if more than 4,096 names of the store must
+/// be loaded; and for a request without a plan, with the first cause that holds.
 ///
-/// It loads all units once, all names that are asked for among them, by 1 to 64 workers, whose number changes nothing of the
-/// answer. What was loaded for the last question of the node is refreshed, and kept for the next one; no answer depends on it.
-pub fn tell_inquiry<R: Threads + Sync>(
+/// It loads all units once, including all names that are asked for, with 1 to 64 workers; their number doesn't affect
+/// the answer. The load of the node's last question is refreshed, and cached for the next one; no answer depends on it.
+pub fn render_inquiry<R: Threads + Sync>(
     rt: &R,
     alloc: Global,
     snapshots: &mut Snapshots,
@@ -29,9 +30,9 @@ pub fn tell_inquiry<R: Threads + Sync>(
     store: &Store,
     host: Option<Word<'_>>,
     inquiry: Inquiry<'_>,
-    workers: &Crew,
+    workers: &WorkerCount,
 ) -> Result<Vec<u8>, Fault>
-    ensures told { IsSaid (λ text. text.items) result (TellsInquiry host.entry inquiry.entry store.now) }
+    ensures rendered { IsSaid (λ text. text.items) result (RendersInquiry host.entry inquiry.entry store.now) }
 {
     let host = read_host(alloc, host)?;
     let question = read_question(alloc, host, inquiry)?;
@@ -44,9 +45,9 @@ pub fn tell_inquiry<R: Threads + Sync>(
     }
 }
 
-// An answer as it is written, or as it is refused.
+// An answer as text, or its refusal.
 fn answer_text(alloc: Global, answer: Answer) -> Result<Vec<u8>, Fault>
-    ensures told { IsSaid (λ text. text.items) result (IsOutcomeOf answer) }
+    ensures rendered { IsSaid (λ text. text.items) result (IsOutcomeOf answer) }
 {
     match answer {
         Answer::Template => Err(Fault::Refused(LineRefusal::Template)),

@@ -2,7 +2,7 @@
 ghost use Rattle.std.specs.Prelude.{◌-◌, ◌≤◌};
 ghost use Rattle.edit_sums.specs.Sums.{high_of};
 ghost use Rattle.script_commands.specs.Outcomes.{IsSaid};
-ghost use Rattle.script_answers.specs.Crowds.{TellsCrowd};
+ghost use Rattle.script_answers.specs.Crowds.{RendersCrowd};
 
 use crate::answers::crowd_done;
 use crowds::{CrowdFault, ROOM, crowd};
@@ -13,9 +13,10 @@ use std::sync::Wait;
 use std::thread::Threads;
 use worker_rounds::OpenGate;
 
-/// Tells how many takes so many workers make side by side at a copy of a replica, each with so many edits, and how many
-/// paths are held then. It is refused where the seats aren't 1 to 64. The copy is dropped. It may wait.
-pub fn tell_crowd<R: Threads + Wait + Sync>(
+/// Lets `seats` workers make `edits` edits each at a copy of a replica, concurrently, and returns the line that says
+/// how many takes they made and how many paths are held then. It is refused if `seats` isn't 1 to 64. The copy is
+/// dropped. May wait.
+pub fn render_crowd<R: Threads + Wait + Sync>(
     rt: &R,
     alloc: Global,
     replica: &Replica,
@@ -23,7 +24,7 @@ pub fn tell_crowd<R: Threads + Wait + Sync>(
     edits: EditCount,
 ) -> Result<Vec<u8>, Fault>
     requires room { high_of replica.now.store ≤ u64.MAX - ROOM }
-    ensures told { IsSaid (λ text. text.items) result (TellsCrowd seats edits replica.now.store) }
+    ensures rendered { IsSaid (λ text. text.items) result (RendersCrowd seats edits replica.now.store) }
 {
     let edits = u64::from(edits.count());
     match crowd(rt, alloc, replica, seats as usize, edits, &OpenGate) {

@@ -1,15 +1,15 @@
-//! The files of a unit, as they are told.
+//! The answer to `cat`: the files of a unit.
 ghost use Rattle.std.specs.{Prelude.{◌≡◌, ◌++◌, IfOk, OnOk}, Option.{option_copied}};
 ghost use Rattle.edit_sums.specs.Sums.{shown};
-ghost use Rattle.path_maps.specs.Views.{view_of};
+ghost use Rattle.path_maps.specs.HostViews.{host_view_of};
 ghost use Rattle.fragment_choice.specs.Resolutions.{main};
 ghost use Rattle.script_commands.specs.Outcomes.{IsSaid};
-ghost use Rattle.script_answers.specs.Files.{AreFiles, IsCat, IsFile, IsFileAt, TellsFiles, TellsFilesOf, entry_lines, file_bytes, file_lines, lent_text};
+ghost use Rattle.script_answers.specs.Files.{AreFiles, IsCat, IsFile, IsFileAt, RendersFiles, RendersFilesOf, entry_lines, file_bytes, file_lines, borrowed_text};
 
 use dropins::UnitFolders;
 use edit_sums::Content;
 use fragment_choice::{Choice, Resolution, names_of, resolve};
-use replica_store::{HostName, Place, Seen, SeenEntry, Store};
+use replica_store::{HostName, HostView, HostViewEntry, Place, Store};
 use script_commands::{Fault, LineRefusal, Word, read_host};
 use std::alloc::{AllocError, Global};
 use unit_name::UnitName;
@@ -25,8 +25,7 @@ fn bytes_of<'a>(content: Option<&'a Content>) -> &'a [u8]
     }
 }
 
-// Appends a file: its place behind `# `, and its bytes, with a line feed added if the last of them
-// is none.
+// Appends a file: its place after `# `, and its bytes, with a line feed added if the last byte is none.
 fn append_file(out: &mut Vec<u8>, place: &Place, bytes: &[u8]) -> Result<(), AllocError>
     ensures appended { OnOk result (out.new.items ≡ out.old.items ++ file_lines place.now bytes.now) }
 {
@@ -40,36 +39,40 @@ fn append_file(out: &mut Vec<u8>, place: &Place, bytes: &[u8]) -> Result<(), All
     Ok(())
 }
 
-// The same of an entry that is a file.
-fn append_entry(out: &mut Vec<u8>, seen: &Seen, placed: &SeenEntry) -> Result<(), AllocError>
+// The same for an entry that is a file.
+fn append_entry(
+    out: &mut Vec<u8>,
+    view: &HostView,
+    placed: &HostViewEntry,
+) -> Result<(), AllocError>
     requires file { IsFile (shown placed.now.1) }
-    ensures appended { OnOk result (out.new.items ≡ out.old.items ++ entry_lines seen.now placed.now) }
+    ensures appended { OnOk result (out.new.items ≡ out.old.items ++ entry_lines view.now placed.now) }
 {
-    append_file(out, &seen.place(placed)?, bytes_of(placed.visible()))
+    append_file(out, &view.place(placed)?, bytes_of(placed.visible()))
 }
 
-// The files of a unit: its fragment, and then its drop-ins. Linear in what is written, and a
-// search in the store for the fragment.
+// The files of a unit: its fragment, and then its drop-ins. Costs time linear in what is written, and one search in the
+// store for the fragment.
 fn files_text(
     alloc: Global,
-    seen: &Seen,
+    view: &HostView,
     fragment: &Place,
-    dropins: &[SeenEntry],
+    dropins: &[HostViewEntry],
 ) -> Result<Vec<u8>, AllocError>
-    requires file { IsFileAt seen.now fragment.now }
+    requires file { IsFileAt view.now fragment.now }
     requires files { AreFiles dropins.now }
-    ensures lines { IfOk result (λ text. text.items ≡ lent_text seen.now fragment.now dropins.now) }
+    ensures lines { IfOk result (λ text. text.items ≡ borrowed_text view.now fragment.now dropins.now) }
 {
     let mut out = Vec::new(alloc);
-    append_file(&mut out, fragment, bytes_of(seen.visible(fragment)))?;
+    append_file(&mut out, fragment, bytes_of(view.visible(fragment)))?;
     for placed in dropins {
-        append_entry(&mut out, seen, placed)?;
+        append_entry(&mut out, view, placed)?;
     }
     out.extend_from_slice(b"end\n")?;
     Ok(out)
 }
 
-// The files of the unit of this main name, whose fragment is at this place.
+// The files of the unit with this main name, whose fragment is at this place.
 fn files_of_unit(
     alloc: Global,
     store: &Store,
@@ -77,42 +80,42 @@ fn files_of_unit(
     unit: &UnitName,
     fragment: &Place,
 ) -> Result<Vec<u8>, AllocError>
-    requires main { main (view_of store.now (option_copied host)) unit.now ≡ unit.now }
-    requires file { IsFileAt (view_of store.now (option_copied host)) fragment.now }
-    ensures files { IfOk result (λ text. IsCat (view_of store.now (option_copied host.entry)) unit.now fragment.now text.items) }
+    requires main { main (host_view_of store.now (option_copied host)) unit.now ≡ unit.now }
+    requires file { IsFileAt (host_view_of store.now (option_copied host)) fragment.now }
+    ensures files { IfOk result (λ text. IsCat (host_view_of store.now (option_copied host.entry)) unit.now fragment.now text.items) }
 {
     let names = names_of(alloc, store, host, unit)?;
     let folders = UnitFolders::of(alloc, &names)?;
-    let seen = store.seen_by(host);
-    let dropins = folders.drop_ins(alloc, &seen)?;
-    files_text(alloc, &seen, fragment, &dropins)
+    let view = store.host_view(host);
+    let dropins = folders.drop_ins(alloc, &view)?;
+    files_text(alloc, &view, fragment, &dropins)
 }
 
-/// Tells the files of the unit that a word names, as the host sees them that another word asks for: its fragment, and then
-/// its drop-ins. Refused are, in this order, a word that names no host, a word that is no unit name, and a unit that isn't
-/// found, is masked or is bad, which is told by its main name.
+/// Answers with the files of the unit that a word names, as the host that another word names sees them: its fragment,
+/// and then its drop-ins. Refuses, in this order, a word that names no host; a word that is no unit name; and a unit
+/// that isn't found, is masked or is bad, for which the refusal has the main name.
 ///
-/// It loads this unit alone; linear in what is told, beside the search for the unit's names.
-pub fn tell_files(
+/// Loads only this unit. Linear in what is written, apart from the search for the unit's names.
+pub fn render_files(
     alloc: Global,
     store: &Store,
     host: Option<Word<'_>>,
     unit: &[u8],
 ) -> Result<Vec<u8>, Fault>
-    ensures told { IsSaid (λ text. text.items) result (TellsFiles host.entry unit.now store.now) }
+    ensures rendered { IsSaid (λ text. text.items) result (RendersFiles host.entry unit.now store.now) }
 {
     let host = read_host(alloc, host)?;
-    tell_files_for(alloc, store, host.as_ref(), unit)
+    render_files_for(alloc, store, host.as_ref(), unit)
 }
 
-// Tells the files of a unit as a host sees them, or as they are seen without one.
-fn tell_files_for(
+// Answers with the files of a unit as a host sees them, or as they are seen without a host.
+fn render_files_for(
     alloc: Global,
     store: &Store,
     host: Option<&HostName>,
     unit: &[u8],
 ) -> Result<Vec<u8>, Fault>
-    ensures told { IsSaid (λ text. text.items) result (TellsFilesOf unit.now (view_of store.now (option_copied host.entry))) }
+    ensures rendered { IsSaid (λ text. text.items) result (RendersFilesOf unit.now (host_view_of store.now (option_copied host.entry))) }
 {
     let name = match UnitName::parse(alloc, unit) {
         Ok(name) => name,

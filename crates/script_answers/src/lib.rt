@@ -1,12 +1,17 @@
-//! How the answers of a script are written, and what is told of what a node holds: files, units, what they pull, plans and
-//! crowds. What is told is settled by the layers below; here it gets words.
+//! How a script's answers are written: what a node holds, units and their files, what they pull, plans and crowds. The
+//! layers below compute the answers; this crate renders them as text.
 //!
 //! Promise: the script's answers.
+//!
+//! - `asking`, `requests`: an inquiry, from its words to its answer.
+//! - `unit_lines`, `pulled_lines`, `plan_lines`, `files`: the text of each kind of answer.
+//! - `answers`, `names`, `refusals`: single lines, names and refusals.
+//! - `crews`, `crowding`: the number of workers, and crowds.
+//! - `laws`: each question has one answer.
 #![tactic(auto)]
 
 mod answers;
 mod asking;
-mod crews;
 mod crowding;
 mod files;
 mod laws;
@@ -16,11 +21,12 @@ mod pulled_lines;
 mod refusals;
 mod requests;
 mod unit_lines;
+mod worker_counts;
 
 pub use answers::{list_files, merge_done, part_done, put_done, refused};
-pub use asking::tell_inquiry;
-pub use crews::Crew;
-pub use crowding::tell_crowd;
-pub use files::tell_files;
-pub use laws::one_answer;
+pub use asking::render_inquiry;
+pub use crowding::render_crowd;
+pub use files::render_files;
+pub use laws::{host_laws, one_answer};
 pub use requests::Inquiry;
+pub use worker_counts::WorkerCount;

@@ -5,7 +5,7 @@ ghost use Rattle.script_answers.specs.Texts.{spaced_name, spaced_names};
 use std::alloc::AllocError;
 use unit_name::UnitName;
 
-/// Appends names, each behind a space. Linear in what is written. It fails for want of memory alone.
+/// Appends names, each after a space. Linear in what is written. Fails only if memory runs out.
 pub(crate) fn append_names(out: &mut Vec<u8>, names: &[UnitName]) -> Result<(), AllocError>
     ensures appended { OnOk result (out.new.items ≡ out.old.items ++ spaced_names names.now) }
 {
@@ -15,7 +15,7 @@ pub(crate) fn append_names(out: &mut Vec<u8>, names: &[UnitName]) -> Result<(), 
     Ok(())
 }
 
-// Appends a name behind a space.
+// Appends a name after a space.
 pub(crate) fn append_name(out: &mut Vec<u8>, name: &UnitName) -> Result<(), AllocError>
     ensures appended { OnOk result (out.new.items ≡ out.old.items ++ spaced_name name.now) }
 {

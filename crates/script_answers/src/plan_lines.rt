@@ -6,7 +6,7 @@ use start_plan::Plan;
 use std::alloc::{AllocError, Global};
 use unit_name::UnitName;
 
-/// What a plan stops and starts, a line for each unit. Linear in what is written.
+/// Returns the text of a plan: what stops and what starts, a line for each unit. Linear in the length of the text.
 pub(crate) fn plan_text(alloc: Global, plan: &Plan) -> Result<Vec<u8>, AllocError>
     ensures text { IfOk result (λ text. text.items ≡ plan_text plan.now) }
 {

@@ -1,4 +1,4 @@
-//! How what a unit pulls is written.
+//! How the units that a unit pulls are written.
 ghost use Rattle.std.specs.{Prelude.{◌≡◌, ◌++◌, IfOk, OnOk}, List.{flat_map}};
 ghost use Rattle.script_answers.specs.PulledLines.{depth_line, pulled_text};
 
@@ -6,7 +6,7 @@ use std::alloc::{AllocError, Global};
 use std::fmt::Write;
 use unit_name::UnitName;
 
-/// Units with their distances, a line for each. Linear in what is written.
+/// Returns the text of units with their distances, a line for each. Linear in the length of the text.
 pub(crate) fn pulled_text(alloc: Global, pairs: &[(u64, UnitName)]) -> Result<Vec<u8>, AllocError>
     ensures text { IfOk result (λ text. text.items ≡ pulled_text pairs.now) }
 {
@@ -19,7 +19,7 @@ pub(crate) fn pulled_text(alloc: Global, pairs: &[(u64, UnitName)]) -> Result<Ve
     Ok(out)
 }
 
-// Appends the line of a unit. The scratch is room for a number.
+// Appends the line of a unit. `scratch` is a buffer for a number.
 fn append_depth(
     out: &mut Vec<u8>,
     scratch: &mut String,

@@ -5,7 +5,7 @@ ghost use Rattle.script_answers.specs.Plans.{fault_of_plan};
 use script_commands::{Fault, LineRefusal};
 use start_plan::Refusal as PlanRefusal;
 
-/// A refusal of a plan, as a fault of a command.
+/// Returns a plan's refusal as a fault of a command.
 pub(crate) fn fault_of_plan(refusal: PlanRefusal) -> Fault
     ensures fault { result ≡ fault_of_plan refusal }
 {
@@ -16,7 +16,10 @@ pub(crate) fn fault_of_plan(refusal: PlanRefusal) -> Fault
         PlanRefusal::Bad(unit) => Fault::Refused(LineRefusal::Bad(unit)),
         PlanRefusal::ManualStart => Fault::Refused(LineRefusal::ManualStart),
         PlanRefusal::Requisite(unit, needs) => Fault::Refused(LineRefusal::Requisite(unit, needs)),
-        PlanRefusal::Conflict(unit, rival) => Fault::Refused(LineRefusal::Conflict(unit, rival)),
+        PlanRefusal::Conflict(unit, conflicting_unit) => Fault::Refused(LineRefusal::Conflict(
+            unit,
+            conflicting_unit,
+        )),
         PlanRefusal::Cycle(units) => Fault::Refused(LineRefusal::Cycle(units)),
         PlanRefusal::Memory => Fault::Memory,
     }

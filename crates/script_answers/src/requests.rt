@@ -1,7 +1,7 @@
-//! The questions that words make.
+//! The questions that words ask.
 ghost use Rattle.std.specs.Prelude.{◌≡◌, Ok, MatchResult};
 ghost use Rattle.unit_name.specs.Names.{name_of};
-ghost use Rattle.script_answers.specs.{Requests.{IsNameFault, names_in, request_of}, Tells.{question_asked}};
+ghost use Rattle.script_answers.specs.{Requests.{IsNameFault, names_in, request_of}, Renders.{question_asked}};
 
 use fleet_answers::Question;
 use plain_values::Items;
@@ -14,18 +14,19 @@ use unit_name::UnitName;
 /// What words ask of the units of a node.
 #[derive(Drop)]
 pub enum Inquiry<'a> {
-    /// The unit that a word names: its main name, status, names, drop-ins, values, dependencies in both directions, and notes.
+    /// The unit that a word names: its main name, status, names, drop-ins, values, dependencies in both directions, and
+    /// notes.
     Unit(Word<'a>),
-    /// What the unit that a word names pulls, over what it requires, has as requisite, binds to and wants: each unit once with
-    /// its least distance, by distance and then by name.
+    /// What the unit that a word names pulls, over what it requires, has as requisite, binds to and wants: each unit
+    /// once with its least distance, ordered by distance and then by name.
     List(Word<'a>),
-    /// What stops, and then what starts and in which order, where the unit that a word names is to start while those that
-    /// other words name run.
+    /// What stops, and then what starts and in which order, if the unit that a word names is to start while those that
+    /// other words name are running.
     Plan(Word<'a>, Words<'a>),
 }
 
-/// The question that words ask for a host or without one, or the first thing wrong with the first word that is no unit name.
-/// Want of memory may come in place of any answer.
+/// Returns the question that words ask for a host or for the fleet. Fails with the first thing wrong with the first
+/// word that isn't a unit's name, or if memory runs out, which may replace any answer.
 pub(crate) fn read_question(
     alloc: Global,
     host: Option<HostName>,
@@ -50,8 +51,8 @@ pub(crate) fn read_question(
     }
 }
 
-// The request of a host to start the unit that a word names while those that other words name run, or the first thing wrong with the
-// first word that is no unit name.
+// The request of a host to start the unit that a word names while those that other words name are running. Fails with
+// the first thing wrong with the first word that isn't a unit's name.
 fn read_request(
     alloc: Global,
     host: Option<HostName>,
@@ -70,7 +71,7 @@ fn read_request(
     })
 }
 
-/// The unit name that a word is, or the first thing wrong with it.
+/// Returns the unit's name that a word is. Fails with the first thing wrong with it.
 pub(crate) fn read_name(alloc: Global, word: &[u8]) -> Result<UnitName, Fault>
     ensures read { MatchResult result (λ name. name_of word.now ≡ Ok name) (IsNameFault (name_of word.now)) }
 {

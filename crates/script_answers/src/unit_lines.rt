@@ -24,7 +24,7 @@ fn cause_text(cause: Cause) -> &'static [u8]
     }
 }
 
-// Appends what stands for a unit.
+// Appends the status of a unit.
 fn append_status(out: &mut Vec<u8>, status: &Status) -> Result<(), AllocError>
     ensures appended { OnOk result (out.new.items ≡ out.old.items ++ status_text status.now) }
 {
@@ -42,7 +42,7 @@ fn append_status(out: &mut Vec<u8>, status: &Status) -> Result<(), AllocError>
     }
 }
 
-// What is written of a unit in lines of a kind: a line of its own for each, or none.
+// What is written of a unit as lines of one kind: one line for each, or none.
 trait UnitLine {
     // The line.
     ghost line: { Self → List ℕ };
@@ -52,7 +52,7 @@ trait UnitLine {
         ensures appended { OnOk result (out.new.items ≡ out.old.items ++ line self.now) };
 }
 
-// Appends the lines of all, one behind another.
+// Appends the lines of all, one after another.
 fn append_lines<L: UnitLine>(out: &mut Vec<u8>, all: &[L]) -> Result<(), AllocError>
     ensures appended { OnOk result (out.new.items ≡ out.old.items ++ flat_map L.line all.now) }
 {
@@ -87,7 +87,7 @@ impl UnitLine for Row {
     }
 }
 
-// A kind by which a unit has edges, if there are names.
+// A kind of which a unit has edges, if there are names.
 impl UnitLine for DependencyList {
     ghost line = { kind_line };
 
@@ -103,7 +103,7 @@ impl UnitLine for DependencyList {
     }
 }
 
-// Appends a line for each note. The scratch is room for numbers.
+// Appends a line for each note. `scratch` is a buffer for numbers.
 fn append_notes(
     out: &mut Vec<u8>,
     scratch: &mut String,
@@ -117,7 +117,7 @@ fn append_notes(
     Ok(())
 }
 
-// Appends the line of a note. The scratch is room for a number.
+// Appends the line of a note. `scratch` is a buffer for a number.
 fn append_note(out: &mut Vec<u8>, scratch: &mut String, note: &UnitNote) -> Result<(), AllocError>
     ensures appended { OnOk result (out.new.items ≡ out.old.items ++ note_line note.now) }
 {
@@ -144,7 +144,7 @@ fn append_note(out: &mut Vec<u8>, scratch: &mut String, note: &UnitNote) -> Resu
     }
 }
 
-/// All that is told of a unit with its edges. Linear in what is written.
+/// Returns the text of a unit with its edges. Linear in the length of the text.
 pub(crate) fn unit_text(alloc: Global, linked: &LinkedUnit) -> Result<Vec<u8>, AllocError>
     ensures text { IfOk result (λ text. text.items ≡ unit_text linked.now) }
 {
@@ -160,7 +160,7 @@ pub(crate) fn unit_text(alloc: Global, linked: &LinkedUnit) -> Result<Vec<u8>, A
     Ok(out)
 }
 
-// Appends a unit's main name, what stands for it, and all its names.
+// Appends a unit's main name, its status, and all its names.
 fn append_head(out: &mut Vec<u8>, unit: &Unit) -> Result<(), AllocError>
     ensures appended { OnOk result (out.new.items ≡ out.old.items ++ head_text unit.now) }
 {

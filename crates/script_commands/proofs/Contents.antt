@@ -1,14 +1,7 @@
--- Bytes that make no file.
-use Rattle.std.proofs.Common.{◌≡◌, ◌⊎◌, inl, inr, ℕ, Bool, true, false, cond, List, Result, Ok, Err, refl}
-use Rattle.edit_sums.specs.declared.contents.Content.{Content}
-use Rattle.edit_sums.specs.declared.contents.Content.TheVariants.{File}
-use Rattle.edit_sums.specs.declared.contents.ContentFault.{ContentFault}
+-- Bytes that can't become a file.
+use Rattle.std.proofs.Common.{◌≡◌, ◌⊎◌, Bool, cond, Err, false, inl, inr, List, Ok, refl, Result, true, ℕ}
+use Rattle.script_commands.proofs.Prelude.{Content, ContentFault, fault_of_content, File, file_of, is_file, IsNoFile, Spells, too_large, without_memory}
 use Rattle.edit_sums.specs.declared.contents.ContentFault.TheVariants as content
-use Rattle.edit_sums.specs.Contents.{file_of}
-use Rattle.edit_sums.specs.Limits.{is_file}
-use Rattle.script_words.specs.Text.{Spells}
-use Rattle.script_commands.specs.Faults.{fault_of_content}
-use Rattle.script_commands.specs.Files.{IsNoFile, without_memory, too_large}
 
 -- bytes that are refused as too many are too many
 too_many : (bytes : List ℕ) → Err content.FileTooLarge ≡ file_of bytes → is_file bytes ≡ false

@@ -1,9 +1,8 @@
--- The host of a word, by where the word's first at sign stands.
-use Rattle.std.proofs.Common.{◌≡◌, ◌+◌, ◌||◌, ℕ, suc, Bool, true, false, not, List, [], ◌∷◌, Some, None, cond, drop, length, position, refl, ◌∙◌, arith}
-use Rattle.std.specs.Prelude.{nat_lt}
-use Rattle.std.specs.List.{list_any, position_or_len}
+-- The host of a word, by the index of the word's first at sign.
+use Rattle.std.proofs.Common.{[], ◌+◌, ◌||◌, ◌∙◌, ◌∷◌, ◌≡◌, arith, Bool, cond, drop, false, length, List, nat_lt, None, not, position, refl, Some, suc, true, ℕ}
 use Rattle.std.proofs.lemmas.Bool.Decides.{nat_tests}
-use Rattle.script_commands.specs.Hosts.{host_in, is_at}
+use Rattle.std.specs.List.{list_any, position_or_len}
+use Rattle.script_commands.proofs.Prelude.{host_in, is_at}
 
 first_lt : (n : ℕ) → true ≡ nat_lt 0 (suc n)
 first_lt n = grind (arith, nat_tests)
@@ -11,7 +10,7 @@ first_lt n = grind (arith, nat_tests)
 next_lt : (n m : ℕ) → nat_lt n m ≡ nat_lt (1 + n) (suc m)
 next_lt n m = grind (arith, nat_tests)
 
--- a word has an at sign just where the first one stands within it
+-- a word has an at sign exactly if the first index is less than the length
 has_at : (word : List ℕ) → list_any is_at word ≡ nat_lt (position_or_len is_at word) (length word)
 has_at [] = refl
 has_at (b ∷ word) = by (is_at b) (has_at word)

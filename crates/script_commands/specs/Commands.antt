@@ -1,28 +1,22 @@
--- What a line asks for.
+-- The command that a line asks for.
 -- Source: this project's own.
-use Rattle.std.specs.Prelude.{ℕ, ◌&&◌, codes, if◌then◌else◌, List, [], ◌∷◌, Option, Some, None, Result, Ok, Err, nat_le}
+use Rattle.std.proofs.Common.{[], ◌&&◌, ◌∷◌, codes, Err, if◌then◌else◌, List, nat_le, None, Ok, Option, Result, Some, ℕ}
 use Rattle.std.specs.Str.{bytes_eq}
-use Rattle.script_words.specs.Words.{words_of, text_after}
-use Rattle.script_words.specs.Names.{is_name}
-use Rattle.script_words.specs.Numbers.{number_of}
-use Rattle.script_commands.specs.declared.commands.Command.{Command}
-use Rattle.script_commands.specs.declared.commands.Command.TheVariants.{Node, Put, Link, Remove, Merge, Part, Send, Sweep, Files, Cat, Show, List as ListUnits, Plan, Workers, Same, Crowd}
-use Rattle.script_commands.specs.declared.commands.LineRefusal.{LineRefusal}
-use Rattle.script_commands.specs.declared.commands.LineRefusal.TheVariants.{UnknownCommand, Arguments}
-use Rattle.script_commands.specs.Hosts.{host_in, node_in}
+use Rattle.script_commands.specs.Prelude.{is_name, number_of, text_after, words_of}
+use Rattle.script_commands.specs.{declared.commands.Command.Command, declared.commands.Command.TheVariants.Cat, declared.commands.Command.TheVariants.Crowd, declared.commands.Command.TheVariants.Files, declared.commands.Command.TheVariants.Link, declared.commands.Command.TheVariants.List as ListUnits, declared.commands.Command.TheVariants.Merge, declared.commands.Command.TheVariants.Node, declared.commands.Command.TheVariants.Part, declared.commands.Command.TheVariants.Plan, declared.commands.Command.TheVariants.Put, declared.commands.Command.TheVariants.Remove, declared.commands.Command.TheVariants.Same, declared.commands.Command.TheVariants.Send, declared.commands.Command.TheVariants.Show, declared.commands.Command.TheVariants.Sweep, declared.commands.Command.TheVariants.Workers, declared.commands.LineRefusal.LineRefusal, declared.commands.LineRefusal.TheVariants.Arguments, declared.commands.LineRefusal.TheVariants.UnknownCommand, Hosts.host_in, Hosts.node_in}
 
--- a command of a name and a word
+-- a command with a name and a word
 abbrev pub with_name_and_word : (List ℕ → List ℕ → Command) → List (List ℕ) → Result Command LineRefusal
 with_name_and_word command (name ∷ word ∷ []) = if is_name name then Ok (command name word) else Err Arguments
 with_name_and_word command words = Err Arguments
 
--- a command of a node, the host that it is asked for, and a word: the node is what stands before the first at sign of its word, or the whole
--- word if there is none, and the host what stands behind it, which is kept unread
+-- a command with a node, the host that it is asked for, and a word: the node is the part of its word before the first
+-- at sign, or the whole word if there is none; the host is the part after it, which isn't parsed
 abbrev pub with_node_and_word : (List ℕ → Option (List ℕ) → List ℕ → Command) → List (List ℕ) → Result Command LineRefusal
 with_node_and_word command (first ∷ word ∷ []) = if is_name (node_in first) then Ok (command (node_in first) (host_in first) word) else Err Arguments
 with_node_and_word command words = Err Arguments
 
--- a command of two names
+-- a command with two names
 abbrev pub with_two_names : (List ℕ → List ℕ → Command) → List (List ℕ) → Result Command LineRefusal
 with_two_names command (first ∷ second ∷ []) = if is_name first && is_name second then Ok (command first second) else Err Arguments
 with_two_names command words = Err Arguments
@@ -35,7 +29,7 @@ abbrev pub node_command : List (List ℕ) → Result Command LineRefusal
 node_command (name ∷ writer ∷ []) = node_with name (number_of writer)
 node_command words = Err Arguments
 
--- the text is what follows the place and one space
+-- the text is everything after the place and one space
 abbrev pub put_command : List (List ℕ) → List ℕ → Result Command LineRefusal
 put_command (node ∷ place ∷ words) text = if is_name node then Ok (Put node place text) else Err Arguments
 put_command words text = Err Arguments
@@ -44,7 +38,7 @@ abbrev pub link_command : List (List ℕ) → Result Command LineRefusal
 link_command (node ∷ place ∷ target ∷ []) = if is_name node then Ok (Link node place target) else Err Arguments
 link_command words = Err Arguments
 
--- the places are the words that follow; there may be none
+-- the places are the remaining words; there may be none
 abbrev pub part_command : List (List ℕ) → Result Command LineRefusal
 part_command (piece ∷ from ∷ to ∷ places) = if is_name piece && is_name from && is_name to then Ok (Part piece from to places) else Err Arguments
 part_command words = Err Arguments
@@ -57,7 +51,8 @@ abbrev pub files_command : List (List ℕ) → Result Command LineRefusal
 files_command (node ∷ []) = if is_name node then Ok (Files node) else Err Arguments
 files_command words = Err Arguments
 
--- the node and its host are one word, as in `with_node_and_word`; the units that run are the words that follow, and there may be none
+-- the node and its host are one word, as in `with_node_and_word`; the running units are the remaining words; there may
+-- be none
 abbrev pub plan_command : List (List ℕ) → Result Command LineRefusal
 plan_command (first ∷ unit ∷ running) = if is_name (node_in first) then Ok (Plan (node_in first) (host_in first) unit running) else Err Arguments
 plan_command words = Err Arguments
@@ -70,7 +65,7 @@ abbrev pub workers_command : List (List ℕ) → Result Command LineRefusal
 workers_command (count ∷ []) = workers_with (number_of count)
 workers_command words = Err Arguments
 
--- a number of 32 bits, and at most 1,000 edits
+-- a 32-bit number, and at most 1,000 edits
 abbrev pub crowd_with : List ℕ → Option ℕ → Option ℕ → Result Command LineRefusal
 crowd_with node None edits = Err Arguments
 crowd_with node (Some seats) None = Err Arguments
@@ -80,7 +75,7 @@ abbrev pub crowd_command : List (List ℕ) → Result Command LineRefusal
 crowd_command (node ∷ seats ∷ edits ∷ []) = crowd_with node (number_of seats) (number_of edits)
 crowd_command words = Err Arguments
 
--- the first word names the command, which asks for units of a node, as one host has them or as all do
+-- the first word names the command, which asks for units of a node, as one host or all hosts have them
 abbrev pub unit_question_of : List ℕ → List (List ℕ) → Result Command LineRefusal
 unit_question_of verb words =
     if bytes_eq verb (codes "cat") then with_node_and_word Cat words
@@ -98,7 +93,7 @@ question_of verb words =
     else (if bytes_eq verb (codes "crowd") then crowd_command words
     else unit_question_of verb words)))
 
--- the first word names the command; the text is what follows two further words and one space
+-- the first word names the command; the text is everything after two more words and one space
 abbrev pub change_of : List ℕ → List (List ℕ) → List ℕ → Result Command LineRefusal
 change_of verb words text =
     if bytes_eq verb (codes "node") then node_command words
@@ -116,6 +111,6 @@ abbrev pub command_of_words : List (List ℕ) → List ℕ → Result Command Li
 command_of_words [] line = Err UnknownCommand
 command_of_words (verb ∷ words) line = change_of verb words (text_after 3 line)
 
--- the command of a line, or why it is none
+-- the command of a line, or why it isn't one
 abbrev pub command_of : List ℕ → Result Command LineRefusal
 command_of line = command_of_words (words_of line) line

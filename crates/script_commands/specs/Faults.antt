@@ -1,18 +1,12 @@
--- Which refusal a fault of a layer below is.
+-- The refusal for each fault of a lower layer.
 -- Source: this project's own.
-use Rattle.edit_sums.specs.declared.contents.ContentFault.{ContentFault}
+use Rattle.script_commands.specs.Prelude.{ContentFault, EditFault, HostFault, NameFault, PlaceFault}
+use Rattle.script_commands.specs.{declared.commands.Fault.Fault, declared.commands.Fault.TheVariants.Memory, declared.commands.Fault.TheVariants.Refused, declared.commands.LineRefusal.TheVariants.BadByte, declared.commands.LineRefusal.TheVariants.BadLink, declared.commands.LineRefusal.TheVariants.Component, declared.commands.LineRefusal.TheVariants.Depth, declared.commands.LineRefusal.TheVariants.Directory, declared.commands.LineRefusal.TheVariants.EmptyPrefix, declared.commands.LineRefusal.TheVariants.FileTooLarge, declared.commands.LineRefusal.TheVariants.HostName, declared.commands.LineRefusal.TheVariants.Kind, declared.commands.LineRefusal.TheVariants.Length, declared.commands.LineRefusal.TheVariants.Nothing, declared.commands.LineRefusal.TheVariants.VersionsSpent}
 use Rattle.edit_sums.specs.declared.contents.ContentFault.TheVariants as content
-use Rattle.load_places.specs.declared.hosts.HostFault.{HostFault}
 use Rattle.load_places.specs.declared.hosts.HostFault.TheVariants as host
-use Rattle.load_places.specs.declared.texts.PlaceFault.{PlaceFault}
 use Rattle.load_places.specs.declared.texts.PlaceFault.TheVariants as place
-use Rattle.replica_store.specs.declared.replicas.EditFault.{EditFault}
 use Rattle.replica_store.specs.declared.replicas.EditFault.TheVariants as edit
-use Rattle.script_commands.specs.declared.commands.LineRefusal.TheVariants.{HostName, Directory, Depth, Component, FileTooLarge, BadLink, VersionsSpent, Nothing, Length, Kind, EmptyPrefix, BadByte}
-use Rattle.unit_name.specs.declared.names.NameFault.{NameFault}
 use Rattle.unit_name.specs.declared.names.NameFault.TheVariants as name
-use Rattle.script_commands.specs.declared.commands.Fault.{Fault}
-use Rattle.script_commands.specs.declared.commands.Fault.TheVariants.{Refused, Memory}
 
 abbrev pub fault_of_place : PlaceFault → Fault
 fault_of_place place.HostName = Refused HostName

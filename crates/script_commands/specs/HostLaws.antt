@@ -1,18 +1,18 @@
--- A node and a host that are written in one word are read back, and what is read of a word is how the word was written.
-use Rattle.std.proofs.Common.{◌≡◌, ◌≢◌, ◌+◌, ℕ, suc, Bool, true, false, not, ◌||◌, List, [], ◌∷◌, Option, Some, None, cond, take, drop, refl, sym, ap, ◌∙◌, arith}
-use Rattle.std.specs.List.{AllByRecursion, after_first, list_any, position_or_len}
-use Rattle.std.proofs.lemmas.Bool.{cond-true, cond-false, eqb-true, ne_eqb}
+-- A node and a host written in one word are read back, and writing what is read gives the word.
+use Rattle.std.proofs.Common.{[], ◌+◌, ◌||◌, ◌∙◌, ◌∷◌, ◌≡◌, ◌≢◌, ap, arith, Bool, cond, drop, false, List, None, not, Option, refl, Some, suc, sym, take, true, ℕ}
+use Rattle.std.proofs.lemmas.Bool.{cond-false, cond-true, eqb-true, ne_eqb}
+use Rattle.std.specs.List.{after_first, AllByRecursion, list_any, position_or_len}
 use Rattle.script_commands.specs.Hosts.{host_in, is_at, node_in, node_word}
 
 one_more : (n : ℕ) → 1 + n ≡ suc n
 one_more n = omega arith
 
-behind_more : (n : ℕ) → (1 + n) + 1 ≡ suc (n + 1)
-behind_more n = omega arith
+after_more : (n : ℕ) → (1 + n) + 1 ≡ suc (n + 1)
+after_more n = omega arith
 
--- ---- the first byte of a word
+-- The first byte of a word.
 
--- behind an at sign at the front stands the host
+-- after an at sign at the start comes the host
 node_in-at : (b : ℕ) (word : List ℕ) → is_at b ≡ true → node_in (b ∷ word) ≡ []
 node_in-at b word is = ap (λ k. take k (b ∷ word)) (cond-false _ _ _ (ap not is))
 
@@ -21,13 +21,13 @@ host_in-at b word is =
     ap (λ t. cond (t || list_any is_at word) (Some (after_first is_at (b ∷ word))) None) is
     ∙ ap (λ k. Some (drop (k + 1) (b ∷ word))) (cond-false _ _ _ (ap not is))
 
--- any other byte at the front is the node's
+-- any other first byte belongs to the node
 node_in-other : (b : ℕ) (word : List ℕ) → is_at b ≡ false → node_in (b ∷ word) ≡ b ∷ node_in word
 node_in-other b word other = ap (λ k. take k (b ∷ word)) (cond-true _ _ _ (ap not other) ∙ one_more (position_or_len is_at word))
 
 after_first-other : (b : ℕ) (word : List ℕ) → is_at b ≡ false → after_first is_at (b ∷ word) ≡ after_first is_at word
 after_first-other b word other =
-    ap (λ k. drop (k + 1) (b ∷ word)) (cond-true _ _ _ (ap not other)) ∙ ap (λ k. drop k (b ∷ word)) (behind_more (position_or_len is_at word))
+    ap (λ k. drop (k + 1) (b ∷ word)) (cond-true _ _ _ (ap not other)) ∙ ap (λ k. drop k (b ∷ word)) (after_more (position_or_len is_at word))
 
 host_in-other : (b : ℕ) (word : List ℕ) → is_at b ≡ false → host_in (b ∷ word) ≡ host_in word
 host_in-other b word other =
@@ -38,7 +38,7 @@ node_word-other : (b : ℕ) (node : List ℕ) (host : Option (List ℕ)) → nod
 node_word-other b node None = refl
 node_word-other b node (Some host) = refl
 
--- ---- the laws
+-- The laws.
 
 both_in-node_word : (node : List ℕ) (host : Option (List ℕ)) → AllByRecursion (λ b. b ≢ 64) node → (node_in (node_word node host) ≡ node) × (host_in (node_word node host) ≡ host)
 both_in-node_word [] None all = (refl, refl)
@@ -50,7 +50,7 @@ both_in-node_word (b ∷ node) host all =
       ap host_in (node_word-other b node host) ∙ host_in-other b (node_word node host) other ∙ rest.1,
     )
 
--- a node without an at sign is read back, whatever host is asked for
+-- a node without an at sign is read back, whatever the host is
 pub node_in-node_word : (node : List ℕ) (host : Option (List ℕ)) → AllByRecursion (λ b. b ≢ 64) node → node_in (node_word node host) ≡ node
 node_in-node_word node host all = (both_in-node_word node host all).0
 
@@ -70,7 +70,7 @@ node_word-next b word false other rest =
     ∙ node_word-other b (node_in word) (host_in word)
     ∙ ap (λ v. b ∷ v) rest
 
--- each word is written so
+-- every word is written from what is read of it
 pub node_word-read : (word : List ℕ) → node_word (node_in word) (host_in word) ≡ word
 node_word-read [] = refl
 node_word-read (b ∷ word) = node_word-next b word (is_at b) refl (node_word-read word)

@@ -1,22 +1,13 @@
--- A line is read as a command just where it has that command's words, and one that is no command is refused for what is wrong with it.
-use Rattle.std.proofs.Common.{◌≡◌, ◌⊎◌, inl, inr, ℕ, Bool, true, false, ◌&&◌, List, [], ◌∷◌, Option, Some, None, Result, Ok, Err, cond, codes, drop, refl, sym, ap, subst, ◌∙◌}
-use Rattle.std.specs.Prelude.{nat_le}
-use Rattle.std.specs.Str.{bytes_eq}
+-- A line is read as a command exactly if it has that command's words; any other line is refused for what is wrong with
+-- it.
+use Rattle.std.proofs.Common.{[], ◌&&◌, ◌∙◌, ◌∷◌, ◌≡◌, ◌⊎◌, ap, Bool, codes, cond, drop, Err, false, inl, inr, List, nat_le, None, Ok, Option, refl, Result, Some, subst, sym, true, ℕ}
+use Rattle.std.proofs.lemmas.Bool.{and_from, and_parts, cond-true, le-leb, leb-true, true≢false}
 use Rattle.std.proofs.lemmas.Slice.Eq.{bytes_eq-Decides}
-use Rattle.std.proofs.lemmas.Bool.{cond-true, and_from, and_parts, true≢false, le-leb, leb-true}
-use Rattle.script_words.specs.Names.{is_name}
-use Rattle.script_words.specs.Numbers.{number_of}
-use Rattle.script_words.specs.Words.{text_after, words_of}
-use Rattle.script_commands.specs.declared.commands.Command.TheVariants.{Node, Put, Link, Remove, Merge, Part, Send, Sweep, Files, Cat, Show, List as ListUnits, Plan, Workers, Same, Crowd}
-use Rattle.script_commands.specs.declared.commands.Command.{Command}
-use Rattle.script_commands.specs.declared.commands.LineRefusal.{LineRefusal}
-use Rattle.script_commands.specs.declared.commands.LineRefusal.TheVariants.{Arguments, UnknownCommand}
-use Rattle.script_commands.specs.Commands.{command_of_words, crowd_command, crowd_with, files_command, link_command, node_command, node_with, part_command, plan_command, put_command, sweep_command, with_name_and_word, with_node_and_word, with_two_names, workers_command, workers_with}
-use Rattle.script_commands.specs.HostLaws.{node_word-read}
-use Rattle.script_commands.specs.Hosts.{host_in, node_in, node_word}
-use Rattle.script_commands.specs.WrittenLaws.{AreWordsOf, BeginsWithVerb, IsName, IsOneOf, JustItsWordsAreRead, OthersAreRefused, node_word_is_cut, verbs}
+use Rattle.std.specs.Str.{bytes_eq}
+use Rattle.script_commands.specs.Prelude.{is_name, number_of, text_after, words_of}
+use Rattle.script_commands.specs.{Commands.command_of_words, Commands.crowd_command, Commands.crowd_with, Commands.files_command, Commands.link_command, Commands.node_command, Commands.node_with, Commands.part_command, Commands.plan_command, Commands.put_command, Commands.sweep_command, Commands.with_name_and_word, Commands.with_node_and_word, Commands.with_two_names, Commands.workers_command, Commands.workers_with, declared.commands.Command.Command, declared.commands.Command.TheVariants.Cat, declared.commands.Command.TheVariants.Crowd, declared.commands.Command.TheVariants.Files, declared.commands.Command.TheVariants.Link, declared.commands.Command.TheVariants.List as ListUnits, declared.commands.Command.TheVariants.Merge, declared.commands.Command.TheVariants.Node, declared.commands.Command.TheVariants.Part, declared.commands.Command.TheVariants.Plan, declared.commands.Command.TheVariants.Put, declared.commands.Command.TheVariants.Remove, declared.commands.Command.TheVariants.Same, declared.commands.Command.TheVariants.Send, declared.commands.Command.TheVariants.Show, declared.commands.Command.TheVariants.Sweep, declared.commands.Command.TheVariants.Workers, declared.commands.LineRefusal.LineRefusal, declared.commands.LineRefusal.TheVariants.Arguments, declared.commands.LineRefusal.TheVariants.UnknownCommand, HostLaws.node_word-read, Hosts.host_in, Hosts.node_in, Hosts.node_word, WrittenLaws.AreWordsOf, WrittenLaws.BeginsWithVerb, WrittenLaws.IsName, WrittenLaws.IsOneOf, WrittenLaws.JustItsWordsAreRead, WrittenLaws.node_word_is_cut, WrittenLaws.OthersAreRefused, WrittenLaws.verbs}
 
--- ---- no other words
+-- No other words.
 
 one_command : (a b : Command) → ◌≡◌ {A = Result Command LineRefusal} (Ok a) (Ok b) → a ≡ b
 one_command a b e = cc
@@ -25,7 +16,7 @@ never : (refusal : LineRefusal) (c : Command) → ◌≡◌ {A = Result Command 
 never refusal c e = cc
 
 module _ (c : Command) (line : List ℕ) where
-  -- what is read only where a test holds
+  -- a command that is read only if a test holds
   read_where : (t : Bool) (command : Command) (words : List (List ℕ)) → (t ≡ true → AreWordsOf command words line)
       → ◌≡◌ {A = Result Command LineRefusal} (cond t (Ok command) (Err Arguments)) (Ok c) → AreWordsOf c words line
   read_where true command words are e = subst (λ (d : Command). AreWordsOf d words line) (one_command command c e) (are refl)
@@ -118,7 +109,7 @@ module _ (c : Command) (line : List ℕ) where
           (first, second, refl, is, and, are.0, leb-true edits 1000 are.1)) e
   crowd_read words e = absurd (never Arguments c e)
 
-  -- the first word is the verb that is tested, or the next test decides
+  -- the first word is the tested verb, or the next test decides
   verb_or : (verb name : List ℕ) (words : List (List ℕ)) (here later : Result Command LineRefusal) → ◌≡◌ {A = Result Command LineRefusal} (cond (bytes_eq verb name) here later) (Ok c)
       → (here ≡ Ok c → AreWordsOf c (name ∷ words) line) → (later ≡ Ok c → AreWordsOf c (verb ∷ words) line) → AreWordsOf c (verb ∷ words) line
   verb_or verb name words here later e is other = by (bytes_eq verb name) refl e
@@ -155,7 +146,7 @@ module _ (c : Command) (line : List ℕ) where
       verb_or verb (codes "plan") words (plan_command words) _ e14 (plan_read words) (λ e15.
       absurd (never UnknownCommand c e15)))))))))))))))))
 
--- and these are read
+-- lines with these words are read
 read_as : (c : Command) (words : List (List ℕ)) (line : List ℕ) → AreWordsOf c words line → command_of_words words line ≡ Ok c
 read_as (Node name writer) words line (number, same, is, named) = ap (λ v. command_of_words v line) same ∙ ap (node_with name) is ∙ cond-true _ _ _ named
 read_as (Put node place text) words line (rest, same, is, named) =
@@ -184,7 +175,7 @@ read_as (Crowd node seats edits) words line (first, second, same, is, and, named
 pub just_its_words_are_read : JustItsWordsAreRead
 just_its_words_are_read line command = (λ e. read_words_of command line (words_of line) e, λ are. read_as command (words_of line) line are)
 
--- ---- why a line is no command
+-- Why a line isn't a command.
 
 same_refusal : (r other : LineRefusal) → ◌≡◌ {A = Result Command LineRefusal} (Err other) (Err r) → r ≡ other
 same_refusal r other e = cc

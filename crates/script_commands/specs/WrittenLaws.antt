@@ -1,63 +1,53 @@
--- A command is read back from how it is written: its words, with one space between each two.
-use Rattle.std.proofs.Common.{◌≡◌, ◌≢◌, ◌⊎◌, ◌<◌, ◌≤◌, ◌^◌, ℕ, Bool, true, false, ◌&&◌, List, [], ◌∷◌, ◌++◌, length, length-append, Option, Some, None, Result, Ok, Err, cond, codes, refl, sym, ap, ◌∙◌, append_assoc, arith, rules}
-use Rattle.std.specs.Prelude.{◌↔◌, nat_lt}
-use Rattle.std.specs.Char.{is_ascii_alphanumeric, is_ascii_digit}
-use Rattle.std.specs.Fmt.{decimal}
-use Rattle.std.specs.List.{All, AllByRecursion, join_with_byte, list_all}
-use Rattle.std.proofs.lemmas.Bool.{cond-true, and_from, and_parts, true≢false, le-leb}
+-- A command is read back from its written form: its words, with one space between them.
+use Rattle.std.proofs.Common.{[], ◌&&◌, ◌++◌, ◌<◌, ◌^◌, ◌↔◌, ◌∙◌, ◌∷◌, ◌≡◌, ◌≢◌, ◌≤◌, ◌⊎◌, All, ap, append_assoc, arith, Bool, codes, cond, Err, false, length, length-append, List, nat_lt, None, Ok, Option, refl, Result, rules, Some, sym, true, ℕ}
+use Rattle.std.proofs.lemmas.Bool.{and_from, and_parts, cond-true, le-leb, true≢false}
 use Rattle.std.proofs.lemmas.Bool.Decides.{nat_tests}
 use Rattle.std.proofs.lemmas.Fmt.{decimal_nonempty, digits_decimal, length-decimal-le}
 use Rattle.std.proofs.lemmas.List.Elements.{All-append, All-cons, All-from_recursion, recursion_from_All}
 use Rattle.std.proofs.lemmas.Str.Parse.{IsDigitsTest, numerals_by_value}
+use Rattle.std.specs.Char.{is_ascii_alphanumeric, is_ascii_digit}
+use Rattle.std.specs.Fmt.{decimal}
+use Rattle.std.specs.List.{AllByRecursion, join_with_byte, list_all}
+use Rattle.script_commands.specs.Prelude.{IsWord, number_of, number_of-decimal, spaced, text_after, text_after-last, text_after-spaced, words_of, words_of-nil, words_of-spaced, words_of-word, words_of-word_space}
+use Rattle.script_commands.specs.{Commands.command_of, Commands.command_of_words, Commands.crowd_with, Commands.node_with, Commands.with_name_and_word, Commands.with_node_and_word, Commands.with_two_names, Commands.workers_with, declared.commands.Command.Command, declared.commands.Command.TheVariants.Cat, declared.commands.Command.TheVariants.Crowd, declared.commands.Command.TheVariants.Files, declared.commands.Command.TheVariants.Link, declared.commands.Command.TheVariants.List as ListUnits, declared.commands.Command.TheVariants.Merge, declared.commands.Command.TheVariants.Node, declared.commands.Command.TheVariants.Part, declared.commands.Command.TheVariants.Plan, declared.commands.Command.TheVariants.Put, declared.commands.Command.TheVariants.Remove, declared.commands.Command.TheVariants.Same, declared.commands.Command.TheVariants.Send, declared.commands.Command.TheVariants.Show, declared.commands.Command.TheVariants.Sweep, declared.commands.Command.TheVariants.Workers, declared.commands.LineRefusal.LineRefusal, declared.commands.LineRefusal.TheVariants.Arguments, declared.commands.LineRefusal.TheVariants.UnknownCommand, HostLaws.host_in-node_word, HostLaws.node_in-node_word, Hosts.host_in, Hosts.node_in, Hosts.node_word}
 use Rattle.script_words.specs.Names.{is_name}
-use Rattle.script_words.specs.Numbers.{number_of}
-use Rattle.script_words.specs.NumbersLaws.{number_of-decimal}
-use Rattle.script_words.specs.Words.{IsWord, spaced, text_after, words_of}
-use Rattle.script_words.specs.WordsLaws.{text_after-last, text_after-spaced, words_of-nil, words_of-spaced, words_of-word, words_of-word_space}
-use Rattle.script_commands.specs.declared.commands.Command.TheVariants.{Node, Put, Link, Remove, Merge, Part, Send, Sweep, Files, Cat, Show, List as ListUnits, Plan, Workers, Same, Crowd}
-use Rattle.script_commands.specs.declared.commands.Command.{Command}
-use Rattle.script_commands.specs.declared.commands.LineRefusal.{LineRefusal}
-use Rattle.script_commands.specs.declared.commands.LineRefusal.TheVariants.{Arguments, UnknownCommand}
-use Rattle.script_commands.specs.Commands.{command_of, command_of_words, crowd_with, node_with, with_name_and_word, with_node_and_word, with_two_names, workers_with}
-use Rattle.script_commands.specs.HostLaws.{host_in-node_word, node_in-node_word}
-use Rattle.script_commands.specs.Hosts.{host_in, node_in, node_word}
 
--- words, with one space between each two
+-- words with one space between them
 abbrev pub line_of : List (List ℕ) → List ℕ
 line_of words = join_with_byte 32 words
 
--- a word that may be a name
+-- a valid name
 abbrev pub IsName : List ℕ → Type 0
 IsName word = is_name word ≡ true
 
--- ---- what is written for each command
+-- The written form of each command.
 
--- the command of this verb, a name and a word
+-- a command with this verb, a name and a word
 abbrev pub NameAndWordAreReadBack : List ℕ → (List ℕ → List ℕ → Command) → Type 0
 NameAndWordAreReadBack verb command = (name word : List ℕ) → IsName name → IsWord word
     → command_of (line_of (verb ∷ name ∷ word ∷ [])) ≡ Ok (command name word)
 
--- a host as it may stand in a word: there is none, or its bytes have no space; it may be empty
+-- a host that can be written in a word: none, or bytes without a space; it may be empty
 abbrev pub HasNoSpace : Option (List ℕ) → Type 0
 HasNoSpace None = Unit {0}
 HasNoSpace (Some host) = All (λ b. b ≢ 32) host
 
--- the command of this verb, a node with or without a host, and a word
+-- a command with this verb, a node with or without a host, and a word
 abbrev pub NodeAndWordAreReadBack : List ℕ → (List ℕ → Option (List ℕ) → List ℕ → Command) → Type 0
 NodeAndWordAreReadBack verb command = (node : List ℕ) (host : Option (List ℕ)) (word : List ℕ) → IsName node → HasNoSpace host → IsWord word
     → command_of (line_of (verb ∷ node_word node host ∷ word ∷ [])) ≡ Ok (command node host word)
 
--- the command of this verb and two names
+-- a command with this verb and two names
 abbrev pub TwoNamesAreReadBack : List ℕ → (List ℕ → List ℕ → Command) → Type 0
 TwoNamesAreReadBack verb command = (first second : List ℕ) → IsName first → IsName second
     → command_of (line_of (verb ∷ first ∷ second ∷ [])) ≡ Ok (command first second)
 
--- a writer number of 32 bits, in decimal
+-- a 32-bit writer number in decimal
 abbrev pub NodeIsReadBack : Type 0
 NodeIsReadBack = (name : List ℕ) (writer : ℕ) → IsName name → writer < 2 ^ 32
     → command_of (line_of (codes "node" ∷ name ∷ decimal writer ∷ [])) ≡ Ok (Node name writer)
 
--- the text behind the place and one space is any bytes, spaces too
+-- the text after the place and one space is any bytes, spaces included
 abbrev pub PutIsReadBack : Type 0
 PutIsReadBack = (node place text : List ℕ) → IsName node → IsWord place
     → command_of (line_of (codes "put" ∷ node ∷ place ∷ text ∷ [])) ≡ Ok (Put node place text)
@@ -77,7 +67,7 @@ RemoveIsReadBack = NameAndWordAreReadBack (codes "remove") Remove
 abbrev pub MergeIsReadBack : Type 0
 MergeIsReadBack = TwoNamesAreReadBack (codes "merge") Merge
 
--- any number of places, also none
+-- any number of places, even none
 abbrev pub PartIsReadBack : Type 0
 PartIsReadBack = (piece from to : List ℕ) (places : List (List ℕ)) → IsName piece → IsName from → IsName to → All IsWord places
     → command_of (line_of (codes "part" ∷ piece ∷ from ∷ to ∷ places)) ≡ Ok (Part piece from to places)
@@ -101,13 +91,13 @@ ShowIsReadBack = NodeAndWordAreReadBack (codes "show") Show
 abbrev pub ListIsReadBack : Type 0
 ListIsReadBack = NodeAndWordAreReadBack (codes "list") ListUnits
 
--- any number of running units, also none
+-- any number of running units, even none
 abbrev pub PlanIsReadBack : Type 0
 PlanIsReadBack = (node : List ℕ) (host : Option (List ℕ)) (unit : List ℕ) (running : List (List ℕ))
     → IsName node → HasNoSpace host → IsWord unit → All IsWord running
     → command_of (line_of (codes "plan" ∷ node_word node host ∷ unit ∷ running)) ≡ Ok (Plan node host unit running)
 
--- a number of 32 bits, in decimal
+-- a 32-bit number in decimal
 abbrev pub WorkersIsReadBack : Type 0
 WorkersIsReadBack = (count : ℕ) → count < 2 ^ 32
     → command_of (line_of (codes "workers" ∷ decimal count ∷ [])) ≡ Ok (Workers count)
@@ -115,12 +105,12 @@ WorkersIsReadBack = (count : ℕ) → count < 2 ^ 32
 abbrev pub SameIsReadBack : Type 0
 SameIsReadBack = TwoNamesAreReadBack (codes "same") Same
 
--- numbers of 32 bits, in decimal, the second at most 1,000
+-- 32-bit numbers in decimal, the second at most 1,000
 abbrev pub CrowdIsReadBack : Type 0
 CrowdIsReadBack = (node : List ℕ) (seats edits : ℕ) → IsName node → seats < 2 ^ 32 → edits ≤ 1000
     → command_of (line_of (codes "crowd" ∷ node ∷ decimal seats ∷ decimal edits ∷ [])) ≡ Ok (Crowd node seats edits)
 
--- these are the words of a command's line; what `put` writes is the text behind the first three words and one space
+-- these are the words of a command's line; the text of `put` is everything after the first three words and one space
 abbrev pub AreWordsOf : Command → List (List ℕ) → List ℕ → Type 0
 AreWordsOf (Node name writer) words line =
     (number : List ℕ) × (words ≡ codes "node" ∷ name ∷ number ∷ []) × (number_of number ≡ Some writer) × IsName name
@@ -143,7 +133,7 @@ AreWordsOf (Same left right) words line = (words ≡ codes "same" ∷ left ∷ r
 AreWordsOf (Crowd node seats edits) words line =
     (first : List ℕ) × (second : List ℕ) × (words ≡ codes "crowd" ∷ node ∷ first ∷ second ∷ []) × (number_of first ≡ Some seats) × (number_of second ≡ Some edits) × IsName node × (edits ≤ 1000)
 
--- a line is read as a command just where it has that command's words
+-- a line is read as a command exactly if it has that command's words
 abbrev pub JustItsWordsAreRead : Type 0
 JustItsWordsAreRead = (line : List ℕ) (command : Command) → (command_of line ≡ Ok command) ↔ AreWordsOf command (words_of line) line
 
@@ -161,12 +151,12 @@ abbrev pub BeginsWithVerb : List (List ℕ) → Type 0
 BeginsWithVerb [] = ⊥
 BeginsWithVerb (word ∷ words) = IsOneOf word verbs
 
--- a line that is no command is refused for what follows a word that names one, or because its first word names none
+-- a line that isn't a command is refused for what follows a verb, or because its first word isn't a verb
 abbrev pub OthersAreRefused : Type 0
 OthersAreRefused = (line : List ℕ) (refusal : LineRefusal) → command_of line ≡ Err refusal
     → (BeginsWithVerb (words_of line) × (refusal ≡ Arguments)) ⊎ ((BeginsWithVerb (words_of line) → ⊥) × (refusal ≡ UnknownCommand))
 
--- ---- words of a line
+-- Words of a line.
 
 words_of-line : (words : List (List ℕ)) → AllByRecursion IsWord words → words_of (line_of words) ≡ words
 words_of-line [] all = words_of-nil
@@ -177,7 +167,7 @@ read_words : (words : List (List ℕ)) → AllByRecursion IsWord words
     → command_of (line_of words) ≡ command_of_words words (line_of words)
 read_words words all = ap (λ v. command_of_words v (line_of words)) (words_of-line words all)
 
--- a text behind words
+-- a text after words
 line_of-text : (words : List (List ℕ)) (text : List ℕ) → line_of (words ++ text ∷ []) ≡ spaced words ++ text
 line_of-text [] text = refl
 line_of-text (word ∷ []) text =
@@ -187,7 +177,7 @@ line_of-text (word ∷ next ∷ words) text =
     let parts : (word ++ 32 ∷ [] ++ spaced (next ∷ words)) ++ text ≡ word ++ 32 ∷ (spaced (next ∷ words) ++ text) = simp append_assoc in
     ap (λ v. word ++ 32 ∷ v) (line_of-text (next ∷ words) text) ∙ sym parts
 
--- ---- which words may stand in a line
+-- Which words can be in a line.
 
 without : (c : ℕ) (p : ℕ → Bool) → p c ≡ false → (word : List ℕ) → list_all p word ≡ true → AllByRecursion (λ b. b ≢ c) word
 without c p free [] all = tt
@@ -213,8 +203,8 @@ node_word_is_word : (node : List ℕ) (host : Option (List ℕ)) → IsName node
 node_word_is_word node None is free = name_is_word node is
 node_word_is_word node (Some host) is free =
     let alone : IsWord node = name_is_word node is in
-    let behind : All (λ b. b ≢ 32) (64 ∷ host) = All-cons (λ b. b ≢ 32) 64 host (λ same. omega arith) free in
-    (omega (arith, alone.0, length-append node (64 ∷ host)), All-append (λ b. b ≢ 32) node (64 ∷ host) alone.1 behind)
+    let after : All (λ b. b ≢ 32) (64 ∷ host) = All-cons (λ b. b ≢ 32) 64 host (λ same. omega arith) free in
+    (omega (arith, alone.0, length-append node (64 ∷ host)), All-append (λ b. b ≢ 32) node (64 ∷ host) alone.1 after)
 
 -- each byte is a decimal digit
 abbrev AreDigits : List ℕ → Type 0
@@ -229,7 +219,7 @@ number_is_word n small = (
   All-from_recursion (λ b. b ≢ 32) (decimal n) (without 32 is_ascii_digit refl (decimal n) (digits_decimal (numerals_by_value _ tells_digits) n (omega arith))),
 )
 
--- a word of some letters, as the words are that name commands
+-- a word of letters, as all verbs are
 abbrev IsVerb : List ℕ → Type 0
 IsVerb word = (nat_lt 0 (length word) && list_all is_ascii_alphanumeric word) ≡ true
 
@@ -238,7 +228,7 @@ is_verb word is =
     let parts = and_parts _ _ is in
     (some_bytes (length word) parts.0, All-from_recursion (λ b. b ≢ 32) word (without 32 is_ascii_alphanumeric refl word parts.1))
 
--- ---- each command
+-- Each command.
 
 name_and_word_are_read_back : (verb : List ℕ) (command : List ℕ → List ℕ → Command) → IsVerb verb
     → ((words : List (List ℕ)) (line : List ℕ) → command_of_words (verb ∷ words) line ≡ with_name_and_word command words)
@@ -248,7 +238,7 @@ name_and_word_are_read_back verb command letters reads name word is at =
     read_words words (is_verb verb letters, (name_is_word name is, (at, tt)))
     ∙ reads (name ∷ word ∷ []) (line_of words) ∙ cond-true _ _ _ is
 
--- a node of a lawful name and a host are what is read of their word
+-- a node with a valid name and a host are read back from their word
 pub node_word_is_cut : (node : List ℕ) (host : Option (List ℕ)) (command : List ℕ → Option (List ℕ) → Command) → IsName node
     → let word = node_word node host in
     ◌≡◌ {A = Result Command LineRefusal} (cond (is_name (node_in word)) (Ok (command (node_in word) (host_in word))) (Err Arguments)) (Ok (command node host))

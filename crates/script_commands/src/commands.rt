@@ -1,4 +1,4 @@
-//! Commands, and why they are refused.
+//! Commands, and the reasons why they are refused.
 ghost use Rattle.std.specs.Prelude.{◌≡◌, ℕ, List};
 ghost use Rattle.script_commands.specs.declared.commands.Fault.TheVariants.{Refused, Memory};
 ghost use Rattle.script_commands.specs.Faults.{fault_of_place, fault_of_host, fault_of_content, fault_of_name, fault_of_edit};
@@ -13,7 +13,7 @@ use std::alloc::{AllocError, AllocFailed};
 use std::marker::Model;
 use unit_name::{NameFault, UnitName};
 
-/// Some bytes of a line.
+/// A word: some bytes of a line.
 #[derive(Drop)]
 pub struct Word<'a> {
     bytes: &'a [u8],
@@ -26,14 +26,14 @@ impl<'a> Model for Word<'a> {
 }
 
 impl<'a> Word<'a> {
-    /// These bytes as a word.
+    /// Makes a word of these bytes.
     pub fn new(bytes: &'a [u8]) -> Self
         ensures bytes { result ≡ bytes.now }
     {
         Word { bytes }
     }
 
-    /// The bytes.
+    /// Borrows the bytes.
     pub fn as_slice(&self) -> &'a [u8]
         ensures bytes { result.now ≡ self.now }
     {
@@ -41,7 +41,7 @@ impl<'a> Word<'a> {
     }
 }
 
-/// The words that are left of a line.
+/// The remaining words of a line.
 #[derive(Drop)]
 pub struct Words<'a> {
     rest: &'a [u8],
@@ -60,14 +60,14 @@ impl<'a> Words<'a> {
     ghost use Rattle.std.specs.Prelude.{◌≡◌, [], ◌∷◌, MatchOption};
     ghost use Rattle.script_words.specs.Words.{words_of};
 
-    /// The words of these bytes.
+    /// Returns the words of these bytes.
     pub fn new(rest: &'a [u8]) -> Self
         ensures words { result ≡ words_of rest.now }
     {
         Words { rest }
     }
 
-    /// Takes the first of them, if there is one.
+    /// Removes and returns the first word, if any.
     pub fn take_first(&mut self) -> Option<&'a [u8]>
         ensures first { MatchOption result ((self.old ≡ []) × (self.new ≡ []))
             (λ word. self.old ≡ word.now ∷ self.new) }
@@ -78,89 +78,90 @@ impl<'a> Words<'a> {
     }
 }
 
-/// What a line asks for.
+/// A command: what a line asks for.
 #[derive(Drop)]
 pub enum Command<'a> {
-    /// A new node of a name, under a writer number.
+    /// Adds a node with a name and a writer number.
     Node {
         name: Word<'a>,
         writer: u32,
     },
-    /// A file put at a place of a node.
+    /// Writes a file at a place of a node.
     Put {
         node: Word<'a>,
         place: Word<'a>,
         text: Word<'a>,
     },
-    /// A link put at a place of a node.
+    /// Writes a link at a place of a node.
     Link {
         node: Word<'a>,
         place: Word<'a>,
         target: Word<'a>,
     },
-    /// What is visible at a place of a node, removed.
+    /// Removes what is visible at a place of a node.
     Remove {
         node: Word<'a>,
         place: Word<'a>,
     },
-    /// One node is given all that it lacks of another.
+    /// Gives one node everything that it lacks of another.
     Merge {
         from: Word<'a>,
         to: Word<'a>,
     },
-    /// What one node cuts for the ask of another, at these places or at all, kept under a name.
+    /// Cuts a piece at one node for the ask of another, at these places or at all, and stores it under a name.
     Part {
         piece: Word<'a>,
         from: Word<'a>,
         to: Word<'a>,
         places: Words<'a>,
     },
-    /// A piece, given to a node.
+    /// Gives a piece to a node.
     Send {
         piece: Word<'a>,
         node: Word<'a>,
     },
-    /// Every node is merged into the first, and then the first into every node.
+    /// Brings all nodes to one store: the first takes in what the others hold, then each takes in the first.
     Sweep,
-    /// All that a node holds.
+    /// Lists everything that a node holds.
     Files {
         node: Word<'a>,
     },
-    /// The files of a unit, as a node has them for a host or for the fleet. The host is unread, here and below.
+    /// Prints the files of a unit, as a node has them for a host or for the fleet. The host isn't parsed yet, here and
+    /// below.
     Cat {
         node: Word<'a>,
         host: Option<Word<'a>>,
         unit: Word<'a>,
     },
-    /// A unit, as a node's units come to it: its names, files, values, dependencies and notes.
+    /// Shows a unit, evaluated from a node's files: its names, files, values, dependencies and notes.
     Show {
         node: Word<'a>,
         host: Option<Word<'a>>,
         unit: Word<'a>,
     },
-    /// All that a unit pulls, as a node's units come to it, each with its least distance.
+    /// Lists everything that a unit pulls, evaluated from a node's files, each with its least distance.
     List {
         node: Word<'a>,
         host: Option<Word<'a>>,
         unit: Word<'a>,
     },
-    /// What starts and what stops where a unit is to start while others run, as a node's units come to it.
+    /// Plans what stops and what starts if a unit is to start while others run, evaluated from a node's files.
     Plan {
         node: Word<'a>,
         host: Option<Word<'a>>,
         unit: Word<'a>,
         running: Words<'a>,
     },
-    /// So many workers load from now on.
+    /// Sets the number of workers for later loads.
     Workers {
         count: u32,
     },
-    /// Whether two nodes hold the same.
+    /// Asks whether two nodes hold the same.
     Same {
         left: Word<'a>,
         right: Word<'a>,
     },
-    /// A crowd of so many workers, each with so many edits, on a copy of what a node holds.
+    /// Runs a crowd of `seats` workers, each of which makes `edits` edits, on a copy of what a node holds.
     Crowd {
         node: Word<'a>,
         seats: u32,
@@ -168,7 +169,7 @@ pub enum Command<'a> {
     },
 }
 
-/// Why a line is refused. The nodes are then as they were.
+/// Why a line is refused. The nodes are unchanged then.
 #[derive(Debug, Drop)]
 pub enum LineRefusal {
     UnknownCommand,
@@ -179,7 +180,7 @@ pub enum LineRefusal {
     NodeTaken,
     WriterTaken,
     LineTooLong,
-    /// What stands before a path's first colon, or behind a node's first at sign, names no host.
+    /// The text before a path's first colon, or after a node's first at sign, isn't a host.
     HostName,
     Directory,
     Depth,
@@ -191,21 +192,21 @@ pub enum LineRefusal {
     Length,
     Kind,
     EmptyPrefix,
-    /// The place of the byte that no name has.
+    /// The index of the byte that isn't allowed in names.
     BadByte(usize),
-    /// The unit whose file isn't there.
+    /// The unit whose file doesn't exist.
     NotFound(UnitName),
     /// The unit that is masked.
     Masked(UnitName),
     /// The unit that is bad.
     Bad(UnitName),
-    /// A template stands where a unit is asked for.
+    /// A template was given where a unit is needed.
     Template,
-    /// The workers aren't 1 to 64.
+    /// The number of workers isn't 1 to 64.
     Workers,
     /// More names must be loaded than a load may have.
     TooManyUnits,
-    /// The unit that is to start refuses that a person starts it.
+    /// The unit to start refuses a manual start.
     ManualStart,
     /// A unit that must start, and its requisite that doesn't run.
     Requisite(UnitName, UnitName),
@@ -213,16 +214,16 @@ pub enum LineRefusal {
     Conflict(UnitName, UnitName),
     /// Units that are to start and wait for each other, each before the next.
     Cycle(Items<UnitName>),
-    /// The seats of a crowd aren't 1 to 64.
+    /// The number of a crowd's seats isn't 1 to 64.
     Seats,
 }
 
-/// Why a command was not done.
+/// Why a command wasn't executed.
 #[derive(Debug, Drop)]
 pub enum Fault {
-    /// It is refused.
+    /// The command is refused.
     Refused(LineRefusal),
-    /// Memory was refused.
+    /// Memory ran out.
     Memory,
 }
 

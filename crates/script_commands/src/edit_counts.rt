@@ -1,12 +1,12 @@
-//! How many edits each worker of a crowd makes.
+//! The number of edits of each worker of a crowd.
 ghost use Rattle.std.specs.Prelude.{◌≡◌, ◌<◌, ◌≤◌, MatchOption};
 
 use std::marker::Model;
 
-// A worker of a crowd makes at most so many edits.
+// The most edits of one worker.
 const MOST_EDITS: u32 = 1_000;
 
-/// How many edits each worker of a crowd makes: 0 to 1,000.
+/// The number of edits that each worker of a crowd makes: 0 to 1,000.
 #[derive(Debug, Drop)]
 pub struct EditCount {
     count: u32,
@@ -23,7 +23,7 @@ impl Model for EditCount {
 }
 
 impl EditCount {
-    /// So many edits. None where they are over 1,000.
+    /// Makes a number of edits; `None` for more than 1,000.
     pub fn of(count: u32) -> Option<EditCount>
         ensures edits { MatchOption result (1000 < count) (λ edits. (edits ≡ count) × (count ≤ 1000)) }
     {
@@ -33,7 +33,7 @@ impl EditCount {
         Some(EditCount { count })
     }
 
-    /// How many they are.
+    /// Returns the number.
     pub fn count(&self) -> u32
         ensures count { result ≡ self.now }
         ensures within { result ≤ 1000 }

@@ -10,7 +10,7 @@ use crate::host_words::cut_host;
 use script_words::{cut_word, is_name, parse_number, text_of_rest};
 use std::marker::Model;
 
-/// What is left of a line. A field that isn't there, or isn't of its kind, is refused.
+/// The remaining text of a line. A field that is missing, or isn't of the expected kind, is refused.
 #[derive(Drop)]
 pub(crate) struct Fields<'a> {
     rest: &'a [u8],
@@ -25,14 +25,14 @@ impl<'a> Model for Fields<'a> {
 }
 
 impl<'a> Fields<'a> {
-    /// The fields of this line.
+    /// Returns the fields of a line.
     pub(crate) fn new(line: &'a [u8]) -> Self
         ensures line { result ≡ line.now }
     {
         Fields { rest: line }
     }
 
-    /// The next word.
+    /// Reads the next word.
     pub(crate) fn word(&mut self) -> Result<Word<'a>, LineRefusal>
         ensures word { MatchResult result (λ word. words_of self.old ≡ word ∷ words_of self.new)
             (λ refusal. (refusal ≡ Arguments) × (words_of self.old ≡ [])) }
@@ -45,7 +45,7 @@ impl<'a> Fields<'a> {
         Ok(Word::new(word))
     }
 
-    /// The next word, which is a name.
+    /// Reads the next word, which must be a name.
     pub(crate) fn name(&mut self) -> Result<Word<'a>, LineRefusal>
         ensures name { MatchResult result
             (λ name. (words_of self.old ≡ name ∷ words_of self.new) × (is_name name ≡ true))
@@ -59,7 +59,8 @@ impl<'a> Fields<'a> {
         Ok(name)
     }
 
-    /// The next word, which is a node's name, or one, an at sign and a host, which is kept unread.
+    /// Reads the next word, which must be a node's name, alone or followed by an at sign and a host. The host isn't
+    /// parsed.
     pub(crate) fn node_and_host(&mut self) -> Result<(Word<'a>, Option<Word<'a>>), LineRefusal>
         ensures cut { MatchResult result
             (λ cut. BeginsWithNode cut.0 cut.1 (words_of self.old) (words_of self.new))
@@ -73,7 +74,7 @@ impl<'a> Fields<'a> {
         Ok((node, host))
     }
 
-    /// Nothing more.
+    /// Checks that no word remains.
     pub(crate) fn end(self) -> Result<(), LineRefusal>
         ensures end { MatchResult result (λ _. words_of self.entry ≡ [])
             (λ refusal. (refusal ≡ Arguments) × (words_of self.entry ≢ [])) }
@@ -84,7 +85,7 @@ impl<'a> Fields<'a> {
         }
     }
 
-    /// The one word that is left.
+    /// Reads the only remaining word.
     pub(crate) fn last_word(mut self) -> Result<Word<'a>, LineRefusal>
         ensures word { MatchResult result (λ word. words_of self.entry ≡ word ∷ [])
             (λ refusal. (refusal ≡ Arguments) × AreNotOne (words_of self.entry)) }
@@ -94,7 +95,7 @@ impl<'a> Fields<'a> {
         Ok(word)
     }
 
-    /// The one word that is left, which is a name.
+    /// Reads the only remaining word, which must be a name.
     pub(crate) fn last_name(mut self) -> Result<Word<'a>, LineRefusal>
         ensures name { MatchResult result
             (λ name. (words_of self.entry ≡ name ∷ []) × (is_name name ≡ true))
@@ -105,7 +106,7 @@ impl<'a> Fields<'a> {
         Ok(name)
     }
 
-    /// The number that the next word writes.
+    /// Reads the next word as a number.
     pub(crate) fn number(&mut self) -> Result<u32, LineRefusal>
         ensures number { MatchResult result
             (λ number. BeginsWithNumber number (words_of self.old) (words_of self.new))
@@ -115,7 +116,7 @@ impl<'a> Fields<'a> {
         parse_number(word.as_slice()).ok_or(LineRefusal::Arguments)
     }
 
-    /// The number that the one word that is left writes.
+    /// Reads the only remaining word as a number.
     pub(crate) fn last_number(mut self) -> Result<u32, LineRefusal>
         ensures number { MatchResult result
             (λ number. BeginsWithNumber number (words_of self.entry) [])
@@ -126,7 +127,7 @@ impl<'a> Fields<'a> {
         Ok(number)
     }
 
-    /// The number of edits that the one word that is left writes.
+    /// Reads the only remaining word as a number of edits.
     pub(crate) fn last_edit_count(self) -> Result<EditCount, LineRefusal>
         ensures edits { MatchResult result
             (λ edits. BeginsWithNumber edits (words_of self.entry) [] × (edits ≤ 1000))
@@ -135,14 +136,14 @@ impl<'a> Fields<'a> {
         EditCount::of(self.last_number()?).ok_or(LineRefusal::Arguments)
     }
 
-    /// All words that are left.
+    /// Returns all remaining words.
     pub(crate) fn rest(self) -> Words<'a>
         ensures words { result ≡ words_of self.entry }
     {
         Words::new(self.rest)
     }
 
-    /// The text behind the last word that was read and one space.
+    /// Returns the text after the last word read and one space.
     pub(crate) fn text(self) -> Word<'a>
         ensures text { result ≡ text_after 0 self.entry }
     {

@@ -1,4 +1,4 @@
-//! The hosts that words ask for: a node's word may have one behind an at sign.
+//! The host in a node's word, after an at sign.
 ghost use Rattle.std.specs.Prelude.{◌≡◌, Ok, MatchResult, position};
 ghost use Rattle.script_commands.specs.Hosts.{IsHostFault, host_asked, host_in, is_at, node_in};
 
@@ -6,8 +6,8 @@ use crate::commands::{Fault, Word};
 use load_places::HostName;
 use std::alloc::Global;
 
-/// Cuts a word at its first at sign: the node before it, and the host behind it, unread. A word without one is a node
-/// alone.
+/// Splits a word at its first at sign into the node before it and the host after it, which isn't parsed. A word without
+/// an at sign is only a node.
 pub(crate) fn cut_host(word: &[u8]) -> (Word<'_>, Option<Word<'_>>)
     ensures node { result.0 ≡ node_in word.now }
     ensures host { result.1 ≡ host_in word.now }
@@ -18,14 +18,15 @@ pub(crate) fn cut_host(word: &[u8]) -> (Word<'_>, Option<Word<'_>>)
     }
 }
 
-// Where the first at sign stands.
+// Returns the index of the first at sign.
 fn first_at(word: &[u8]) -> Option<usize>
     ensures position { result ≡ position is_at word.now }
 {
     word.iter().position(|b| *b == b'@')
 }
 
-/// The host that is asked for, if one is, or that these bytes name none. Want of memory comes only where they name one.
+/// Parses the host, if one is asked for, or returns that these bytes aren't a host. `Memory` if memory runs out, which
+/// happens only for a valid host.
 pub fn read_host(alloc: Global, asked: Option<Word<'_>>) -> Result<Option<HostName>, Fault>
     ensures read { MatchResult result (λ host. host_asked asked.entry ≡ Ok host) (IsHostFault (host_asked asked.entry)) }
 {

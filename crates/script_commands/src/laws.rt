@@ -1,10 +1,10 @@
-//! Laws of commands: each is read back from how it is written.
+//! Laws of commands: each is read back from its written form.
 ghost use Rattle.script_commands.specs.WrittenLaws.{CatIsReadBack, CrowdIsReadBack, EmptyPutIsReadBack, FilesIsReadBack, JustItsWordsAreRead, LinkIsReadBack, ListIsReadBack, MergeIsReadBack, NodeIsReadBack, OthersAreRefused, PartIsReadBack, PlanIsReadBack, PutIsReadBack, RemoveIsReadBack, SameIsReadBack, SendIsReadBack, ShowIsReadBack, SweepIsReadBack, WorkersIsReadBack};
 
-/// Each command is read back from its words with one space between each two: names as names may be,
-/// numbers in decimal, and places, targets and units as any words; a node that units are asked of
-/// with or without an at sign and a host behind it, which is any bytes but spaces. What `put` writes
-/// is all that follows the place and one space.
+/// Each command is read back from its words, written with one space between them. Names are valid names; numbers are in
+/// decimal; places, targets and units are any words. A node whose units are asked for is written with or without an at
+/// sign and a host, which is any bytes other than spaces. The text of `put` is everything after the place and one
+/// space.
 pub fn commands_read_back()
     ensures node { NodeIsReadBack }
     ensures put { PutIsReadBack }
@@ -24,7 +24,7 @@ pub fn commands_read_back()
     ensures same { SameIsReadBack }
     ensures crowd { CrowdIsReadBack }
 
-    // However many spaces there are, a line is a command just where it has that command's words.
+    // With any number of spaces, a line is read as a command exactly if it has the words of that command.
     ensures words { JustItsWordsAreRead }
     ensures others { OthersAreRefused }
 {}

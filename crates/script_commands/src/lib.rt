@@ -1,9 +1,12 @@
-//! Commands of a script: what a line asks for, and why one is refused. What a line asks for is a function of the
-//! line alone (`specs/Commands.antt`).
+//! The commands of a script: what a line asks for, and why a line is refused. Parsing depends on the line alone
+//! (`specs/Commands.antt`), not on any node.
 //!
 //! Promise: the script's answers; refusals are named.
 //!
-//! Whatever a command needs of the nodes comes later.
+//! - `parse` returns the `Command` of a line, or a `LineRefusal`.
+//! - `read_place`, `read_places`, `read_file`, `read_link` and `read_host` parse the words of a command; a `Fault` is a
+//!   refusal or `Memory`.
+//! - `commands_read_back` is the law that written commands are read back.
 #![tactic(auto)]
 
 mod commands;

@@ -1,4 +1,4 @@
-//! From a line to a command.
+//! Parsing a line into a command.
 ghost use Rattle.std.specs.{Prelude.{◌≡◌}, Str.{bytes_eq}};
 ghost use Rattle.script_words.specs.Words.{words_of, text_after};
 ghost use Rattle.script_commands.specs.Commands.{change_of, command_of, question_of, unit_question_of};
@@ -6,7 +6,7 @@ ghost use Rattle.script_commands.specs.Commands.{change_of, command_of, question
 use crate::commands::{Command, LineRefusal};
 use crate::fields::Fields;
 
-/// The command of a line, or why it is none. Linear in the line, without memory.
+/// Returns the command of a line, or why it isn't one. Linear in the line. Allocates nothing.
 pub fn parse(line: &[u8]) -> Result<Command<'_>, LineRefusal>
     ensures command { result ≡ command_of line.now }
 {
@@ -17,7 +17,7 @@ pub fn parse(line: &[u8]) -> Result<Command<'_>, LineRefusal>
     change(verb.as_slice(), fields)
 }
 
-// The command that this word begins.
+// Returns the command that this word begins.
 fn change<'a>(verb: &[u8], mut fields: Fields<'a>) -> Result<Command<'a>, LineRefusal>
     ensures command { result ≡ change_of verb.now (words_of fields.entry) (text_after 2 fields.entry) }
 {
@@ -68,7 +68,7 @@ fn change<'a>(verb: &[u8], mut fields: Fields<'a>) -> Result<Command<'a>, LineRe
     }
 }
 
-// The command that this word begins, if it changes no node.
+// Returns the command that this word begins, if it changes no node.
 fn question<'a>(verb: &[u8], mut fields: Fields<'a>) -> Result<Command<'a>, LineRefusal>
     ensures command { result ≡ question_of verb.now (words_of fields.entry) }
 {
@@ -96,7 +96,7 @@ fn question<'a>(verb: &[u8], mut fields: Fields<'a>) -> Result<Command<'a>, Line
     }
 }
 
-// The command that this word begins, if it asks for units of a node.
+// Returns the command that this word begins, if it asks for units of a node.
 fn unit_question<'a>(verb: &[u8], mut fields: Fields<'a>) -> Result<Command<'a>, LineRefusal>
     ensures command { result ≡ unit_question_of verb.now (words_of fields.entry) }
 {
@@ -125,7 +125,7 @@ fn unit_question<'a>(verb: &[u8], mut fields: Fields<'a>) -> Result<Command<'a>,
     }
 }
 
-// Whether a word is this one.
+// Returns whether two words are equal.
 fn is_same(word: &[u8], other: &[u8]) -> bool
     ensures same { result ≡ bytes_eq word.now other.now }
 {

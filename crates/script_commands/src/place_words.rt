@@ -1,4 +1,4 @@
-//! What the words behind a command's nodes write: places, files and links.
+//! Parsing the words after a command's nodes: places, files and links.
 ghost use Rattle.std.specs.Prelude.{◌≡◌, ◌⊎◌, Ok, Err, MatchResult};
 ghost use Rattle.load_places.specs.Texts.{place_of};
 ghost use Rattle.script_commands.specs.{Files.{IsFileOf, IsLinkTo, IsNoFile, IsNoLink}, Places.{IsPlaceFault, places_of}};
@@ -9,7 +9,7 @@ use load_places::Place;
 use script_words::unescape;
 use std::alloc::Global;
 
-/// The place that a word writes, or the first thing wrong with it. Want of memory comes only where it writes one.
+/// Parses a place, or returns the first fault in it. `Memory` if memory runs out, which happens only for a valid place.
 pub fn read_place(alloc: Global, text: &[u8]) -> Result<Place, Fault>
     ensures read { MatchResult result (λ place. place_of text.now ≡ Ok place) (IsPlaceFault (place_of text.now)) }
 {
@@ -19,8 +19,8 @@ pub fn read_place(alloc: Global, text: &[u8]) -> Result<Place, Fault>
     }
 }
 
-/// The places that the words of a line write, or the first thing wrong with the first word that writes none. Want of
-/// memory may come in place of any answer.
+/// Parses the places that the words of a line spell, or returns the first fault in the first word that isn't a place.
+/// `Memory` if memory runs out, whatever the words are.
 pub fn read_places(alloc: Global, mut texts: Words<'_>) -> Result<Vec<Place>, Fault>
     ensures read { MatchResult result (λ places. places_of texts.entry ≡ Ok places.items)
         (IsPlaceFault (places_of texts.entry)) }
@@ -33,7 +33,7 @@ pub fn read_places(alloc: Global, mut texts: Words<'_>) -> Result<Vec<Place>, Fa
     Ok(places)
 }
 
-/// The file that a text spells, or why there is none.
+/// Returns the file that a text spells, or why it spells none.
 pub fn read_file(alloc: Global, text: &[u8]) -> Result<Content, Fault>
     ensures read { MatchResult result (IsFileOf text.now) (IsNoFile text.now) }
 {
@@ -46,7 +46,7 @@ pub fn read_file(alloc: Global, text: &[u8]) -> Result<Content, Fault>
     }
 }
 
-/// The link to a target, if links may have it.
+/// Returns the link to a target, if the target is valid.
 pub fn read_link(alloc: Global, target: &[u8]) -> Result<Content, Fault>
     ensures read { MatchResult result (IsLinkTo target.now) (IsNoLink target.now) }
 {

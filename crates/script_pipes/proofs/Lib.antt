@@ -1,3 +1,4 @@
+pub mod Prelude
 pub mod FaultLemmas
 pub mod ReadLemmas
 pub mod WriteLemmas

@@ -1,11 +1,9 @@
 -- Steps of reading a source to its end.
-use Rattle.std.proofs.Common.{◌≡◌, ◌+◌, ◌≤◌, ◌<◌, ◌⊎◌, inl, inr, ⊎_elim, ℕ, true, List, ◌++◌, length, Option, length-append, subst, sym, arith}
+use Rattle.std.proofs.Common.{◌++◌, ◌+◌, ◌<◌, ◌≡◌, ◌≤◌, ◌⊎◌, arith, inl, inr, length, length-append, List, Option, subst, sym, true, ℕ, ⊎_elim}
 use Rattle.std.specs.Io.KnownBytes.{Consumes, Keeps}
-use Rattle.script_pipes.specs.Failures.{FailedSince, count_with}
-use Rattle.script_pipes.specs.FailuresLaws.{count_with-le, count_with-le_succ, FailedSince-count_with, FailedSince-before}
-use Rattle.script_pipes.specs.KnownBytesLaws.{Consumes-append, Consumes-keeps}
+use Rattle.script_pipes.proofs.Prelude.{Consumes-append, Consumes-keeps, count_with, count_with-le, count_with-le_succ, FailedSince, FailedSince-before, FailedSince-count_with}
 
--- The script so far was read, within the limits, and each turn that didn't fail gave a byte.
+-- The state of the loop: the script so far was read, within the limits, and each turn that didn't fail returned a byte.
 pub record IsReadTo (old now : Option (List ℕ)) (reads_before reads failures_before failures turn : ℕ) (script : List ℕ) : Type 0 where
   pub consumes : Consumes old now script
   pub within : length script ≤ 16777216
@@ -13,7 +11,7 @@ pub record IsReadTo (old now : Option (List ℕ)) (reads_before reads failures_b
   pub kept : failures_before ≤ failures
   pub gave : FailedSince failures_before failures ⊎ (turn ≤ length script)
 
--- a read gave more bytes
+-- a read returned more bytes
 pub read_more : (old now next : Option (List ℕ)) (reads_before reads reads_next failures_before failures failures_next turn : ℕ) (script bytes : List ℕ)
     → IsReadTo old now reads_before reads failures_before failures turn script → Consumes now next bytes → 0 < length bytes → length script + length bytes ≤ 16777216
     → reads_next ≡ count_with true reads → failures_next ≡ failures → IsReadTo old next reads_before reads_next failures_before failures_next (turn + 1) (script ++ bytes)

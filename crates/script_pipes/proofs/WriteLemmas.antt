@@ -1,18 +1,17 @@
 -- Steps of writing all of some bytes.
-use Rattle.std.proofs.Common.{◌≡◌, ℕ, List, ◌++◌, take, drop, Option, sym, ap, subst, ◌∙◌, append_assoc}
-use Rattle.std.specs.Io.KnownBytes.{Appends, Keeps}
+use Rattle.std.proofs.Common.{◌++◌, ◌∙◌, ◌≡◌, ap, append_assoc, drop, List, Option, subst, sym, take, ℕ}
 use Rattle.std.proofs.lemmas.List.{take-append-drop}
-use Rattle.script_pipes.specs.KnownBytes.{AppendsFront}
-use Rattle.script_pipes.specs.KnownBytesLaws.{Appends-append, AppendsFront-keeps}
+use Rattle.std.specs.Io.KnownBytes.{Appends, Keeps}
+use Rattle.script_pipes.proofs.Prelude.{Appends-append, AppendsPrefix, AppendsPrefix-keeps}
 
--- Some of the bytes were written, none was refused, and the rest is left.
+-- The state of the loop: some bytes were written, no write failed, and the rest remains.
 pub record IsWrittenTo (old now : Option (List ℕ)) (refused_before refused : ℕ) (bytes rest : List ℕ) : Type 0 where
   pub done : List ℕ
   pub parts : bytes ≡ done ++ rest
   pub appends : Appends old now done
   pub unrefused : refused ≡ refused_before
 
--- a write took the first n bytes of the rest
+-- a write accepted the first n bytes of the rest
 pub write_more : (old now next : Option (List ℕ)) (refused_before refused refused_next : ℕ) (bytes rest : List ℕ) (n : ℕ) → IsWrittenTo old now refused_before refused bytes rest
     → Appends now next (take n rest) → refused_next ≡ refused → IsWrittenTo old next refused_before refused_next bytes (drop n rest)
 write_more old now next refused_before refused refused_next bytes rest n so_far took same = record {
@@ -22,7 +21,7 @@ write_more old now next refused_before refused refused_next bytes rest n so_far 
   unrefused = same ∙ so_far.unrefused;
 }
 
--- a write was refused
-pub write_stops : (old now next : Option (List ℕ)) (refused_before refused : ℕ) (bytes rest : List ℕ) → IsWrittenTo old now refused_before refused bytes rest → Keeps now next → AppendsFront old next bytes
+-- a write failed
+pub write_stops : (old now next : Option (List ℕ)) (refused_before refused : ℕ) (bytes rest : List ℕ) → IsWrittenTo old now refused_before refused bytes rest → Keeps now next → AppendsPrefix old next bytes
 write_stops old now next refused_before refused bytes rest so_far kept =
-    subst (λ v. AppendsFront old next v) (sym so_far.parts) (AppendsFront-keeps old now next so_far.done rest so_far.appends kept)
+    subst (λ v. AppendsPrefix old next v) (sym so_far.parts) (AppendsPrefix-keeps old now next so_far.done rest so_far.appends kept)

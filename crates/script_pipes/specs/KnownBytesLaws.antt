@@ -1,21 +1,21 @@
 -- Known bytes over several calls.
-use Rattle.std.proofs.Common.{◌+◌, ℕ, List, [], ◌++◌, length, take, Option, Some, None, refl, sym, ap, subst, ◌∙◌, append_assoc}
-use Rattle.std.specs.Io.KnownBytes.{Appends, Consumes, Keeps}
+use Rattle.std.proofs.Common.{[], ◌++◌, ◌+◌, ◌∙◌, ap, append-nil, append_assoc, length, List, None, Option, refl, Some, subst, sym, take, ℕ}
 use Rattle.std.proofs.Math.Seq.{take-append-add}
-use Rattle.std.proofs.lemmas.List.{append-nil, take_at}
-use Rattle.script_pipes.specs.KnownBytes.{AreAll, AppendsFront}
+use Rattle.std.proofs.lemmas.List.{take_at}
+use Rattle.std.specs.Io.KnownBytes.{Appends, Consumes, Keeps}
+use Rattle.script_pipes.specs.KnownBytes.{AppendsPrefix, AreAll}
 
--- there are bytes that are all of the known ones
+-- some bytes are all of the known ones
 pub AreAll-some : (known : Option (List ℕ)) → (bytes : List ℕ) × AreAll known bytes
 AreAll-some None = ([], tt)
 AreAll-some (Some bytes) = (bytes, refl)
 
--- a sink that isn't used takes nothing
+-- a sink that isn't used accepts nothing
 pub Appends-nothing : (known : Option (List ℕ)) → Appends known known []
 Appends-nothing None = tt
 Appends-nothing (Some bytes) = sym (append-nil bytes)
 
--- what is written later stands behind what was written
+-- later writes are appended to earlier ones
 pub Appends-append : (old mid new : Option (List ℕ)) (xs ys : List ℕ) → Appends old mid xs → Appends mid new ys → Appends old new (xs ++ ys)
 Appends-append None mid new xs ys p q = tt
 Appends-append (Some a) None new xs ys p q = absurd p
@@ -28,23 +28,23 @@ Appends-keeps (Some a) None new xs p q = absurd p
 Appends-keeps (Some a) (Some b) None xs p q = absurd q
 Appends-keeps (Some a) (Some b) (Some c) xs p q = q ∙ p
 
--- what was written before a write that took nothing is a front of all that was to be written
-pub AppendsFront-keeps : (old mid new : Option (List ℕ)) (xs ys : List ℕ) → Appends old mid xs → Keeps mid new → AppendsFront old new (xs ++ ys)
-AppendsFront-keeps old mid new xs ys p q =
+-- if a write accepted nothing, what was written before is a prefix of everything to write
+pub AppendsPrefix-keeps : (old mid new : Option (List ℕ)) (xs ys : List ℕ) → Appends old mid xs → Keeps mid new → AppendsPrefix old new (xs ++ ys)
+AppendsPrefix-keeps old mid new xs ys p q =
     (length xs, subst (λ v. Appends old new v) (sym (take_at xs ys (length xs) refl)) (Appends-keeps old mid new xs p q))
 
--- a front that is written later stands behind what was written
-pub AppendsFront-append : (old mid new : Option (List ℕ)) (xs ys : List ℕ) → Appends old mid xs → AppendsFront mid new ys → AppendsFront old new (xs ++ ys)
-AppendsFront-append old mid new xs ys p q = (length xs + q.0, subst (λ v. Appends old new v) (sym (take-append-add xs ys q.0)) (Appends-append old mid new xs (take q.0 ys) p q.1))
+-- a prefix written later is appended to what was written before
+pub AppendsPrefix-append : (old mid new : Option (List ℕ)) (xs ys : List ℕ) → Appends old mid xs → AppendsPrefix mid new ys → AppendsPrefix old new (xs ++ ys)
+AppendsPrefix-append old mid new xs ys p q = (length xs + q.0, subst (λ v. Appends old new v) (sym (take-append-add xs ys q.0)) (Appends-append old mid new xs (take q.0 ys) p q.1))
 
--- what is read later stood behind what was read
+-- bytes read later followed those read before
 pub Consumes-append : (old mid new : Option (List ℕ)) (xs ys : List ℕ) → Consumes old mid xs → Consumes mid new ys → Consumes old new (xs ++ ys)
 Consumes-append None mid new xs ys p q = tt
 Consumes-append (Some a) None new xs ys p q = absurd p
 Consumes-append (Some a) (Some b) None xs ys p q = absurd q
 Consumes-append (Some a) (Some b) (Some c) xs ys p q = p ∙ ap (λ v. xs ++ v) q ∙ sym (append_assoc xs ys c)
 
--- a read that gave nothing keeps what is left
+-- a read that returned nothing keeps the remaining bytes
 pub Consumes-keeps : (old mid new : Option (List ℕ)) (xs : List ℕ) → Consumes old mid xs → Keeps mid new → Consumes old new xs
 Consumes-keeps None mid new xs p q = tt
 Consumes-keeps (Some a) None new xs p q = absurd p

@@ -1,8 +1,8 @@
 -- What contracts see of a watched reader or writer.
 -- Source: this project's own.
-use Rattle.std.specs.Prelude.{ℕ}
+use Rattle.std.proofs.Common.{ℕ}
 
--- the reader or writer itself, how many reads it was asked for, and how many calls failed or took no byte
+-- the reader or writer itself, the number of its reads, and the number of calls that failed or accepted no byte
 pub record Watch (T : Type 0) : Type 0 where
   pub inner : T
   pub reads : ℕ

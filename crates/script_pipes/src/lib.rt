@@ -1,10 +1,10 @@
-//! A script that is read to its end within limits, and answers that are written, with their faults. A fault comes
-//! only where a call failed or a limit was passed.
+//! Input and output of scripts: reads a whole script within limits, and writes the answers. A source and a sink count
+//! failed calls, so that a contract can say that a fault occurs only if a call failed or a limit was exceeded.
 //!
 //! Promise: the script's answers.
 //!
-//! The readers and writers of std don't say in their contracts whether a call failed. Here a source and a sink
-//! count that, so a fault in a result can't be made up.
+//! The contracts of std's readers and writers don't say whether a call failed, so `Watched` counts the calls of one and
+//! makes it a `Source` or a `Sink`. `read_all` reads a script from a source, and `write_all` writes bytes to a sink.
 #![tactic(auto)]
 
 mod reading;

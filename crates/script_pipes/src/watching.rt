@@ -1,4 +1,4 @@
-//! The readers and writers of std as sources and sinks.
+//! Readers and writers of std as sources and sinks.
 ghost use Rattle.std.specs.Prelude.{◌≡◌, true};
 ghost use Rattle.script_pipes.specs.{Failures.{count_with}, Watch.{Watch}};
 
@@ -8,7 +8,7 @@ use std::io;
 use std::io::{Read, Write};
 use std::marker::Model;
 
-/// A reader or a writer of std, with counts of its reads and of its calls that failed or took no byte.
+/// A reader or writer of std, with the number of its reads, and of its calls that failed or accepted no byte.
 #[derive(Drop)]
 pub struct Watched<T> {
     inner: T,
@@ -23,7 +23,7 @@ impl<T> Model for Watched<T> {
 }
 
 impl<T> Watched<T> {
-    /// Watches a reader or a writer from now on.
+    /// Wraps a reader or writer, with counts of 0.
     pub fn new(inner: T) -> Self
         ensures fresh { result ≡ record { inner = inner; reads = 0; failed = 0 } }
     {
@@ -34,7 +34,7 @@ impl<T> Watched<T> {
         }
     }
 
-    /// Gives the reader or the writer back.
+    /// Returns the reader or writer.
     pub fn into_inner(self) -> T
         ensures inner { result ≡ self.inner }
     {
@@ -47,7 +47,7 @@ impl<T> Watched<T> {
     }
 }
 
-/// A count with one more.
+// Returns the count plus one; it saturates.
 fn one_more(count: u64) -> u64
     ensures value { result ≡ count_with true count }
 {

@@ -1,3 +1,4 @@
+pub mod Prelude
 pub mod NumberLemmas
 pub mod TextLemmas
 pub mod WordLemmas

@@ -1,13 +1,13 @@
--- A step of reading a number.
-use Rattle.std.proofs.Common.{◌≡◌, ◌<◌, ◌≤◌, ◌+◌, ◌-◌, ◌*◌, ◌^◌, ℕ, true, false, List, length, get_or, ⊎_elim, sym, ◌∙◌, add-one, arith}
-use Rattle.std.specs.Char.{is_ascii_digit, digit_value}
-use Rattle.std.specs.List.{list_all}
-use Rattle.std.proofs.lemmas.Bool.{true≢false, cases_Bool}
+-- One step of reading a number.
+use Rattle.std.proofs.Common.{◌*◌, ◌+◌, ◌-◌, ◌<◌, ◌^◌, ◌∙◌, ◌≡◌, ◌≤◌, add-one, arith, false, get_or, length, List, sym, true, ℕ, ⊎_elim}
+use Rattle.std.proofs.Math.Nat.{pow-suc}
+use Rattle.std.proofs.lemmas.Bool.{cases_Bool, true≢false}
 use Rattle.std.proofs.lemmas.Bool.Decides.{nat_tests}
 use Rattle.std.proofs.lemmas.List.Folds.{list_all_at}
-use Rattle.std.proofs.Math.Nat.{pow-suc}
+use Rattle.std.specs.Char.{digit_value, is_ascii_digit}
+use Rattle.std.specs.List.{list_all}
 
--- each of a row of digits is a digit
+-- each element of a list of digits is a digit
 pub digit_at : (digits : List ℕ) (i : ℕ) → list_all is_ascii_digit digits ≡ true → i < length digits → (48 ≤ get_or digits i 0) × (get_or digits i 0 ≤ 57)
 digit_at digits i all lt = ⊎_elim
     (λ (is : is_ascii_digit (get_or digits i 0) ≡ true). (grind (arith, nat_tests), grind (arith, nat_tests)))

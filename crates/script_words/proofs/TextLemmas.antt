@@ -1,15 +1,14 @@
 -- Steps of reading a text.
-use Rattle.std.proofs.Common.{◌≡◌, ◌<◌, ◌==◌, ◌⊎◌, inl, inr, ⊎_elim, ℕ, Bool, true, false, cond, List, [], ◌∷◌, ◌++◌, length, Some, None, refl, sym, ap, subst, ◌∙◌, append_assoc, arith}
-use Rattle.std.proofs.lemmas.Bool.{and_parts, ltb-true, eqb-true, eqb-false}
-use Rattle.std.proofs.lemmas.List.{append-nil}
-use Rattle.script_words.specs.Text.{IsSpelling, itself, line_feed, tab, backslash, two_digits, Spells, IsBadText, byte_read, escape_read, hex_read}
-use Rattle.script_words.specs.TextLaws.{same_read, none_read, spells_read, spells_none}
+use Rattle.std.proofs.Common.{[], ◌++◌, ◌<◌, ◌==◌, ◌∙◌, ◌∷◌, ◌≡◌, ◌⊎◌, ap, append-nil, append_assoc, arith, Bool, cond, false, inl, inr, length, List, None, refl, Some, subst, sym, true, ℕ, ⊎_elim}
+use Rattle.std.proofs.lemmas.Bool.{and_parts, eqb-false, eqb-true, ltb-true}
+use Rattle.script_words.proofs.Prelude.{backslash, byte_read, escape_read, hex_read, IsBadText, IsSpelling, itself, line_feed, none_read, same_read, spells_none, spells_read, tab, two_digits}
+use Rattle.script_words.specs.Text.{Spells}
 
 by_test : {A : Type 0} (t : Bool) (x y z : A) → cond t x y ≡ z → ((t ≡ true) × (x ≡ z)) ⊎ ((t ≡ false) × (y ≡ z))
 by_test true x y z e = inl (refl, e)
 by_test false x y z e = inr (refl, e)
 
--- the text, behind what stands before it, begins with a spelling of the byte, and the rest follows
+-- `front` followed by the text begins with a spelling of the byte, and the rest follows
 abbrev Begins : List ℕ → List ℕ → List ℕ → ℕ → Type 0
 Begins front text rest byte = (part : List ℕ) × (front ++ text ≡ part ++ rest) × IsSpelling part byte
 
@@ -27,11 +26,11 @@ hex_begins (high ∷ low ∷ text) rest byte read = ⊎_elim
     (λ t. absurd (none_read _ t.1))
     (by_test _ _ _ _ read)
 
--- both are what one read gave
+-- both are the result of one read
 abbrev AreReadAlike : ℕ × List ℕ → ℕ × List ℕ → Type 0
 AreReadAlike p q = Some p ≡ Some q
 
--- a letter that names a byte
+-- a letter that stands for a byte
 letter_begins : (letter name byte code : ℕ) (text rest : List ℕ) → (letter == name) ≡ true → AreReadAlike (code, text) (byte, rest) → (92 ∷ letter ∷ text ≡ 92 ∷ name ∷ rest) × (byte ≡ code)
 letter_begins letter name byte code text rest is read =
     let same = same_read (code, text) (byte, rest) read in (
@@ -68,7 +67,7 @@ byte_begins (b ∷ text) rest byte read = ⊎_elim
     ))
     (by_test _ _ _ _ read)
 
--- The text spells what is done and then what the rest spells, and nothing else.
+-- The text spells exactly the bytes read so far, followed by what the rest spells.
 pub record IsReadTo (text done rest : List ℕ) : Type 0 where
   pub joins : (bytes : List ℕ) → Spells rest bytes → Spells text (done ++ bytes)
   pub parts : (bytes : List ℕ) → Spells text bytes → (later : List ℕ) × (bytes ≡ done ++ later) × Spells rest later

@@ -1,12 +1,11 @@
--- How the first word of a line is cut off.
-use Rattle.std.proofs.Common.{◌≡◌, ◌≢◌, ◌<◌, ◌≤◌, ◌+◌, not, ℕ, true, false, List, [], ◌∷◌, length, take, drop, get_or, ⊎_elim, subst, refl, sym, ap, ◌∙◌, arith}
-use Rattle.std.specs.List.{prefix_len, position_or_len}
-use Rattle.std.proofs.lemmas.Bool.{cond-true, cases_Bool, cases_lt, eqb-true, eqb-false}
-use Rattle.std.proofs.lemmas.List.{nil_from_length, take_all, drop_all, drop_more, length-take-le, length-drop}
-use Rattle.std.proofs.lemmas.List.Sums.{prefix_len-le-length, fails_before_first, passes_at_first}
-use Rattle.list_laws.specs.Cuts.{All-take_before, cut_around}
-use Rattle.script_words.specs.Words.{is_space, words_of, skip_spaces, skip_word, after_word, IsWord}
-use Rattle.script_words.specs.WordsLaws.{words_of-nil, words_of-space, words_of-word, words_of-word_space, skip_spaces-space, skip_spaces-other}
+-- How the first word of a line is split off.
+use Rattle.std.proofs.Common.{[], ◌+◌, ◌<◌, ◌∙◌, ◌∷◌, ◌≡◌, ◌≢◌, ◌≤◌, ap, arith, drop, false, get_or, length, List, not, refl, subst, sym, take, true, ℕ, ⊎_elim}
+use Rattle.std.proofs.lemmas.Bool.{cases_Bool, cases_lt, cond-true, eqb-false, eqb-true}
+use Rattle.std.proofs.lemmas.List.{drop_all, drop_more, length-drop, length-take-le, nil_from_length, take_all}
+use Rattle.std.proofs.lemmas.List.Sums.{fails_before_first, passes_at_first, prefix_len-le-length}
+use Rattle.std.specs.List.{position_or_len, prefix_len}
+use Rattle.script_words.proofs.Prelude.{All-take_before, cut_around, is_space, IsWord, skip_spaces, skip_spaces-other, skip_spaces-space, skip_word, words_of, words_of-nil, words_of-space, words_of-word, words_of-word_space}
+use Rattle.script_words.specs.Words.{after_word}
 
 words_of-skip : (line : List ℕ) → words_of line ≡ words_of (skip_spaces line)
 words_of-skip [] = refl
@@ -18,7 +17,7 @@ words_of-skip (b ∷ line) = by_cases (words_of-skip line)
         (λ (is : is_space b ≡ false). sym (ap words_of (skip_spaces-other b line is)))
         (cases_Bool (is_space b))
 
--- what follows the spaces begins with a word
+-- after the leading spaces comes a word
 word_begins : (line : List ℕ) → 0 < length (skip_spaces line) → 0 < position_or_len is_space (skip_spaces line)
 word_begins [] some = absurd (omega arith)
 word_begins (b ∷ line) some = by_cases (word_begins line) some
@@ -31,7 +30,7 @@ word_begins (b ∷ line) some = by_cases (word_begins line) some
         subst (λ v. 0 < position_or_len is_space v) (sym (skip_spaces-other b line is)) (omega (arith, long)))
         (cases_Bool (is_space b))
 
--- the bytes before the first space are a word, if there are some
+-- the bytes before the first space are a word, if there are any
 word_before : (body : List ℕ) → 0 < position_or_len is_space body → IsWord (take (position_or_len is_space body) body)
 word_before body some =
     let within : position_or_len is_space body ≤ length body = prefix_len-le-length (λ b. not (is_space b)) body in (
@@ -59,7 +58,7 @@ words_of-body body some = ⊎_elim inside whole (cases_lt end (length body))
         ∙ ap (λ v. v ∷ []) (sym same)
         ∙ ap (λ v. take end body ∷ v) (sym (ap words_of (drop_all end body ge) ∙ words_of-nil))
 
--- a line that has more than spaces begins with a word, and has the words that follow it
+-- a line with more than spaces begins with a word, followed by the words of the rest
 pub words_of-cut : (line body front back : List ℕ) (end : ℕ) → body ≡ skip_spaces line → 0 < length body → end ≡ position_or_len is_space body
     → front ≡ take end body → back ≡ drop end body → words_of line ≡ front ∷ words_of back
 words_of-cut line body front back end is some at f b =
@@ -67,7 +66,7 @@ words_of-cut line body front back end is some at f b =
     let begins : words_of line ≡ words_of (skip_spaces line) = words_of-skip line in
     cc
 
--- what follows the first word
+-- the rest after the first word
 pub after_word-cut : (line body back : List ℕ) (end : ℕ) → body ≡ skip_spaces line → end ≡ position_or_len is_space body → back ≡ drop end body → back ≡ after_word line
 unfolding after_word
 after_word-cut line body back end is at b = b ∙ ap (λ k. drop k body) at ∙ ap skip_word is
@@ -76,7 +75,7 @@ after_word-cut line body back end is at b = b ∙ ap (λ k. drop k body) at ∙ 
 pub words_of-spaces : (line : List ℕ) → length (skip_spaces line) ≡ 0 → words_of line ≡ []
 words_of-spaces line none = words_of-skip line ∙ ap words_of (nil_from_length (skip_spaces line) none) ∙ words_of-nil
 
--- what follows the first word is shorter
+-- the rest after the first word is shorter
 pub shorter-cut : (line body back : List ℕ) (end : ℕ) → body ≡ skip_spaces line → 0 < length body → end ≡ position_or_len is_space body → back ≡ drop end body → length back < length line
 shorter-cut line body back end is some at b =
     let begins = word_begins line (subst (λ v. 0 < length v) is some) in

@@ -1,20 +1,20 @@
--- Which lines a script has: those of a text, said of the script's own.
-use Rattle.std.proofs.Common.{◌≡◌, ◌<◌, ℕ, List, [], ◌∷◌, ◌++◌, length, refl}
+-- The laws of lines of texts, restated for scripts.
+use Rattle.std.proofs.Common.{[], ◌++◌, ◌<◌, ◌∷◌, ◌≡◌, length, List, refl, ℕ}
 use Rattle.std.specs.List.{AllByRecursion, flat_map}
-use Rattle.list_laws.specs.Lines.{HasNoLineFeed, IsPlainLine, lines-line_feeds, lines-returns, lines-last}
+use Rattle.script_words.specs.Prelude.{HasNoLineFeed, IsPlainLine, lines-last, lines-line_feeds, lines-returns}
 use Rattle.script_words.specs.Lines.{lines_of}
 
--- a script with no byte has no lines
+-- an empty script has no lines
 pub lines_of-nil : lines_of [] ≡ []
 unfolding lines_of
 lines_of-nil = refl
 
--- Lines that are each followed by a line feed are the first lines of that script.
+-- Lines that are each followed by a line feed are the first lines of the script.
 pub lines_of-line_feeds : (lines : List (List ℕ)) (rest : List ℕ) → AllByRecursion IsPlainLine lines → lines_of (flat_map (λ line. line ++ 10 ∷ []) lines ++ rest) ≡ lines ++ lines_of rest
 unfolding lines_of
 lines_of-line_feeds lines rest plain = lines-line_feeds lines rest plain
 
--- Lines that are each followed by a carriage return and a line feed are the first lines of that script.
+-- Lines that are each followed by a carriage return and a line feed are the first lines of the script.
 pub lines_of-returns : (lines : List (List ℕ)) (rest : List ℕ) → AllByRecursion HasNoLineFeed lines → lines_of (flat_map (λ line. line ++ 13 ∷ 10 ∷ []) lines ++ rest) ≡ lines ++ lines_of rest
 unfolding lines_of
 lines_of-returns lines rest none = lines-returns lines rest none

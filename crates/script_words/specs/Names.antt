@@ -1,6 +1,6 @@
--- The names that scripts give.
+-- The names in scripts.
 -- Source: this project's own.
-use Rattle.std.specs.Prelude.{ℕ, ◌&&◌, nat_le, nat_lt, Bool, List, length}
+use Rattle.std.proofs.Common.{◌&&◌, Bool, length, List, nat_le, nat_lt, ℕ}
 use Rattle.std.specs.Char.{is_ascii_alphanumeric}
 use Rattle.std.specs.List.{list_all}
 

@@ -1,14 +1,14 @@
 -- The numbers that words spell.
 -- Source: this project's own.
-use Rattle.std.specs.Prelude.{ℕ, ◌&&◌, nat_le, nat_lt, Bool, List, length, if◌then◌else◌, Option, Some, None}
+use Rattle.std.proofs.Common.{◌&&◌, Bool, if◌then◌else◌, length, List, nat_le, nat_lt, None, Option, Some, ℕ}
 use Rattle.std.specs.Char.{is_ascii_digit}
 use Rattle.std.specs.List.{list_all}
 use Rattle.std.specs.Str.Parse.{digits_value}
 
--- 1 to 10 decimal digits whose value has 32 bits
+-- 1 to 10 decimal digits whose value fits in 32 bits
 abbrev pub is_number : List ℕ → Bool
 is_number word = nat_lt 0 (length word) && nat_le (length word) 10 && list_all is_ascii_digit word && nat_le (digits_value 10 word) 4294967295
 
--- The number that a word spells. Zeros in front are fine, as long as there are at most 10 digits.
+-- The number that a word spells. Leading zeros are allowed, up to 10 digits in all.
 unfoldable pub number_of : List ℕ → Option ℕ
 number_of word = if is_number word then Some (digits_value 10 word) else None

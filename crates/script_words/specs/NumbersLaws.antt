@@ -1,13 +1,13 @@
--- Numbers that are written in decimal are read back.
-use Rattle.std.proofs.Common.{◌≡◌, ◌<◌, ◌≤◌, ◌+◌, ◌^◌, ℕ, zero, suc, true, List, ◌++◌, length, replicate, Some, refl, ap, ◌∙◌, arith, rules}
+-- Numbers written in decimal are read back.
+use Rattle.std.proofs.Common.{◌++◌, ◌+◌, ◌<◌, ◌^◌, ◌∙◌, ◌≡◌, ◌≤◌, ap, arith, length, length-append, List, refl, replicate, rules, Some, suc, true, zero, ℕ}
+use Rattle.std.proofs.lemmas.Bool.{and_from, cond-true, le-leb, lt-ltb}
+use Rattle.std.proofs.lemmas.Fmt.{decimal_nonempty, digits_decimal, digits_value-decimal}
+use Rattle.std.proofs.lemmas.List.{length-replicate}
+use Rattle.std.proofs.lemmas.Str.Parse.{IsDigitsTest, IsNumeralModel, numerals_by_value}
 use Rattle.std.specs.Char.{is_ascii_digit}
 use Rattle.std.specs.Fmt.{decimal}
 use Rattle.std.specs.List.{list_all}
 use Rattle.std.specs.Str.Parse.{digits_value}
-use Rattle.std.proofs.lemmas.Bool.{cond-true, and_from, lt-ltb, le-leb}
-use Rattle.std.proofs.lemmas.Fmt.{decimal_nonempty, digits_decimal, digits_value-decimal}
-use Rattle.std.proofs.lemmas.List.{length-append, length-replicate}
-use Rattle.std.proofs.lemmas.Str.Parse.{IsDigitsTest, IsNumeralModel, numerals_by_value}
 use Rattle.script_words.specs.Numbers.{is_number, number_of}
 
 -- each byte is a decimal digit
@@ -28,7 +28,7 @@ digits_value-zeros : (k : ℕ) (digits : List ℕ) → digits_value 10 (replicat
 digits_value-zeros zero digits = refl
 digits_value-zeros (suc k) digits = digits_value-zeros k digits
 
--- A number below 2^32 that is written in decimal is read back, with zeros in front as long as there are at most 10 digits.
+-- A number below 2^32 written in decimal is read back, even with leading zeros, up to 10 digits.
 pub number_of-decimal : (n k : ℕ) → n < 2 ^ 32 → k + length (decimal n) ≤ 10 → number_of (replicate k 48 ++ decimal n) ≡ Some n
 unfolding number_of
 number_of-decimal n k small fits =

@@ -1,9 +1,9 @@
--- What a text spells: one list of bytes at most, which is found byte by byte from the left, and any bytes can be spelled.
-use Rattle.std.proofs.Common.{◌≡◌, ◌≢◌, ◌==◌, ⊎_elim, ℕ, true, false, List, [], ◌∷◌, ◌++◌, Some, None, refl, sym, ap, subst, ◌∙◌}
+-- A text spells at most one list of bytes, which is found byte by byte from the left, and any bytes can be spelled.
+use Rattle.std.proofs.Common.{[], ◌++◌, ◌==◌, ◌∙◌, ◌∷◌, ◌≡◌, ◌≢◌, ap, false, List, None, refl, Some, subst, sym, true, ℕ, ⊎_elim}
+use Rattle.std.proofs.lemmas.Bool.{and_from, cases_Bool, cond-false, cond-true, eqb-false, eqb-true, lt-ltb, ne_eqb}
 use Rattle.std.specs.Char.{digit_value}
 use Rattle.std.specs.List.{AllByRecursion}
-use Rattle.std.proofs.lemmas.Bool.{cond-true, cond-false, and_from, lt-ltb, ne_eqb, eqb-true, eqb-false, cases_Bool}
-use Rattle.script_words.specs.Text.{IsSpelling, itself, line_feed, tab, backslash, two_digits, Spells, byte_read, with_doubled}
+use Rattle.script_words.specs.Text.{backslash, byte_read, IsSpelling, itself, line_feed, Spells, tab, two_digits, with_doubled}
 
 -- a spelling is read as its byte, whatever follows it
 pub byte_read-spelling : (part rest : List ℕ) (byte : ℕ) → IsSpelling part byte → byte_read (part ++ rest) ≡ Some (byte, rest)
@@ -22,7 +22,7 @@ same_read p q e = cc
 pub none_read : (p : ℕ × List ℕ) → None ≡ Some p → ⊥
 none_read p e = cc
 
--- What a text spells begins with the byte that is read first, and goes on with what the rest spells.
+-- The bytes that a text spells are the byte that is read first, and those that the rest spells.
 pub spells_read : (text rest bytes : List ℕ) (byte : ℕ) → byte_read text ≡ Some (byte, rest) → Spells text bytes → (later : List ℕ) × (bytes ≡ byte ∷ later) × Spells rest later
 unfolding Spells
 spells_read text rest [] byte read spells = absurd (none_read (byte, rest) (sym (ap byte_read spells) ∙ read))
@@ -32,13 +32,13 @@ spells_read text rest (b ∷ bytes) byte read spells =
     let after : spells.1 ≡ rest = ap (λ (p : ℕ × List ℕ). p.1) same in
     (bytes, ap (λ v. v ∷ bytes) first, subst (λ v. Spells v bytes) after spells.4)
 
--- A text of which no byte can be read spells nothing, unless it is empty.
+-- If no byte can be read from a text, it spells nothing, unless it is empty.
 pub spells_none : (text : List ℕ) (byte : ℕ) (bytes : List ℕ) → byte_read text ≡ None → Spells text (byte ∷ bytes) → ⊥
 unfolding Spells
 spells_none text byte bytes read spells =
     none_read (byte, spells.1) (sym read ∙ ap byte_read spells.2 ∙ byte_read-spelling spells.0 spells.1 byte spells.3)
 
--- A text spells one list of bytes at most.
+-- A text spells at most one list of bytes.
 pub spells_one : (text first second : List ℕ) → Spells text first → Spells text second → first ≡ second
 unfolding Spells
 spells_one text [] [] p q = refl
@@ -53,7 +53,7 @@ unfolding Spells
 spells_plain [] plain = refl
 spells_plain (b ∷ bytes) plain = (b ∷ [], bytes, refl, itself refl plain.0, spells_plain bytes plain.1)
 
--- Bytes of which each backslash is doubled spell these bytes.
+-- Bytes with each backslash doubled spell the original bytes.
 pub spells_doubled : (bytes : List ℕ) → Spells (with_doubled bytes) bytes
 unfolding Spells
 spells_doubled [] = refl

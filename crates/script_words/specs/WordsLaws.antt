@@ -1,23 +1,22 @@
--- Which words a line has, said by how lines are put together from words.
-use Rattle.std.proofs.Common.{◌≡◌, ◌≢◌, ◌+◌, ℕ, suc, true, false, not, List, [], ◌∷◌, ◌++◌, length, drop, filter, refl, sym, ap, ◌∙◌, append_assoc, arith}
-use Rattle.std.specs.List.{All, AllByRecursion, prefix_len, position_or_len}
-use Rattle.std.proofs.lemmas.Bool.{cond-true, cond-false, ne_eqb, lt-ltb}
+-- Which words a line has, described by how lines are built from words.
+use Rattle.std.proofs.Common.{[], ◌++◌, ◌+◌, ◌∙◌, ◌∷◌, ◌≡◌, ◌≢◌, All, ap, append-nil, append_assoc, arith, drop, false, filter, length, List, not, refl, suc, sym, true, ℕ}
+use Rattle.std.proofs.lemmas.Bool.{cond-false, cond-true, lt-ltb, ne_eqb}
+use Rattle.std.proofs.lemmas.List.Elements.{All-head, All-tail, All-weaker}
 use Rattle.std.proofs.lemmas.List.Splits.{slice_split_at, slice_split_none}
-use Rattle.std.proofs.lemmas.List.{append-nil}
-use Rattle.std.proofs.lemmas.List.Elements.{All-weaker, All-head, All-tail}
-use Rattle.script_words.specs.Words.{is_space, has_bytes, words_of, skip_spaces, skip_word, after_word, text_after, IsWord, spaced}
+use Rattle.std.specs.List.{AllByRecursion, position_or_len, prefix_len}
+use Rattle.script_words.specs.Words.{after_word, has_bytes, is_space, IsWord, skip_spaces, skip_word, spaced, text_after, words_of}
 
--- a line with no byte has no words
+-- an empty line has no words
 pub words_of-nil : words_of [] ≡ []
 unfolding words_of
 words_of-nil = refl
 
--- a space at the front of a line is passed over
+-- a leading space is skipped
 pub words_of-space : (line : List ℕ) → words_of (32 ∷ line) ≡ words_of line
 unfolding words_of
 words_of-space line = refl
 
--- A word with a space behind it is the first word of its line.
+-- A word followed by a space is the first word of its line.
 pub words_of-word_space : (word line : List ℕ) → IsWord word → words_of (word ++ 32 ∷ line) ≡ word ∷ words_of line
 unfolding words_of
 words_of-word_space word line is =
@@ -31,7 +30,7 @@ words_of-word word is =
     ap (filter has_bytes) (slice_split_none is_space word (All-weaker _ _ (λ b. ne_eqb b 32) word is.1))
     ∙ cond-true _ _ _ (lt-ltb 0 (length word) is.0)
 
--- Words with a space behind each are the first words of their line.
+-- Words that are each followed by a space are the first words of their line.
 pub words_of-spaced : (words : List (List ℕ)) (line : List ℕ) → AllByRecursion IsWord words → words_of (spaced words ++ line) ≡ words ++ words_of line
 words_of-spaced [] line all = refl
 words_of-spaced (word ∷ words) line all =
@@ -63,17 +62,17 @@ skip_spaces-word : (word line : List ℕ) → IsWord word → skip_spaces (word 
 skip_spaces-word [] line is = absurd (omega (arith, is.0))
 skip_spaces-word (b ∷ word) line is = skip_spaces-other b (word ++ line) (ne_eqb b 32 (All-head (λ b. b ≢ 32) b word is.1))
 
--- a space at the front of a line is passed over
+-- a leading space is skipped
 pub after_word-space : (line : List ℕ) → after_word (32 ∷ line) ≡ after_word line
 unfolding after_word
 after_word-space line = ap skip_word (skip_spaces-space 32 line refl)
 
--- what follows a word begins with the space behind it
+-- the rest after a word begins with the space after it
 pub after_word-word_space : (word line : List ℕ) → IsWord word → after_word (word ++ 32 ∷ line) ≡ 32 ∷ line
 unfolding after_word
 after_word-word_space word line is = ap skip_word (skip_spaces-word word (32 ∷ line) is) ∙ skip_word-word_space word line is.1
 
--- nothing follows a line's last word
+-- nothing follows the last word of a line
 pub after_word-word : (word : List ℕ) → IsWord word → after_word word ≡ []
 unfolding after_word
 after_word-word word is =
@@ -90,13 +89,13 @@ text_after-space (word ∷ words) text all =
     ap (λ v. text_after (length words) v) (after_word-space (spaced (word ∷ words) ++ text) ∙ after_word-spaced word words text all.0)
     ∙ text_after-space words text all.1
 
--- Any text, behind words with one space behind each, is the text after these words.
+-- Any text after words that are each followed by one space is the text after these words.
 pub text_after-spaced : (word : List ℕ) (words : List (List ℕ)) (text : List ℕ) → AllByRecursion IsWord (word ∷ words)
     → text_after (length (word ∷ words)) (spaced (word ∷ words) ++ text) ≡ text
 text_after-spaced word words text all =
     ap (λ v. text_after (length words) v) (after_word-spaced word words text all.0) ∙ text_after-space words text all.1
 
--- Behind the last word of a line, with no space, there is no text.
+-- After the last word of a line, without a space, there is no text.
 pub text_after-last : (words : List (List ℕ)) (word : List ℕ) → AllByRecursion IsWord words → IsWord word → text_after (suc (length words)) (spaced words ++ word) ≡ []
 text_after-last [] word all is = ap (drop 1) (after_word-word word is)
 text_after-last (first ∷ words) word all is =

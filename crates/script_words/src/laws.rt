@@ -1,27 +1,27 @@
-//! Laws that say, by how a script is put together, which lines, words and bytes are read out of it.
+//! Laws of reading a script back: a script built from lines, words and bytes gives these lines, words and bytes.
 ghost use Rattle.std.specs.{Prelude.{◌≡◌, ◌<◌, ◌≤◌, ◌+◌, ◌^◌, ℕ, replicate, List, [], ◌∷◌, ◌++◌, length, All}, Fmt.{decimal}};
 ghost use Rattle.std.specs.List.{flat_map};
 ghost use Rattle.list_laws.specs.Lines.{HasNoLineFeed, IsPlainLine};
 ghost use Rattle.script_words.specs.{Lines.{lines_of}, Words.{words_of, text_after, spaced, IsWord}, Numbers.{number_of}};
 ghost use Rattle.script_words.specs.Text.{Spells, HasNoBackslash, with_doubled};
 
-/// Lines with their endings behind them are the first lines of that script.
+/// Lines that are written with their line ends are the first lines of the script.
 pub fn lines_read_back()
     ensures nothing { lines_of [] ≡ [] }
 
-    // Behind each line stands a line feed.
+    // Each line is followed by a line feed.
     ensures line_feeds { (lines : List (List ℕ)) (rest : List ℕ) → All IsPlainLine lines
         → lines_of (flat_map (λ line. line ++ 10 ∷ []) lines ++ rest) ≡ lines ++ lines_of rest }
 
-    // Behind each line stand a carriage return and a line feed: a further carriage return belongs to the line.
+    // Each line is followed by a carriage return and a line feed; a carriage return before these belongs to the line.
     ensures returns { (lines : List (List ℕ)) (rest : List ℕ) → All HasNoLineFeed lines
         → lines_of (flat_map (λ line. line ++ 13 ∷ 10 ∷ []) lines ++ rest) ≡ lines ++ lines_of rest }
 
-    // The last line needs no ending, and a carriage return at its end belongs to it.
+    // The last line needs no line end; a carriage return at its end then belongs to it.
     ensures last { (line : List ℕ) → 0 < length line → HasNoLineFeed line → lines_of line ≡ line ∷ [] }
 {}
 
-/// Words with a space behind each are the first words of that line, and what follows is the text behind them.
+/// Words that are each followed by a space are the first words of the line, and the text after them is the rest.
 pub fn words_read_back()
     ensures nothing { words_of [] ≡ [] }
     ensures spaces { (line : List ℕ) → words_of (32 ∷ line) ≡ words_of line }
@@ -34,13 +34,13 @@ pub fn words_read_back()
         → text_after (length words + 1) (spaced words ++ word) ≡ [] }
 {}
 
-/// Numbers that are written in decimal are read back, also with zeros in front, up to 10 digits.
+/// Numbers written in decimal are read back, even with leading zeros, up to 10 digits.
 pub fn numbers_read_back()
     ensures decimal { (n zeros : ℕ) → n < 2 ^ 32 → zeros + length (decimal n) ≤ 10
         → number_of (replicate zeros 48 ++ decimal n) ≡ Some n }
 {}
 
-/// A text spells one list of bytes at most, and any bytes are spelled by a text.
+/// A text spells at most one list of bytes, and any bytes are spelled by some text.
 pub fn text_reads_back()
     ensures one { (text first second : List ℕ) → Spells text first → Spells text second → first ≡ second }
     ensures plain { (bytes : List ℕ) → HasNoBackslash bytes → Spells bytes bytes }

@@ -1,9 +1,11 @@
-//! The lines of a script, the words of its lines, and what the words spell: numbers, names and text. Nothing here
-//! knows a command.
+//! The lines of a script, the words of a line, and what words spell: numbers, names and escaped text. Nothing here
+//! knows the commands.
 //!
 //! Promise: the script's answers.
 //!
-//! Each call takes bytes and lends a part of them, or answers a value; only `unescape` makes bytes of its own.
+//! Each function takes bytes and returns a borrowed part of them or a value; only `unescape` allocates. `cut_line` and
+//! `cut_word` split off the first line and the first word, `text_of_rest` returns the text after a word, and
+//! `parse_number`, `is_name` and `unescape` read a word or a text. The laws say that what is written is read back.
 #![tactic(auto)]
 
 mod laws;

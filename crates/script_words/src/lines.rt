@@ -4,10 +4,10 @@ ghost use Rattle.script_words.specs.{Lines.{lines_of, is_passed_over}, Words.{is
 
 use bstr::ByteSlice;
 
-/// Cuts a script behind its first line: the line, and what follows it.
+/// Splits a script after its first line, and returns the line and the rest.
 ///
-/// A line ends at a line feed, which belongs to neither part, and one carriage return directly before the line
-/// feed is dropped. The last line needs no line feed, and then keeps its carriage return.
+/// A line ends at a line feed, which belongs to neither part; one carriage return directly before the line feed is
+/// dropped. The last line needs no line feed, and then keeps its carriage return.
 pub fn cut_line(script: &[u8]) -> (&[u8], &[u8])
     requires some { 0 < length script.now }
     ensures lines { lines_of script.now ≡ result.0.now ∷ lines_of result.1.now }
@@ -19,14 +19,14 @@ pub fn cut_line(script: &[u8]) -> (&[u8], &[u8])
     }
 }
 
-/// A line without the one carriage return at its end.
+// Returns a line without the one carriage return at its end.
 fn without_return(line: &[u8]) -> &[u8]
     ensures line { result.now ≡ strip_carriage_return line.now }
 {
     line.strip_suffix(b"\r").unwrap_or(line)
 }
 
-/// Whether a line asks for nothing: it begins with `#`, or it is empty or has only spaces.
+/// Returns whether a line is ignored: it begins with `#`, is empty, or has only spaces.
 #[tactic(auto, unfolding(crate::specs::Lines::is_passed_over))]
 pub fn is_passed_over(line: &[u8]) -> bool
     ensures value { result ≡ is_passed_over line.now }

@@ -1,11 +1,11 @@
-//! The names that scripts give.
+//! The names in scripts.
 ghost use Rattle.std.specs.{Prelude.{◌≡◌}, Char.{is_ascii_alphanumeric}, List.{list_all}};
 ghost use Rattle.script_words.specs.Names.{is_name};
 
 /// The most bytes of a name.
 const LONGEST: usize = 32;
 
-/// Whether a word is a name: 1 to 32 bytes, each an ASCII letter or digit.
+/// Returns whether a word is a name: 1 to 32 bytes, each an ASCII letter or digit.
 #[tactic(auto, unfolding(crate::specs::Names::is_name))]
 pub fn is_name(word: &[u8]) -> bool
     ensures value { result ≡ is_name word.now }

@@ -4,10 +4,10 @@ ghost use Rattle.script_words.specs.Text.{Spells, IsBadText, byte_read, escape_r
 
 use std::alloc::{AllocError, Global};
 
-/// The bytes that a text spells, or `None` where a backslash in it begins no escape.
+/// Returns the bytes that a text spells, or `None` if a backslash in it doesn't begin an escape.
 ///
-/// The escapes are `\n`, `\t`, `\\` and `\xHH`, with hexadecimal digits of either case; every other byte spells
-/// itself. It allocates once, as many bytes as the text has, and fails only where that is refused.
+/// The escapes are `\n`, `\t`, `\\` and `\xHH`, with hexadecimal digits of either case; every other byte stands for
+/// itself. Allocates once, as many bytes as the text has, and fails only if memory runs out.
 pub fn unescape(alloc: Global, text: &[u8]) -> Result<Option<Vec<u8>>, AllocError>
     ensures bytes { IfOk result
         (λ found. MatchOption found (IsBadText text.now) (λ bytes. Spells text.now bytes.items)) }
@@ -24,7 +24,7 @@ pub fn unescape(alloc: Global, text: &[u8]) -> Result<Option<Vec<u8>>, AllocErro
     Ok(Some(bytes))
 }
 
-/// The first byte that a text spells, and what follows its spelling.
+// Returns the first byte that a text spells, and the text after its spelling.
 fn read_byte(text: &[u8]) -> Option<(u8, &[u8])>
     ensures value { MatchOption result (byte_read text.now ≡ None)
         (λ read. byte_read text.now ≡ Some (read.0, read.1.now)) }
@@ -38,7 +38,7 @@ fn read_byte(text: &[u8]) -> Option<(u8, &[u8])>
     }
 }
 
-/// The byte that what follows a backslash names, and what follows that.
+// Returns the byte that an escape spells, given the text after its backslash, and the text after the escape.
 fn read_escape(text: &[u8]) -> Option<(u8, &[u8])>
     ensures value { MatchOption result (escape_read text.now ≡ None)
         (λ read. escape_read text.now ≡ Some (read.0, read.1.now)) }
@@ -54,7 +54,7 @@ fn read_escape(text: &[u8]) -> Option<(u8, &[u8])>
     }
 }
 
-/// The byte that two hexadecimal digits name, and what follows them.
+// Returns the byte that two hexadecimal digits spell, and the text after them.
 fn read_hex(text: &[u8]) -> Option<(u8, &[u8])>
     ensures value { MatchOption result (hex_read text.now ≡ None)
         (λ read. hex_read text.now ≡ Some (read.0, read.1.now)) }
@@ -67,7 +67,7 @@ fn read_hex(text: &[u8]) -> Option<(u8, &[u8])>
     Some((16 * high + low, rest))
 }
 
-/// The value of a hexadecimal digit of either case.
+// Returns the value of a hexadecimal digit of either case.
 fn digit_value(b: u8) -> Option<u8>
     ensures value { SomeIff result (digit_value b < 16) (digit_value b) }
 {

@@ -2,7 +2,7 @@
 ghost use Rattle.std.specs.{Prelude.{◌≡◌, [], ◌∷◌, ◌<◌, ◌≤◌, length, MatchOption, IfSome}, List.{prefix_len, position_or_len}};
 ghost use Rattle.script_words.specs.Words.{words_of, after_word, text_after, is_space, skip_spaces};
 
-/// How many spaces a line begins with.
+// Returns the number of leading spaces.
 fn count_spaces(line: &[u8]) -> usize
     ensures count { result ≡ prefix_len is_space line.now }
     ensures within { result ≤ length line.now }
@@ -10,14 +10,14 @@ fn count_spaces(line: &[u8]) -> usize
     line.iter().take_while(|b| **b == b' ').count()
 }
 
-/// A line without the spaces at its front.
+// Returns a line without its leading spaces.
 fn without_spaces(line: &[u8]) -> &[u8]
     ensures line { result.now ≡ skip_spaces line.now }
 {
     &line[count_spaces(line)..]
 }
 
-/// How many bytes of a line stand before its first space.
+// Returns the number of bytes before the first space.
 fn count_to_space(line: &[u8]) -> usize
     ensures count { result ≡ position_or_len is_space line.now }
     ensures within { result ≤ length line.now }
@@ -25,10 +25,10 @@ fn count_to_space(line: &[u8]) -> usize
     line.iter().take_while(|b| **b != b' ').count()
 }
 
-/// Cuts a line behind its first word: the word, and what follows it. `None` where the line has no words.
+/// Splits a line after its first word, and returns the word and the rest; `None` if the line has no words.
 ///
-/// Spaces alone separate words, and spaces before the first word are passed over. What follows the word begins
-/// with a space, if it isn't empty.
+/// Only spaces separate words; spaces before the first word are skipped. The rest begins with a space, unless it is
+/// empty.
 pub fn cut_word(line: &[u8]) -> Option<(&[u8], &[u8])>
     ensures words { MatchOption result (words_of line.now ≡ [])
         (λ cut. words_of line.now ≡ cut.0.now ∷ words_of cut.1.now) }
@@ -42,9 +42,9 @@ pub fn cut_word(line: &[u8]) -> Option<(&[u8], &[u8])>
     Some(body.split_at(count_to_space(body)))
 }
 
-/// The text that follows a word, of what `cut_word` left behind that word: all but one space.
+/// Returns the text after a word, given the rest that `cut_word` returned: everything after one space.
 ///
-/// Further spaces belong to the text, at its front and at its end.
+/// More spaces belong to the text, at its start and at its end.
 pub fn text_of_rest(rest: &[u8]) -> &[u8]
     ensures text { result.now ≡ text_after 0 rest.now }
 {

@@ -1,24 +1,10 @@
--- The greatest counter of a world grows by one at most where a node puts its next edit, and else it stays.
-use Rattle.std.proofs.Common.{◌≡◌, ℕ, suc, ◌+◌, ◌<◌, ◌≤◌, List, [], ◌∷◌, length, Option, Some, None, inl, inr, refl, ap, subst, arith}
-use Rattle.std.specs.Prelude.{slice_get}
-use Rattle.load_places.specs.Places.{PlaceParts}
-use Rattle.edit_sums.specs.declared.contents.Content.{Content}
-use Rattle.edit_sums.specs.declared.entries.Edit.{Edit}
-use Rattle.edit_sums.specs.Sums.{IsHonest, high_of}
-use Rattle.list_laws.specs.Members.{IsAmong}
-use Rattle.edit_sums.specs.CounterLaws.{high_among-least, high_of-sum_of}
-use Rattle.world_law.specs.declared.events.Event.{Event}
-use Rattle.world_law.specs.declared.events.Event.TheVariants.{Put}
+-- The greatest counter of a world grows by at most one when a node puts its next edit, and otherwise stays.
+use Rattle.std.proofs.Common.{[], ◌+◌, ◌<◌, ◌∷◌, ◌≡◌, ◌≤◌, ap, arith, inl, inr, length, List, None, Option, refl, slice_get, Some, subst, suc, ℕ}
+use Rattle.script_worlds.specs.Prelude.{blank_sound, Content, Edit, Event, happens_keeps, high_among-least, high_of, high_of-sum_of, IsAmong, IsHonest, IsSound, PlaceParts, Put, puts_first, puts_of, puts_of-Put, puts_rest, took, took_by, world_of}
+use Rattle.script_worlds.specs.{Counts.IsCountedTo, Counts.IsPutUpTo, Validity.IsValid, Validity.puts, Worlds.blank, Worlds.happened, Worlds.held, Worlds.merged, Worlds.merged_all, Worlds.next_edit, Worlds.ScriptWorld, Worlds.state}
 use Rattle.world_law.specs.Worlds as worlds
-use Rattle.world_law.specs.Worlds.{puts_of, took, took_by}
-use Rattle.world_law.specs.Took.{world_of}
-use Rattle.world_law.specs.SoundLaws.{IsSound, blank_sound, happens_keeps, puts_first, puts_rest}
-use Rattle.world_law.specs.WorldLaws.{puts_of-Put}
-use Rattle.script_worlds.specs.Worlds.{ScriptWorld, blank, happened, held, merged, merged_all, next_edit, state}
-use Rattle.script_worlds.specs.Lawful.{IsLawful, puts}
-use Rattle.script_worlds.specs.Counts.{IsCountedTo, IsPutUpTo}
 
--- ---- what a node took was put
+-- What a node took was put.
 
 sound_after : (n : ℕ) (all history : List Event) → IsHonest (puts_of n all) → ((e : Edit) → IsAmong e (puts_of n history) → IsAmong e (puts_of n all))
     → IsSound n (λ e. IsAmong e (puts_of n all)) (world_of n history)
@@ -28,42 +14,42 @@ sound_after n all (event ∷ history) honest within =
     (sound_after n all history honest (λ e a. within e (puts_rest n event history e a)))
     (λ e a. within e (puts_first n event history e a))
 
-took_was_put : (world : ScriptWorld) → IsLawful world → (k : ℕ) (e : Edit) → IsAmong e (took (state world) k) → IsAmong e (puts world)
-took_was_put world lawful k e a = by (slice_get (state world).nodes k) refl a
+took_was_put : (world : ScriptWorld) → IsValid world → (k : ℕ) (e : Edit) → IsAmong e (took (state world) k) → IsAmong e (puts world)
+took_was_put world valid k e a = by (slice_get (state world).nodes k) refl a
   where
     by : (o : Option worlds.Node) → slice_get (state world).nodes k ≡ o → IsAmong e (took_by o) → IsAmong e (puts world)
     by None at a = absurd a
-    by (Some node) at a = ((sound_after (length world.nodes) world.events world.events lawful.honest (λ f b. b)).nodes k node at).puts e a
+    by (Some node) at a = ((sound_after (length world.nodes) world.events world.events valid.honest (λ f b. b)).nodes k node at).puts e a
 
--- so nothing is held with a greater counter than was put
-pub counted : (n : ℕ) (world : ScriptWorld) → IsLawful world → IsPutUpTo n world → IsCountedTo n world
-counted n world lawful up = record {
+-- no node holds a greater counter than was put
+pub counted : (n : ℕ) (world : ScriptWorld) → IsValid world → IsPutUpTo n world → IsCountedTo n world
+counted n world valid up = record {
   edits = up;
   stores = λ k.
-      let most = high_among-least (took (state world) k) n (λ e a. up e (took_was_put world lawful k e a)) in
+      let most = high_among-least (took (state world) k) n (λ e a. up e (took_was_put world valid k e a)) in
       omega (arith, high_of-sum_of (took (state world) k));
 }
 
--- ---- one step more
+-- One more step.
 
 pub put_blank : IsPutUpTo 0 blank
 put_blank e a = absurd a
 
--- the same was put
+-- the same edits were put
 pub put_same : (n : ℕ) (old new : ScriptWorld) → puts new ≡ puts old → IsPutUpTo n old → IsPutUpTo (suc n) new
 put_same n old new same up e a = let most = up e (subst (λ (es : List Edit). IsAmong e es) same a) in omega arith
 
 -- a node put its next edit
-pub put_next : (n : ℕ) (world : ScriptWorld) (i : ℕ) (place : PlaceParts) (content : Content) → IsLawful world → i < length world.nodes → IsPutUpTo n world
+pub put_next : (n : ℕ) (world : ScriptWorld) (i : ℕ) (place : PlaceParts) (content : Content) → IsValid world → i < length world.nodes → IsPutUpTo n world
     → IsPutUpTo (suc n) (happened world (Put i (next_edit world i place content)))
-put_next n world i place content lawful lt up f a = by (subst (λ (es : List Edit). IsAmong f es) (puts_of-Put (length world.nodes) world.events i e lt) a)
+put_next n world i place content valid lt up f a = by (subst (λ (es : List Edit). IsAmong f es) (puts_of-Put (length world.nodes) world.events i e lt) a)
   where
     e : Edit
     e = next_edit world i place content
 
     by : IsAmong f (e ∷ puts world) → f.version.counter ≤ suc n
     by (inl same) =
-        let most = (counted n world lawful up).stores i in
+        let most = (counted n world valid up).stores i in
         let counter : high_of (held world i) + 1 ≡ f.version.counter = ap (λ (g : Edit). g.version.counter) same in
         omega arith
     by (inr b) = let most = up f b in omega arith

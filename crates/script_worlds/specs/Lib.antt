@@ -1,6 +1,7 @@
+pub mod Prelude
 pub mod Counts
 pub mod CountsLaws
-pub mod Lawful
-pub mod LawfulLaws
+pub mod Validity
+pub mod ValidityLaws
 pub mod NodeLaws
 pub mod Worlds

@@ -1,14 +1,14 @@
--- Nodes by name and by writer number, with one node more.
-use Rattle.std.proofs.Common.{◌≡◌, ℕ, zero, suc, ◌+◌, ◌<◌, ◌==◌, Bool, true, false, ◌||◌, cond, nat_lt, Option, Some, None, List, [], ◌∷◌, ◌++◌, length, position, refl, sym, ap, ◌∙◌, arith}
-use Rattle.std.specs.List.{list_any, position_from, position_or_len}
-use Rattle.std.specs.Str.{bytes_eq}
+-- Nodes by name and by writer number, after a node is added.
+use Rattle.std.proofs.Common.{[], ◌++◌, ◌+◌, ◌<◌, ◌==◌, ◌||◌, ◌∙◌, ◌∷◌, ◌≡◌, ap, arith, Bool, cond, false, length, List, nat_lt, None, Option, position, refl, Some, suc, sym, true, zero, ℕ}
 use Rattle.std.proofs.lemmas.Bool.Decides.{nat_tests}
 use Rattle.std.proofs.lemmas.Iterator.Adapters.{position_from-zero}
 use Rattle.std.proofs.lemmas.List.Folds.{list_any-append}
 use Rattle.std.proofs.lemmas.Slice.Eq.{bytes_eq-Decides}
-use Rattle.script_worlds.specs.Worlds.{Member, has_writer, node_named}
+use Rattle.std.specs.List.{list_any, position_from, position_or_len}
+use Rattle.std.specs.Str.{bytes_eq}
+use Rattle.script_worlds.specs.Worlds.{has_writer, Member, node_named}
 
--- a place, or else another
+-- the first index, or else the second
 abbrev pub or_else : Option ℕ → Option ℕ → Option ℕ
 or_else None other = other
 or_else (Some k) other = Some k
@@ -30,7 +30,7 @@ module _ {X : Type 0} (p : X → Bool) where
       ∙ ap (λ o. or_else o (cond (p x) (Some (0 + length xs)) None)) (sym (position_from-zero p xs))
       ∙ ap (λ k. or_else (position p xs) (cond (p x) (Some k) None)) same
 
--- a node of a new name stands at the end
+-- a node with a new name is at the end
 pub node_named-push : (nodes : List Member) (m : Member) (name : List ℕ) → node_named nodes m.name ≡ None
     → node_named (nodes ++ m ∷ []) name ≡ cond (bytes_eq m.name name) (Some (length nodes)) (node_named nodes name)
 node_named-push nodes m name fresh = position-push (λ (member : Member). bytes_eq member.name name) nodes m ∙ by (bytes_eq m.name name) refl
@@ -55,7 +55,7 @@ has_writer-push nodes m writer = list_any-append (λ (member : Member). member.w
     by false true = refl
     by false false = refl
 
--- a node that is found is there
+-- a node that is found exists
 pub named_within : (nodes : List Member) (name : List ℕ) (k : ℕ) → node_named nodes name ≡ Some k → k < length nodes
 named_within nodes name k e = by (nat_lt (position_or_len (λ (m : Member). bytes_eq m.name name) nodes) (length nodes)) refl e
   where

@@ -1,25 +1,19 @@
--- The world behind a script: its nodes, the events so far, and the pieces that were named.
+-- The world that a script builds: its nodes, the events so far, and the named pieces.
 -- Source: The events are those of `world_law`; names and writer numbers are this project's own.
-use Rattle.std.specs.Prelude.{ℕ, zero, suc, ◌+◌, ◌-◌, ◌==◌, Bool, if◌then◌else◌, List, [], ◌∷◌, ◌++◌, length, map, position, slice_get, Option, Some, None, unwrap_or}
-use Rattle.std.specs.Option.{option_map}
+use Rattle.std.proofs.Common.{[], ◌++◌, ◌+◌, ◌-◌, ◌==◌, ◌∷◌, Bool, if◌then◌else◌, length, List, map, None, Option, position, slice_get, Some, suc, unwrap_or, zero, ℕ}
 use Rattle.std.specs.List.{list_any}
+use Rattle.std.specs.Option.{option_map}
 use Rattle.std.specs.Str.{bytes_eq}
-use Rattle.load_places.specs.Places.{PlaceParts}
-use Rattle.edit_sums.specs.declared.contents.Content.{Content}
-use Rattle.edit_sums.specs.declared.entries.Edit.{Edit}
-use Rattle.edit_sums.specs.Sums.{EntryMap, sum_of, high_of}
-use Rattle.world_law.specs.declared.events.Event.{Event}
-use Rattle.world_law.specs.declared.events.Event.TheVariants.{Ask, Cut, Give}
+use Rattle.script_worlds.specs.Prelude.{Ask, Content, Cut, Edit, EntryMap, Event, Give, high_of, PlaceParts, sum_of, took, world_of}
 use Rattle.world_law.specs.Worlds as worlds
-use Rattle.world_law.specs.Worlds.{took}
-use Rattle.world_law.specs.Took.{world_of}
 
--- a node: its name, and the number under which it writes
+-- a node: its name, and its writer number
 pub record Member : Type 0 where
   pub name : List ℕ
   pub writer : ℕ
 
--- the nodes in the order of their making; what happened, the latest first; and the pieces by name with their numbers, the latest first
+-- the nodes in the order of their creation; the events, the latest first; and the pieces by name with their indices,
+-- the latest first
 pub record ScriptWorld : Type 0 where
   pub nodes : List Member
   pub events : List Event
@@ -28,7 +22,7 @@ pub record ScriptWorld : Type 0 where
 abbrev pub blank : ScriptWorld
 blank = record { nodes = []; events = []; pieces = [] }
 
--- all that the events have come to: what each node took, and each ask and piece that there ever was
+-- the world after the events: what each node took, and every ask and piece ever made
 abbrev pub state : ScriptWorld → worlds.EventWorld
 state world = world_of (length world.nodes) world.events
 
@@ -36,15 +30,15 @@ state world = world_of (length world.nodes) world.events
 abbrev pub held : ScriptWorld → ℕ → EntryMap
 held world k = sum_of (took (state world) k)
 
--- one event more
+-- one more event
 abbrev pub happened : ScriptWorld → Event → ScriptWorld
 happened world event = record world { events = event ∷ world.events }
 
--- one node more
+-- one more node
 abbrev pub with_node : ScriptWorld → List ℕ → ℕ → ScriptWorld
 with_node world name writer = record world { nodes = world.nodes ++ record { name = name; writer = writer } ∷ [] }
 
--- the number of the node of a name
+-- the index of the node with a name
 abbrev pub node_named : List Member → List ℕ → Option ℕ
 node_named nodes name = position (λ member. bytes_eq member.name name) nodes
 
@@ -59,27 +53,27 @@ writer_at nodes k = unwrap_or (option_map (λ member. member.writer) (slice_get 
 abbrev pub next_edit : ScriptWorld → ℕ → PlaceParts → Content → Edit
 next_edit world k place content = record { place = place; version = record { counter = high_of (held world k) + 1; writer = writer_at world.nodes k }; content = content }
 
--- the numbers of the next ask and of the next piece
+-- the indices of the next ask and of the next piece
 abbrev pub next_ask : ScriptWorld → ℕ
 next_ask world = length (state world).asks
 
 abbrev pub next_piece : ScriptWorld → ℕ
 next_piece world = length (state world).pieces
 
--- one node asks, and another cuts for that ask
+-- one node makes an ask, and another cuts a piece for it
 abbrev pub answered : ScriptWorld → (from to : ℕ) → Option (List PlaceParts) → ScriptWorld
 answered world from to places = happened (happened world (Ask to)) (Cut from (next_ask world) places)
 
--- what was cut then is kept under a name
+-- the piece that is cut is stored under a name
 abbrev pub parted : ScriptWorld → List ℕ → (from to : ℕ) → Option (List PlaceParts) → ScriptWorld
 parted world name from to places = record (answered world from to places) { pieces = (name, next_piece world) ∷ world.pieces }
 
--- the number of the latest piece of a name
+-- the index of the latest piece with a name
 abbrev pub piece_named : List (List ℕ × ℕ) → List ℕ → Option ℕ
 piece_named [] name = None
 piece_named (piece ∷ pieces) name = if bytes_eq piece.0 name then Some piece.1 else piece_named pieces name
 
--- one node is given all that it lacks of another
+-- one node is given everything that it lacks of another
 abbrev pub merged : ScriptWorld → (from to : ℕ) → ScriptWorld
 merged world from to = happened (answered world from to None) (Give (next_piece world) to)
 
@@ -88,7 +82,7 @@ abbrev pub merged_all : ScriptWorld → List (ℕ × ℕ) → ScriptWorld
 merged_all world [] = world
 merged_all world (pair ∷ pairs) = merged_all (merged world pair.0 pair.1) pairs
 
--- the numbers from a first one on, so many
+-- consecutive numbers, `count` of them, from `first` on
 abbrev pub numbers_from : ℕ → ℕ → List ℕ
 numbers_from first zero = []
 numbers_from first (suc count) = first ∷ numbers_from (suc first) count

@@ -1,9 +1,12 @@
-//! The world behind a script: its nodes, what happened, and the pieces by name. No version in it stands for two
-//! edits; there is no code but laws.
+//! The world that a script builds: its nodes, the events so far, and the named pieces. The crate defines valid worlds,
+//! in which no version belongs to two edits, and proves that each step keeps a world valid; it has no other code.
 //!
 //! Promise: convergence.
+//!
+//! The definitions are in `specs/`: the world and its steps, valid worlds, and bounds of their counters.
+//! `valid_worlds` is the law.
 #![tactic(auto)]
 
 mod laws;
 
-pub use laws::lawful_worlds;
+pub use laws::valid_worlds;

@@ -1,23 +1,15 @@
--- Lines that differ by comments, blank lines and numbers alone say the same.
-use Rattle.std.proofs.Common.{◌≡◌, ◌+◌, ◌-◌, ℕ, Bool, true, false, cond, Option, Some, None, List, [], ◌∷◌, ◌++◌, map, filter, length, refl, sym, ap, ◌∙◌, ◌⊎◌, ⊎_elim, append_assoc, length-append, arith}
-use Rattle.std.specs.List.{flat_map}
+-- Lines that differ only by comments, blank lines and line numbers read the same.
+use Rattle.std.proofs.Common.{[], ◌++◌, ◌+◌, ◌-◌, ◌∙◌, ◌∷◌, ◌≡◌, ◌⊎◌, ap, append_assoc, arith, Bool, cond, false, filter, length, length-append, List, map, None, Option, refl, Some, sym, true, ℕ, ⊎_elim}
 use Rattle.std.proofs.lemmas.List.{map-append, take_at}
-use Rattle.section_reader.specs.declared.assignments.Assignment.{Assignment}
-use Rattle.section_reader.specs.declared.assignments.Note.{Note}
-use Rattle.section_reader.specs.declared.assignments.NoteKind.TheVariants.{OutsideSection, NoEquals, BadHeader}
-use Rattle.section_reader.specs.declared.parts.LineForm.{LineForm}
-use Rattle.section_reader.specs.declared.parts.LineForm.TheVariants.{Blank, Comment, Continued, Whole}
-use Rattle.section_reader.specs.Lines.{Line, numbered}
-use Rattle.section_reader.specs.Parts.{form, spaced, trimmed, has_bytes, header_name, is_bracketed, pair_of}
-use Rattle.section_reader.specs.Logical.{going_on, joined, joined_lines, lines_behind, trimmed_line, has_text, logical_of, logical_lines}
-use Rattle.section_reader.specs.LogicalLaws.{going_on-line, joined_lines-line, lines_behind-line}
-use Rattle.section_reader.specs.Sections.{note, assigned, unassigned, up_to_bracket, section_items, assignments_in, section_notes, notes_behind, notes_in, assignments_of, notes_of}
-use Rattle.section_reader.specs.FileLaws.{said, kind_of, text_of_lines, ArePlainLines, SameButNumbers, CommentsChangeNumbersAlone, BlankLinesChangeNumbersAlone, FirstBlankLineChangesNumbersAlone, ContinuedLinesAreJoined, physical_lines-file}
+use Rattle.std.specs.List.{flat_map}
+use Rattle.section_reader.proofs.Prelude.{ArePlainLines, Assignment, BadHeader, Blank, BlankLinesChangeNumbersAlone, Comment, CommentsChangeNumbersAlone, Continued, ContinuedLinesAreJoined, FirstBlankLineChangesNumbersAlone, form, going_on, going_on-line, has_bytes, has_text, header_name, is_bracketed, joined, joined_lines, joined_lines-line, kind_of, Line, LineForm, lines_following, lines_following-line, NoEquals, Note, note, OutsideSection, pair_of, physical_lines-file, said, SameButNumbers, section_items, section_notes, spaced, text_of_lines, trimmed, trimmed_line, Whole}
+use Rattle.section_reader.specs.{Lines.numbered, Logical.logical_lines, Logical.logical_of, Sections.assigned, Sections.assignments_in, Sections.assignments_of, Sections.notes_following, Sections.notes_in, Sections.notes_of, Sections.unassigned, Sections.up_to_bracket}
 
 abbrev text_of : Line → List ℕ
 text_of line = line.text
 
--- the same texts, but for comments and for blank lines behind lines that aren't continued
+-- the same texts, except for comments, for blank lines after whole or blank lines, and for continued lines that are
+-- joined
 data Alike : List Line → List Line → Type 0 where
   none : Alike [] []
   one : (x y : Line) (xs ys : List Line) → x.text ≡ y.text → Alike xs ys → Alike (x ∷ xs) (y ∷ ys)
@@ -25,11 +17,11 @@ data Alike : List Line → List Line → Type 0 where
   blank : (x b y : Line) (xs ys : List Line) → x.text ≡ y.text → (form x.text ≡ Whole) ⊎ (form x.text ≡ Blank) → form b.text ≡ Blank → Alike xs ys → Alike (x ∷ b ∷ xs) (y ∷ ys)
   cut : (x b y : Line) (xs ys : List Line) → form x.text ≡ Continued → form b.text ≡ Whole → form y.text ≡ Whole → spaced x.text ++ b.text ≡ y.text → Alike xs ys → Alike (x ∷ b ∷ xs) (y ∷ ys)
 
--- such lines are joined alike, and go on alike
+-- such lines give the same joined lines and the same continuation
 record SaysSame (xs ys : List Line) : Type 0 where
   more : going_on xs ≡ going_on ys
   here : map text_of (joined_lines xs) ≡ map text_of (joined_lines ys)
-  behind : map text_of (lines_behind xs) ≡ map text_of (lines_behind ys)
+  following : map text_of (lines_following xs) ≡ map text_of (lines_following ys)
 
 texts : List Line → List (List ℕ)
 texts lines = map text_of lines
@@ -44,31 +36,31 @@ one_says : (f : LineForm) (x y : Line) (xs ys : List Line) → form x.text ≡ f
 one_says Blank x y xs ys p q same says = record {
   more = both_sides _ _ _ _ (going_on-line Blank x xs p) refl (going_on-line Blank y ys q);
   here = both_sides _ _ _ _ (ap (map text_of) (joined_lines-line Blank x xs p)) says.here (ap (map text_of) (joined_lines-line Blank y ys q));
-  behind = both_sides _ _ _ _ (ap (map text_of) (lines_behind-line Blank x xs p)) says.here (ap (map text_of) (lines_behind-line Blank y ys q));
+  following = both_sides _ _ _ _ (ap (map text_of) (lines_following-line Blank x xs p)) says.here (ap (map text_of) (lines_following-line Blank y ys q));
 }
 one_says Comment x y xs ys p q same says = record {
   more = both_sides _ _ _ _ (going_on-line Comment x xs p) says.more (going_on-line Comment y ys q);
   here = both_sides _ _ _ _ (ap (map text_of) (joined_lines-line Comment x xs p)) says.here (ap (map text_of) (joined_lines-line Comment y ys q));
-  behind = both_sides _ _ _ _ (ap (map text_of) (lines_behind-line Comment x xs p)) says.behind (ap (map text_of) (lines_behind-line Comment y ys q));
+  following = both_sides _ _ _ _ (ap (map text_of) (lines_following-line Comment x xs p)) says.following (ap (map text_of) (lines_following-line Comment y ys q));
 }
 one_says Continued x y xs ys p q same says =
     let text = ap (λ t. spaced t ++ going_on xs) same ∙ ap (λ v. spaced y.text ++ v) says.more in
     record {
       more = both_sides _ _ _ _ (going_on-line Continued x xs p) text (going_on-line Continued y ys q);
-      here = both_sides _ _ _ _ (ap (map text_of) (joined_lines-line Continued x xs p)) (same_cons _ _ _ _ text says.behind) (ap (map text_of) (joined_lines-line Continued y ys q));
-      behind = both_sides _ _ _ _ (ap (map text_of) (lines_behind-line Continued x xs p)) says.behind (ap (map text_of) (lines_behind-line Continued y ys q));
+      here = both_sides _ _ _ _ (ap (map text_of) (joined_lines-line Continued x xs p)) (same_cons _ _ _ _ text says.following) (ap (map text_of) (joined_lines-line Continued y ys q));
+      following = both_sides _ _ _ _ (ap (map text_of) (lines_following-line Continued x xs p)) says.following (ap (map text_of) (lines_following-line Continued y ys q));
     }
 one_says Whole x y xs ys p q same says = record {
   more = both_sides _ _ _ _ (going_on-line Whole x xs p) same (going_on-line Whole y ys q);
   here = both_sides _ _ _ _ (ap (map text_of) (joined_lines-line Whole x xs p)) (same_cons _ _ _ _ same says.here) (ap (map text_of) (joined_lines-line Whole y ys q));
-  behind = both_sides _ _ _ _ (ap (map text_of) (lines_behind-line Whole x xs p)) says.here (ap (map text_of) (lines_behind-line Whole y ys q));
+  following = both_sides _ _ _ _ (ap (map text_of) (lines_following-line Whole x xs p)) says.here (ap (map text_of) (lines_following-line Whole y ys q));
 }
 
 comment_says : (x : Line) (xs ys : List Line) → form x.text ≡ Comment → SaysSame xs ys → SaysSame (x ∷ xs) ys
 comment_says x xs ys p says = record {
   more = going_on-line Comment x xs p ∙ says.more;
   here = ap (map text_of) (joined_lines-line Comment x xs p) ∙ says.here;
-  behind = ap (map text_of) (lines_behind-line Comment x xs p) ∙ says.behind;
+  following = ap (map text_of) (lines_following-line Comment x xs p) ∙ says.following;
 }
 
 blank_says : (x b y : Line) (xs ys : List Line) → x.text ≡ y.text → (form x.text ≡ Whole) ⊎ (form x.text ≡ Blank) → form b.text ≡ Blank → SaysSame xs ys → SaysSame (x ∷ b ∷ xs) (y ∷ ys)
@@ -78,33 +70,33 @@ blank_says x b y xs ys same is q says =
     (λ (p : form x.text ≡ Whole). let r : form y.text ≡ Whole = sym (ap form same) ∙ p in record {
       more = both_sides _ _ _ _ (going_on-line Whole x (b ∷ xs) p) same (going_on-line Whole y ys r);
       here = both_sides _ _ _ _ (ap (map text_of) (joined_lines-line Whole x (b ∷ xs) p)) (same_cons _ _ _ _ same passed) (ap (map text_of) (joined_lines-line Whole y ys r));
-      behind = both_sides _ _ _ _ (ap (map text_of) (lines_behind-line Whole x (b ∷ xs) p)) passed (ap (map text_of) (lines_behind-line Whole y ys r));
+      following = both_sides _ _ _ _ (ap (map text_of) (lines_following-line Whole x (b ∷ xs) p)) passed (ap (map text_of) (lines_following-line Whole y ys r));
     })
     (λ (p : form x.text ≡ Blank). let r : form y.text ≡ Blank = sym (ap form same) ∙ p in record {
       more = both_sides _ _ _ _ (going_on-line Blank x (b ∷ xs) p) refl (going_on-line Blank y ys r);
       here = both_sides _ _ _ _ (ap (map text_of) (joined_lines-line Blank x (b ∷ xs) p)) passed (ap (map text_of) (joined_lines-line Blank y ys r));
-      behind = both_sides _ _ _ _ (ap (map text_of) (lines_behind-line Blank x (b ∷ xs) p)) passed (ap (map text_of) (lines_behind-line Blank y ys r));
+      following = both_sides _ _ _ _ (ap (map text_of) (lines_following-line Blank x (b ∷ xs) p)) passed (ap (map text_of) (lines_following-line Blank y ys r));
     })
     is
 
 cut_says : (x b y : Line) (xs ys : List Line) → form x.text ≡ Continued → form b.text ≡ Whole → form y.text ≡ Whole → spaced x.text ++ b.text ≡ y.text → SaysSame xs ys → SaysSame (x ∷ b ∷ xs) (y ∷ ys)
 cut_says x b y xs ys p q r same says =
     let text = ap (λ v. spaced x.text ++ v) (going_on-line Whole b xs q) ∙ same in
-    let after = ap (map text_of) (lines_behind-line Whole b xs q) ∙ says.here in
+    let after = ap (map text_of) (lines_following-line Whole b xs q) ∙ says.here in
     record {
       more = both_sides _ _ _ _ (going_on-line Continued x (b ∷ xs) p) text (going_on-line Whole y ys r);
       here = both_sides _ _ _ _ (ap (map text_of) (joined_lines-line Continued x (b ∷ xs) p)) (same_cons _ _ _ _ text after) (ap (map text_of) (joined_lines-line Whole y ys r));
-      behind = both_sides _ _ _ _ (ap (map text_of) (lines_behind-line Continued x (b ∷ xs) p)) after (ap (map text_of) (lines_behind-line Whole y ys r));
+      following = both_sides _ _ _ _ (ap (map text_of) (lines_following-line Continued x (b ∷ xs) p)) after (ap (map text_of) (lines_following-line Whole y ys r));
     }
 
 alike_says : {xs ys : List Line} → Alike xs ys → SaysSame xs ys
-alike_says none = record { more = refl; here = refl; behind = refl }
+alike_says none = record { more = refl; here = refl; following = refl }
 alike_says (one x y xs ys same alike) = one_says (form x.text) x y xs ys refl (sym (ap form same)) same (alike_says alike)
 alike_says (comment x xs ys is alike) = comment_says x xs ys is (alike_says alike)
 alike_says (blank x b y xs ys same is q alike) = blank_says x b y xs ys same is q (alike_says alike)
 alike_says (cut x b y xs ys p q r same alike) = cut_says x b y xs ys p q r same (alike_says alike)
 
--- logical lines
+-- Logical lines.
 
 kept_text : (keep : Bool) (line : Line) (rest : List Line) → map text_of (cond keep (line ∷ rest) rest) ≡ cond keep (line.text ∷ map text_of rest) (map text_of rest)
 kept_text true line rest = refl
@@ -120,9 +112,9 @@ logical_same : (xs ys : List Line) → map text_of (joined_lines xs) ≡ map tex
 unfolding logical_of
 logical_same xs ys same = logical_texts (joined_lines xs) ∙ ap (λ v. filter has_bytes (map trimmed v)) same ∙ sym (logical_texts (joined_lines ys))
 
--- assignments and notes
+-- Assignments and notes.
 
--- what holds of no lines, and of two more lines of one text where it holds of those behind them, holds of any lines of the same texts
+-- induction over two lists of lines with the same texts
 by_texts : (P : List Line → List Line → Type 0) → P [] []
     → ((x y : Line) (xs ys : List Line) → x.text ≡ y.text → map text_of xs ≡ map text_of ys → P xs ys → P (x ∷ xs) (y ∷ ys))
     → (xs ys : List Line) → map text_of xs ≡ map text_of ys → P xs ys
@@ -134,7 +126,7 @@ by_texts P start grow (x ∷ xs) (y ∷ ys) same =
     let tail : map text_of xs ≡ map text_of ys = cc in
     grow x y xs ys head tail (by_texts P start grow xs ys tail)
 
--- what each line gives, seen so that only its text counts
+-- the results of lines, seen through a function for which only the text counts
 each_same : {A B : Type 0} (give : Line → List A) (see : A → B) → ((x y : Line) → x.text ≡ y.text → map see (give x) ≡ map see (give y))
     → (xs ys : List Line) → map text_of xs ≡ map text_of ys → map see (flat_map give xs) ≡ map see (flat_map give ys)
 each_same give see each = by_texts (λ xs ys. map see (flat_map give xs) ≡ map see (flat_map give ys)) refl
@@ -202,55 +194,55 @@ header_same true None x y us vs same = refl
 header_same true (Some n) x y us vs same = each_same unassigned kind_of unassigned_same us vs same
 header_same false name x y us vs same = refl
 
-notes_behind_same : (xs ys : List Line) → map text_of xs ≡ map text_of ys → map kind_of (notes_behind xs) ≡ map kind_of (notes_behind ys)
-unfolding notes_behind
-notes_behind_same = by_texts (λ xs ys. map kind_of (notes_behind xs) ≡ map kind_of (notes_behind ys)) refl
+notes_following_same : (xs ys : List Line) → map text_of xs ≡ map text_of ys → map kind_of (notes_following xs) ≡ map kind_of (notes_following ys)
+unfolding notes_following
+notes_following_same = by_texts (λ xs ys. map kind_of (notes_following xs) ≡ map kind_of (notes_following ys)) refl
     (λ x y xs ys head tail more.
     let own = λ (line : Line) (rest : List Line). cond (is_bracketed line.text) (section_notes line rest) [] in
     let section = header_same (is_bracketed x.text) (header_name x.text) x y (up_to_bracket xs) (up_to_bracket ys) (block_same xs ys tail) ∙ ap (λ t. map kind_of (own (record { number = y.number; text = t }) ys)) head in
     both_sides _ _ _ _
-    (map-append kind_of (own x xs) (notes_behind xs))
-    (ap (λ v. v ++ map kind_of (notes_behind xs)) section ∙ ap (λ v. map kind_of (own y ys) ++ v) more)
-    (map-append kind_of (own y ys) (notes_behind ys)))
+    (map-append kind_of (own x xs) (notes_following xs))
+    (ap (λ v. v ++ map kind_of (notes_following xs)) section ∙ ap (λ v. map kind_of (own y ys) ++ v) more)
+    (map-append kind_of (own y ys) (notes_following ys)))
 
 notes_same : (xs ys : List Line) → map text_of xs ≡ map text_of ys → map kind_of (notes_in xs) ≡ map kind_of (notes_in ys)
 unfolding notes_in
 notes_same xs ys same =
     both_sides _ _ _ _
-    (map-append kind_of (map (note OutsideSection) (up_to_bracket xs)) (notes_behind xs))
-    (ap (λ v. v ++ map kind_of (notes_behind xs)) (outside_same (up_to_bracket xs) (up_to_bracket ys) (block_same xs ys same))
-    ∙ ap (λ v. map kind_of (map (note OutsideSection) (up_to_bracket ys)) ++ v) (notes_behind_same xs ys same))
-    (map-append kind_of (map (note OutsideSection) (up_to_bracket ys)) (notes_behind ys))
+    (map-append kind_of (map (note OutsideSection) (up_to_bracket xs)) (notes_following xs))
+    (ap (λ v. v ++ map kind_of (notes_following xs)) (outside_same (up_to_bracket xs) (up_to_bracket ys) (block_same xs ys same))
+    ∙ ap (λ v. map kind_of (map (note OutsideSection) (up_to_bracket ys)) ++ v) (notes_following_same xs ys same))
+    (map-append kind_of (map (note OutsideSection) (up_to_bracket ys)) (notes_following ys))
 
--- files
+-- Files.
 
 alike_numbered : (n m : ℕ) (ts : List (List ℕ)) → Alike (numbered n ts) (numbered m ts)
 unfolding numbered
 alike_numbered n m [] = none
 alike_numbered n m (t ∷ ts) = one _ _ _ _ refl (alike_numbered (n + 1) (m + 1) ts)
 
-alike_comment : (n m : ℕ) (front back : List (List ℕ)) (c : List ℕ) → form c ≡ Comment → Alike (numbered n (front ++ c ∷ back)) (numbered m (front ++ back))
+alike_comment : (n m : ℕ) (prefix back : List (List ℕ)) (c : List ℕ) → form c ≡ Comment → Alike (numbered n (prefix ++ c ∷ back)) (numbered m (prefix ++ back))
 unfolding numbered
 alike_comment n m [] back c is = comment _ _ _ is (alike_numbered (n + 1) m back)
-alike_comment n m (t ∷ front) back c is = one _ _ _ _ refl (alike_comment (n + 1) (m + 1) front back c is)
+alike_comment n m (t ∷ prefix) back c is = one _ _ _ _ refl (alike_comment (n + 1) (m + 1) prefix back c is)
 
-alike_blank : (n m : ℕ) (front back : List (List ℕ)) (l b : List ℕ) → (form l ≡ Whole) ⊎ (form l ≡ Blank) → form b ≡ Blank
-    → Alike (numbered n (front ++ l ∷ b ∷ back)) (numbered m (front ++ l ∷ back))
+alike_blank : (n m : ℕ) (prefix back : List (List ℕ)) (l b : List ℕ) → (form l ≡ Whole) ⊎ (form l ≡ Blank) → form b ≡ Blank
+    → Alike (numbered n (prefix ++ l ∷ b ∷ back)) (numbered m (prefix ++ l ∷ back))
 unfolding numbered
 alike_blank n m [] back l b is blank_is = blank _ _ _ _ _ refl is blank_is (alike_numbered (n + 1 + 1) (m + 1) back)
-alike_blank n m (t ∷ front) back l b is blank_is = one _ _ _ _ refl (alike_blank (n + 1) (m + 1) front back l b is blank_is)
+alike_blank n m (t ∷ prefix) back l b is blank_is = one _ _ _ _ refl (alike_blank (n + 1) (m + 1) prefix back l b is blank_is)
 
--- the backslash makes way for a space
+-- the backslash is replaced by a space
 spaced-cut : (start end : List ℕ) → spaced (start ++ 92 ∷ []) ++ end ≡ start ++ 32 ∷ end
 spaced-cut start end =
     let at : length start ≡ length (start ++ 92 ∷ []) - 1 = omega (arith, length-append start (92 ∷ [])) in
     ap (λ v. (v ++ 32 ∷ []) ++ end) (take_at start (92 ∷ []) (length (start ++ 92 ∷ []) - 1) at) ∙ append_assoc start (32 ∷ []) end
 
-alike_cut : (n m : ℕ) (front back : List (List ℕ)) (start end : List ℕ) → form (start ++ 92 ∷ []) ≡ Continued → form end ≡ Whole → form (start ++ 32 ∷ end) ≡ Whole
-    → Alike (numbered n (front ++ (start ++ 92 ∷ []) ∷ end ∷ back)) (numbered m (front ++ (start ++ 32 ∷ end) ∷ back))
+alike_cut : (n m : ℕ) (prefix back : List (List ℕ)) (start end : List ℕ) → form (start ++ 92 ∷ []) ≡ Continued → form end ≡ Whole → form (start ++ 32 ∷ end) ≡ Whole
+    → Alike (numbered n (prefix ++ (start ++ 92 ∷ []) ∷ end ∷ back)) (numbered m (prefix ++ (start ++ 32 ∷ end) ∷ back))
 unfolding numbered
 alike_cut n m [] back start end p q r = cut _ _ _ _ _ p q r (spaced-cut start end) (alike_numbered (n + 1 + 1) (m + 1) back)
-alike_cut n m (t ∷ front) back start end p q r = one _ _ _ _ refl (alike_cut (n + 1) (m + 1) front back start end p q r)
+alike_cut n m (t ∷ prefix) back start end p q r = one _ _ _ _ refl (alike_cut (n + 1) (m + 1) prefix back start end p q r)
 
 joined_same : (xs ys : List (List ℕ)) → ArePlainLines xs → ArePlainLines ys → map text_of (joined_lines (numbered 1 xs)) ≡ map text_of (joined_lines (numbered 1 ys))
     → SameButNumbers (text_of_lines xs) (text_of_lines ys)
@@ -263,10 +255,10 @@ joined_same xs ys p q same =
     (items_same _ _ logical, notes_same _ _ logical)
 
 pub comments_change_numbers_alone : CommentsChangeNumbersAlone
-comments_change_numbers_alone front back c is p q = joined_same _ _ p q (alike_says (alike_comment 1 1 front back c is)).here
+comments_change_numbers_alone prefix back c is p q = joined_same _ _ p q (alike_says (alike_comment 1 1 prefix back c is)).here
 
 pub blank_lines_change_numbers_alone : BlankLinesChangeNumbersAlone
-blank_lines_change_numbers_alone front back l b is blank_is p q = joined_same _ _ p q (alike_says (alike_blank 1 1 front back l b is blank_is)).here
+blank_lines_change_numbers_alone prefix back l b is blank_is p q = joined_same _ _ p q (alike_says (alike_blank 1 1 prefix back l b is blank_is)).here
 
 pub first_blank_line_changes_numbers_alone : FirstBlankLineChangesNumbersAlone
 unfolding numbered
@@ -274,4 +266,4 @@ first_blank_line_changes_numbers_alone back b is p q =
     joined_same (b ∷ back) back p q (ap (map text_of) (joined_lines-line Blank (record { number = 1; text = b }) (numbered 2 back) is) ∙ (alike_says (alike_numbered 2 1 back)).here)
 
 pub continued_lines_are_joined : ContinuedLinesAreJoined
-continued_lines_are_joined front back start end is whole joined p q = joined_same _ _ p q (alike_says (alike_cut 1 1 front back start end is whole joined)).here
+continued_lines_are_joined prefix back start end is whole joined p q = joined_same _ _ p q (alike_says (alike_cut 1 1 prefix back start end is whole joined)).here

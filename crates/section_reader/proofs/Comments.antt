@@ -1,16 +1,11 @@
 -- Comments, blank lines and the byte order mark.
-use Rattle.std.proofs.Common.{◌≡◌, ◌+◌, ◌&&◌, ◌||◌, ℕ, suc, Bool, true, false, eqb, List, [], ◌∷◌, ◌++◌, drop, refl, sym, ap, ◌∙◌, ⊎_elim, arith}
-use Rattle.std.specs.List.{prefix_len, list_all}
+use Rattle.std.proofs.Common.{[], ◌&&◌, ◌++◌, ◌+◌, ◌||◌, ◌∙◌, ◌∷◌, ◌≡◌, ap, arith, Bool, drop, eqb, false, List, refl, suc, sym, true, ℕ, ⊎_elim}
+use Rattle.std.proofs.lemmas.Bool.{and_parts, cond-false, cond-true}
+use Rattle.std.specs.List.{list_all, prefix_len}
 use Rattle.std.specs.Str.Lines.{lines}
-use Rattle.std.proofs.lemmas.Bool.{cond-true, cond-false, and_parts}
-use Rattle.section_reader.specs.declared.parts.LineForm.TheVariants.{Comment}
-use Rattle.section_reader.specs.Lines.{numbered, without_mark, physical_lines}
-use Rattle.section_reader.specs.Parts.{form, is_white, is_blank, is_comment, trim_start}
-use Rattle.section_reader.specs.Logical.{logical_of, logical_lines}
-use Rattle.section_reader.specs.Sections.{assignments_in, notes_in, assignments_of, notes_of}
-use Rattle.section_reader.specs.FileLaws.{CommentsAreMarked, WhitespaceIsBlank, MarksChangeNothing}
-use Rattle.section_reader.proofs.PartLemmas.{and_nothing}
-use Rattle.section_reader.proofs.OneLine.{trim_start-bare}
+use Rattle.section_reader.proofs.Prelude.{assignments_in, Comment, CommentsAreMarked, is_blank, is_comment, is_white, logical_of, MarksChangeNothing, notes_in, numbered, trim_start, WhitespaceIsBlank, without_mark}
+use Rattle.section_reader.specs.{Lines.physical_lines, Logical.logical_lines, Parts.form, Sections.assignments_of, Sections.notes_of}
+use Rattle.section_reader.proofs.{OneLine.trim_start-bare, PartLemmas.and_nothing}
 
 one_more : (n : ℕ) → 1 + n ≡ suc n
 one_more n = omega arith
@@ -27,21 +22,21 @@ trim_start-whites (w ∷ white) line all =
 is_mark : ℕ → Bool
 is_mark b = (eqb 35 b && true) || (eqb 59 b && true)
 
-blank-marked : (white rest : List ℕ) (b : ℕ) → is_white b ≡ false → is_blank (white ++ b ∷ rest) ≡ false
-blank-marked [] rest b other = ap (λ v. v && is_blank rest) other
-blank-marked (w ∷ white) rest b other = and_nothing (is_white w) (is_blank (white ++ b ∷ rest)) (blank-marked white rest b other)
+blank-comment_sign : (white rest : List ℕ) (b : ℕ) → is_white b ≡ false → is_blank (white ++ b ∷ rest) ≡ false
+blank-comment_sign [] rest b other = ap (λ v. v && is_blank rest) other
+blank-comment_sign (w ∷ white) rest b other = and_nothing (is_white w) (is_blank (white ++ b ∷ rest)) (blank-comment_sign white rest b other)
 
-marked : (white rest : List ℕ) (b : ℕ) → list_all is_white white ≡ true → is_white b ≡ false → is_mark b ≡ true → form (white ++ b ∷ rest) ≡ Comment
+comment_sign : (white rest : List ℕ) (b : ℕ) → list_all is_white white ≡ true → is_white b ≡ false → is_mark b ≡ true → form (white ++ b ∷ rest) ≡ Comment
 unfolding form is_mark
-marked white rest b all other is =
+comment_sign white rest b all other is =
     let text = trim_start-whites white (b ∷ rest) all ∙ trim_start-bare (b ∷ rest) other in
     let comment : is_comment (white ++ b ∷ rest) ≡ true = rw text is in
-    cond-false _ _ _ (blank-marked white rest b other) ∙ cond-true _ _ _ comment
+    cond-false _ _ _ (blank-comment_sign white rest b other) ∙ cond-true _ _ _ comment
 
 pub comments_are_marked : CommentsAreMarked
 unfolding is_mark
 comments_are_marked white rest b all is =
-    ⊎_elim (λ e. rw e (marked white rest 35 all refl refl)) (λ e. rw e (marked white rest 59 all refl refl)) is
+    ⊎_elim (λ e. rw e (comment_sign white rest 35 all refl refl)) (λ e. rw e (comment_sign white rest 59 all refl refl)) is
 
 pub whitespace_is_blank : WhitespaceIsBlank
 unfolding form

@@ -1,21 +1,16 @@
--- Lines that stand for themselves, by their first and last bytes.
-use Rattle.std.proofs.Common.{◌≡◌, ◌≢◌, ◌<◌, ◌-◌, ◌+◌, ◌&&◌, ◌||◌, ℕ, true, false, eqb, Some, List, [], ◌∷◌, ◌++◌, length, take, drop, get_or, refl, sym, ap, ◌∙◌, append_assoc, length-append, arith}
-use Rattle.std.specs.Prelude.{nat_eq, codes}
-use Rattle.std.specs.List.{AllByRecursion, ends_with, suffix_len}
-use Rattle.std.proofs.lemmas.Bool.{cond-true, cond-false, ne_eqb, and_from, lt-ltb, eqb-true}
-use Rattle.std.proofs.lemmas.List.{drop_more, drop_all, take_all, take_at, drop_at, get_or_push, get_or-append-add, get_or_append_left}
-use Rattle.std.proofs.lemmas.List.Sums.{suffix_len_is}
+-- Lines that are logical lines by themselves, by their first and last bytes.
+use Rattle.std.proofs.Common.{[], ◌&&◌, ◌++◌, ◌+◌, ◌-◌, ◌<◌, ◌||◌, ◌∙◌, ◌∷◌, ◌≡◌, ◌≢◌, ap, append_assoc, arith, codes, drop, eqb, false, get_or, length, length-append, List, refl, Some, sym, take, true, ℕ}
 use Rattle.std.proofs.Math.Seq.{get_or-append_seam}
-use Rattle.section_reader.specs.declared.parts.LineForm.TheVariants.{Whole}
-use Rattle.section_reader.specs.Lines.{Line, numbered}
-use Rattle.section_reader.specs.Parts.{form, is_white, is_blank, is_comment, is_continued, trim_start, trim_end, trimmed, is_bracketed, header_name, pair_of}
-use Rattle.section_reader.specs.Logical.{logical_of, kept}
-use Rattle.section_reader.specs.LogicalLaws.{logical_of-nil, logical_of-whole}
-use Rattle.section_reader.specs.WrittenLaws.{first_of, last_of, HasBareEnds, IsOneLine, IsName, IsKey, IsValue, header_line, pair_line}
-use Rattle.section_reader.proofs.PartLemmas.{pair_of-both}
-use Rattle.section_reader.proofs.PlaceLemmas.{kept-some}
+use Rattle.std.proofs.lemmas.Bool.{and_from, cond-false, cond-true, eqb-true, lt-ltb, ne_eqb}
+use Rattle.std.proofs.lemmas.List.{drop_all, drop_at, drop_more, get_or-append-add, get_or_append_left, get_or_push, take_all, take_at}
+use Rattle.std.proofs.lemmas.List.Sums.{suffix_len_is}
+use Rattle.std.specs.List.{AllByRecursion, ends_with, suffix_len}
+use Rattle.std.specs.Prelude.{nat_eq}
+use Rattle.section_reader.proofs.Prelude.{first_of, HasBareEnds, header_line, is_blank, is_bracketed, is_comment, is_continued, is_white, IsKey, IsName, IsOneLine, IsValue, kept, last_of, Line, logical_of, logical_of-nil, logical_of-whole, pair_line, pair_of, trim_end, trim_start, Whole}
+use Rattle.section_reader.specs.{Lines.numbered, Parts.form, Parts.header_name, Parts.trimmed}
+use Rattle.section_reader.proofs.{PartLemmas.pair_of-both, PlaceLemmas.kept-some}
 
--- ends
+-- Ends.
 
 last_alone : (line : List ℕ) → 0 < length line → drop (length line - 1) line ≡ last_of line ∷ []
 last_alone line some =
@@ -42,7 +37,7 @@ pub trimmed-bare : (line : List ℕ) → HasBareEnds line → trimmed line ≡ l
 unfolding trimmed
 trimmed-bare line bare = ap trim_end (trim_start-bare line bare.0) ∙ trim_end-bare line bare.1
 
--- forms
+-- Forms.
 
 not_blank : (line : List ℕ) → 0 < length line → is_white (first_of line) ≡ false → is_blank line ≡ false
 not_blank [] some bare = absurd (omega arith)
@@ -59,7 +54,7 @@ form-one line is =
     let continued : is_continued line ≡ false = ends_in line 92 is.some ∙ differ 92 (last_of line) is.backslash in
     cond-false _ _ _ (not_blank line is.some is.bare.0) ∙ cond-false _ _ _ (not_comment line is.some is.bare.0 is.hash is.semicolon) ∙ cond-false _ _ _ continued
 
--- lines one by one
+-- Lines one by one.
 
 one_kept : (n : ℕ) (text : List ℕ) (rest : List Line) → IsOneLine text → kept (record { number = n; text = trimmed text }) rest ≡ record { number = n; text = text } ∷ rest
 one_kept n text rest is =
@@ -74,7 +69,7 @@ one_by_one n (text ∷ texts) all =
     ∙ one_kept n text (logical_of (numbered (n + 1) texts)) all.0
     ∙ ap (λ v. line ∷ v) (one_by_one (n + 1) texts all.1)
 
--- headers
+-- Headers.
 
 header_last : (name : List ℕ) → last_of (header_line name) ≡ 93
 header_last name =
@@ -104,7 +99,7 @@ header-name name is =
     cond-true _ _ _ (and_from _ _ ends long)
     ∙ ap (λ n. Some (take n (name ++ 93 ∷ []))) between ∙ ap (λ v. Some v) (take_at name (93 ∷ []) (length name) refl)
 
--- pairs
+-- Pairs.
 
 pair_first : (key value : List ℕ) → 0 < length key → first_of (pair_line (key, value)) ≡ first_of key
 pair_first [] value some = absurd (omega arith)
@@ -149,11 +144,11 @@ pair-of key value k v =
     let len : length line ≡ length key + (1 + length value) = omega (arith, length-append key (61 ∷ value)) in
     let here : get_or line (length key) 0 ≡ 61 = get_or_seam in
     let before : take (length key) line ≡ key = take_at key (61 ∷ value) (length key) refl in
-    let behind : drop (length key + 1) line ≡ value = drop_seam in
+    let following : drop (length key + 1) line ≡ value = drop_seam in
     let bare = trimmed-bare key k.bare in
     let both = pair_of-both line (length key) (omega arith) (ap (λ b. eqb b 61) here) none (rw (before, bare) k.some) in
     both ∙ ap (λ x. Some (trimmed x, trimmed (drop (length key + 1) line))) before ∙ ap (λ x. Some (x, trimmed (drop (length key + 1) line))) bare
-    ∙ ap (λ x. Some (key, trimmed x)) behind ∙ ap (λ x. Some (key, x)) (trimmed-bare value v.bare)
+    ∙ ap (λ x. Some (key, trimmed x)) following ∙ ap (λ x. Some (key, x)) (trimmed-bare value v.bare)
   where
     get_or_seam : get_or (key ++ 61 ∷ value) (length key) 0 ≡ 61
     get_or_seam = get_or-append_seam key 61 value 0

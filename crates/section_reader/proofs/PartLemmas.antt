@@ -1,9 +1,10 @@
 -- The parts of a line, as searches find them.
-use Rattle.std.proofs.Common.{◌≡◌, ◌<◌, ◌+◌, ◌&&◌, ltb, Some, None, ℕ, Bool, true, false, List, length, take, drop, get_or, refl, ap, ◌∙◌, arith}
-use Rattle.std.specs.List.{position_or_len}
-use Rattle.std.proofs.lemmas.Bool.{cond-true, cond-false, and_from, lt-ltb, le-ltb}
+use Rattle.std.proofs.Common.{◌&&◌, ◌+◌, ◌<◌, ◌∙◌, ◌≡◌, ap, arith, Bool, drop, false, get_or, length, List, ltb, None, refl, Some, take, true, ℕ}
+use Rattle.std.proofs.lemmas.Bool.{and_from, cond-false, cond-true, le-ltb, lt-ltb}
 use Rattle.std.proofs.lemmas.List.Sums.{position_or_len_is}
-use Rattle.section_reader.specs.Parts.{trimmed, is_equals, key_in, value_in, pair_of}
+use Rattle.std.specs.List.{position_or_len}
+use Rattle.section_reader.proofs.Prelude.{is_equals, key_in, trimmed, value_in}
+use Rattle.section_reader.specs.Parts.{pair_of}
 
 not_so : (b : Bool) → (b ≡ true → ⊥) → b ≡ false
 not_so true none = absurd (none refl)
@@ -13,7 +14,7 @@ pub and_nothing : (a b : Bool) → b ≡ false → (a && b) ≡ false
 and_nothing true b is = is
 and_nothing false b is = refl
 
--- the first equals sign stands here
+-- the first equals sign is here
 equals_at : (text : List ℕ) (at : ℕ) → at < length text → is_equals (get_or text at 0) ≡ true → ((k : ℕ) → k < at → is_equals (get_or text k 0) ≡ true → ⊥) → position_or_len is_equals text ≡ at
 equals_at text at lt is none = position_or_len_is is_equals text at 0 (omega arith) (λ k h. not_so _ (none k h)) (λ h. is)
 
@@ -35,7 +36,7 @@ pair_of-keyless text at lt is none empty =
     let short : ltb 0 (length (key_in text)) ≡ false = le-ltb _ _ (omega (arith, ap length key)) in
     cond-false _ _ _ (and_nothing _ _ short)
 
--- the key and the value on both sides of the first equals sign
+-- the key and the value are on both sides of the first equals sign
 pub pair_of-both : (text : List ℕ) (at : ℕ) → at < length text → is_equals (get_or text at 0) ≡ true → ((k : ℕ) → k < at → is_equals (get_or text k 0) ≡ true → ⊥)
     → 0 < length (trimmed (take at text)) → pair_of text ≡ Some (trimmed (take at text), trimmed (drop (at + 1) text))
 unfolding pair_of

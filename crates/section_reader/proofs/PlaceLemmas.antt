@@ -1,22 +1,13 @@
--- A line at a time of what lines still give to a reader.
-use Rattle.std.proofs.Common.{◌≡◌, ◌<◌, ◌&&◌, ℕ, true, false, ltb, length, Option, Some, None, Result, Ok, Err, List, [], ◌∷◌, ◌++◌, refl, sym, ap, ◌∙◌, append_assoc, append-nil, arith}
-use Rattle.std.specs.Prelude.{nat_eq, codes}
-use Rattle.std.specs.List.{flat_map, ends_with}
-use Rattle.std.specs.Result.{OnOk}
-use Rattle.std.proofs.lemmas.Bool.{cond-true, cond-false, lt-ltb, le-ltb}
+-- What the remaining lines give a reader, one line at a time.
+use Rattle.std.proofs.Common.{[], ◌&&◌, ◌++◌, ◌<◌, ◌∙◌, ◌∷◌, ◌≡◌, ap, append-nil, append_assoc, arith, codes, Err, false, length, List, ltb, None, Ok, OnOk, Option, refl, Result, Some, sym, true, ℕ}
+use Rattle.std.proofs.lemmas.Bool.{cond-false, cond-true, le-ltb, lt-ltb}
 use Rattle.std.proofs.lemmas.Bool.Decides.{nat_tests}
-use Rattle.section_reader.specs.declared.assignments.Assignment.{Assignment}
-use Rattle.section_reader.specs.declared.assignments.Note.{Note}
-use Rattle.section_reader.specs.declared.assignments.NoteKind.TheVariants.{OutsideSection, NoEquals, BadHeader}
-use Rattle.section_reader.specs.declared.places.Place.{Place}
-use Rattle.section_reader.specs.declared.places.Place.TheVariants.{Outside, Inside, PassedOver}
-use Rattle.section_reader.specs.Lines.{Line}
-use Rattle.section_reader.specs.Parts.{is_bracketed, header_name, pair_of}
-use Rattle.section_reader.specs.Sections.{note, up_to_bracket, assigned, unassigned, assignments_in, notes_behind, notes_in}
-use Rattle.section_reader.specs.Logical.{kept}
-use Rattle.section_reader.specs.Places.{items_at, notes_at, place_behind, header_notes, items_from, notes_from}
+use Rattle.std.specs.List.{ends_with, flat_map}
+use Rattle.std.specs.Prelude.{nat_eq}
+use Rattle.section_reader.proofs.Prelude.{Assignment, BadHeader, Inside, is_bracketed, kept, Line, NoEquals, Note, note, Outside, OutsideSection, pair_of, PassedOver, Place}
+use Rattle.section_reader.specs.{Parts.header_name, Places.header_notes, Places.items_at, Places.items_from, Places.notes_at, Places.notes_from, Places.place_following, Sections.assigned, Sections.assignments_in, Sections.notes_following, Sections.notes_in, Sections.unassigned, Sections.up_to_bracket}
 
--- lists and assignments
+-- Lists and assignments.
 
 pub nothing_more : {A : Type 0} (xs ys : List A) → ys ≡ [] → xs ≡ xs ++ ys
 nothing_more xs ys none = sym (ap (λ v. xs ++ v) none ∙ append-nil xs)
@@ -32,7 +23,7 @@ pub same_assignment : (s section k key v value : List ℕ) (line : ℕ) → s �
 same_assignment s section k key v value line es ek ev =
     ap (λ x. assignment x k v line) es ∙ ap (λ x. assignment section x v line) ek ∙ ap (λ x. assignment section key x line) ev
 
--- headers
+-- Headers.
 
 pub header_notes-good : (line : Line) (name : List ℕ) → header_name line.text ≡ Some name → header_notes line ≡ []
 unfolding header_notes
@@ -42,15 +33,15 @@ pub header_notes-bad : (line : Line) → header_name line.text ≡ None → head
 unfolding header_notes
 header_notes-bad line is = rw (is, header_notes) refl
 
-pub place_behind-good : (text name : List ℕ) → header_name text ≡ Some name → place_behind text ≡ Inside name
-unfolding place_behind
-place_behind-good text name is = rw (is, place_behind) refl
+pub place_following-good : (text name : List ℕ) → header_name text ≡ Some name → place_following text ≡ Inside name
+unfolding place_following
+place_following-good text name is = rw (is, place_following) refl
 
-pub place_behind-bad : (text : List ℕ) → header_name text ≡ None → place_behind text ≡ PassedOver
-unfolding place_behind
-place_behind-bad text is = rw (is, place_behind) refl
+pub place_following-bad : (text : List ℕ) → header_name text ≡ None → place_following text ≡ PassedOver
+unfolding place_following
+place_following-bad text is = rw (is, place_following) refl
 
--- other lines
+-- Other lines.
 
 pub items-outside : (line : Line) → items_at Outside (line ∷ []) ≡ []
 unfolding items_at
@@ -85,7 +76,7 @@ pub notes-assigned : (section : List ℕ) (line : Line) (key value : List ℕ) �
 unfolding notes_at unassigned
 notes-assigned section line key value is = append-nil (unassigned line) ∙ rw (is, unassigned) refl
 
--- what is left behind a line
+-- What remains after a line.
 
 items_at-nil : (place : Place) → items_at place [] ≡ []
 unfolding items_at
@@ -132,21 +123,21 @@ unfolding notes_at
 named_notes None line lines = refl
 named_notes (Some n) line lines = refl
 
-pub items_from-header : (place : Place) (line : Line) (rest : List Line) → is_bracketed line.text ≡ true → items_from place (line ∷ rest) ≡ items_from (place_behind line.text) rest
-unfolding items_from assignments_in place_behind
+pub items_from-header : (place : Place) (line : Line) (rest : List Line) → is_bracketed line.text ≡ true → items_from place (line ∷ rest) ≡ items_from (place_following line.text) rest
+unfolding items_from assignments_in place_following
 items_from-header place line rest is =
     ap (λ v. items_at place v ++ assignments_in (line ∷ rest)) (up_to_bracket-header line rest is)
     ∙ ap (λ v. v ++ assignments_in (line ∷ rest)) (items_at-nil place)
     ∙ ap (λ v. v ++ assignments_in rest) (named_items (header_name line.text) (up_to_bracket rest))
 
 pub notes_from-header : (place : Place) (line : Line) (rest : List Line) → is_bracketed line.text ≡ true
-    → notes_from place (line ∷ rest) ≡ header_notes line ++ notes_from (place_behind line.text) rest
-unfolding notes_from notes_behind place_behind header_notes
+    → notes_from place (line ∷ rest) ≡ header_notes line ++ notes_from (place_following line.text) rest
+unfolding notes_from notes_following place_following header_notes
 notes_from-header place line rest is =
-    ap (λ v. notes_at place v ++ notes_behind (line ∷ rest)) (up_to_bracket-header line rest is)
-    ∙ ap (λ v. v ++ notes_behind (line ∷ rest)) (notes_at-nil place)
-    ∙ ap (λ v. v ++ notes_behind rest) (cond-true _ _ _ is ∙ named_notes (header_name line.text) line (up_to_bracket rest))
-    ∙ append_assoc (header_notes line) (notes_at (place_behind line.text) (up_to_bracket rest)) (notes_behind rest)
+    ap (λ v. notes_at place v ++ notes_following (line ∷ rest)) (up_to_bracket-header line rest is)
+    ∙ ap (λ v. v ++ notes_following (line ∷ rest)) (notes_at-nil place)
+    ∙ ap (λ v. v ++ notes_following rest) (cond-true _ _ _ is ∙ named_notes (header_name line.text) line (up_to_bracket rest))
+    ∙ append_assoc (header_notes line) (notes_at (place_following line.text) (up_to_bracket rest)) (notes_following rest)
 
 pub plain_header : (text : List ℕ) → is_bracketed text ≡ false → header_name text ≡ None
 unfolding header_name
@@ -156,26 +147,26 @@ pub no_items : (name : Option (List ℕ)) (lines : List Line) → name ≡ None 
 no_items None lines is = refl
 no_items (Some n) lines is = absurd (cc)
 
--- a line that begins with no bracket is no header
+-- a line that doesn't begin with a bracket isn't a header
 pub assignments_in-entry : (line : Line) (rest : List Line) → is_bracketed line.text ≡ false
     → assignments_in (line ∷ rest) ≡ assignments_in rest
 unfolding assignments_in
 assignments_in-entry line rest is =
     ap (λ v. v ++ assignments_in rest) (no_items (header_name line.text) (up_to_bracket rest) (plain_header line.text is))
 
-pub notes_behind-entry : (line : Line) (rest : List Line) → is_bracketed line.text ≡ false → notes_behind (line ∷ rest) ≡ notes_behind rest
-unfolding notes_behind
-notes_behind-entry line rest is = ap (λ v. v ++ notes_behind rest) (cond-false _ _ _ is)
+pub notes_following-entry : (line : Line) (rest : List Line) → is_bracketed line.text ≡ false → notes_following (line ∷ rest) ≡ notes_following rest
+unfolding notes_following
+notes_following-entry line rest is = ap (λ v. v ++ notes_following rest) (cond-false _ _ _ is)
 
--- what lines give, the first of which begins with no bracket
-from-entry : {A : Type 0} (here behind : List Line → List A) (line : Line) (rest : List Line) → is_bracketed line.text ≡ false
-    → ((lines : List Line) → here (line ∷ lines) ≡ here (line ∷ []) ++ here lines) → behind (line ∷ rest) ≡ behind rest
-    → here (up_to_bracket (line ∷ rest)) ++ behind (line ∷ rest) ≡ here (line ∷ []) ++ (here (up_to_bracket rest) ++ behind rest)
-from-entry here behind line rest is one same =
-    ap (λ v. here v ++ behind (line ∷ rest)) (up_to_bracket-entry line rest is)
-    ∙ ap (λ v. v ++ behind (line ∷ rest)) (one (up_to_bracket rest))
+-- what lines give, if the first doesn't begin with a bracket
+from-entry : {A : Type 0} (here following : List Line → List A) (line : Line) (rest : List Line) → is_bracketed line.text ≡ false
+    → ((lines : List Line) → here (line ∷ lines) ≡ here (line ∷ []) ++ here lines) → following (line ∷ rest) ≡ following rest
+    → here (up_to_bracket (line ∷ rest)) ++ following (line ∷ rest) ≡ here (line ∷ []) ++ (here (up_to_bracket rest) ++ following rest)
+from-entry here following line rest is one same =
+    ap (λ v. here v ++ following (line ∷ rest)) (up_to_bracket-entry line rest is)
+    ∙ ap (λ v. v ++ following (line ∷ rest)) (one (up_to_bracket rest))
     ∙ ap (λ v. (here (line ∷ []) ++ here (up_to_bracket rest)) ++ v) same
-    ∙ append_assoc (here (line ∷ [])) (here (up_to_bracket rest)) (behind rest)
+    ∙ append_assoc (here (line ∷ [])) (here (up_to_bracket rest)) (following rest)
 
 pub items_from-entry : (place : Place) (line : Line) (rest : List Line) → is_bracketed line.text ≡ false
     → items_from place (line ∷ rest) ≡ items_at place (line ∷ []) ++ items_from place rest
@@ -187,39 +178,39 @@ pub notes_from-entry : (place : Place) (line : Line) (rest : List Line) → is_b
     → notes_from place (line ∷ rest) ≡ notes_at place (line ∷ []) ++ notes_from place rest
 unfolding notes_from
 notes_from-entry place line rest is =
-    from-entry (notes_at place) notes_behind line rest is (notes_at-cons place line) (notes_behind-entry line rest is)
+    from-entry (notes_at place) notes_following line rest is (notes_at-cons place line) (notes_following-entry line rest is)
 
 pub items_from-nil : (place : Place) → items_from place [] ≡ []
 unfolding items_from up_to_bracket assignments_in
 items_from-nil place = ap (λ v. v ++ []) (items_at-nil place)
 
 pub notes_from-nil : (place : Place) → notes_from place [] ≡ []
-unfolding notes_from up_to_bracket notes_behind
+unfolding notes_from up_to_bracket notes_following
 notes_from-nil place = ap (λ v. v ++ []) (notes_at-nil place)
 
--- a line with a byte is kept
+-- a line that isn't empty is kept
 pub kept-some : (line : Line) (rest : List Line) → 0 < length line.text → kept line rest ≡ line ∷ rest
 kept-some line rest some = cond-true _ _ _ (lt-ltb 0 (length line.text) some)
 
--- An empty line gives nothing.
+-- an empty line gives nothing
 pub kept-none : (line : Line) (rest : List Line) → length line.text ≡ 0 → kept line rest ≡ rest
 kept-none line rest none = cond-false _ _ _ (le-ltb 0 (length line.text) (omega arith))
 
--- A line that is read, and that has a byte: what it gives is put behind what was read, and the rest is what the lines behind it give.
-pub told_line : {A T E : Type 0} (give : Place → List Line → List A) (number : ℕ) (text : List ℕ)
+-- Reading a line that isn't empty: its result is appended to what was read, and the rest comes from the lines after it.
+pub recorded_line : {A T E : Type 0} (give : Place → List Line → List A) (number : ℕ) (text : List ℕ)
     (was_at is_at at : Place) (was is one : List A) (r : Result T E)
     → false ≡ nat_eq (length text) 0 → OnOk r (is ≡ was ++ one) → OnOk r (is_at ≡ at)
     → ((rest : List Line) → give was_at (record { number = number; text = text } ∷ rest) ≡ one ++ give at rest)
     → OnOk r ((rest : List Line) → is ++ give is_at rest ≡ was ++ give was_at (kept (record { number = number; text = text }) rest))
-told_line give number text was_at is_at at was is one (Ok x) test step place gives = λ rest.
+recorded_line give number text was_at is_at at was is one (Ok x) test step place gives = λ rest.
     let some : 0 < length text = grind (arith, nat_tests) in
     ap (λ v. v ++ give is_at rest) step
     ∙ append_assoc was one (give is_at rest)
     ∙ ap (λ p. was ++ (one ++ give p rest)) place
     ∙ ap (λ v. was ++ v) (sym (ap (give was_at) (kept-some (record { number = number; text = text }) rest some) ∙ gives rest))
-told_line give number text was_at is_at at was is one (Err e) test step place gives = step
+recorded_line give number text was_at is_at at was is one (Err e) test step place gives = step
 
--- At the start of a file nothing is given but what the file gives.
+-- From the start of a file, the reader gives what the file gives.
 pub items_from-start : (lines : List Line) → items_from Outside lines ≡ assignments_in lines
 unfolding items_from items_at
 items_from-start lines = refl
@@ -228,12 +219,12 @@ pub notes_from-start : (lines : List Line) → notes_from Outside lines ≡ note
 unfolding notes_from notes_at notes_in
 notes_from-start lines = refl
 
--- a line more is read
+-- one more line is read
 pub step : {A : Type 0} (give : List Line → List A) (was is whole : List A) (number : ℕ) (text trim : List ℕ) (lines rest : List Line)
     → is ≡ was ++ give (kept (record { number = number; text = trim }) rest) → trim ≡ text → lines ≡ kept (record { number = number; text = text }) rest → was ++ give lines ≡ whole → is ≡ whole
 step give was is whole number text trim lines rest now same first so_far =
     now ∙ ap (λ t. was ++ give (kept (record { number = number; text = t }) rest)) same ∙ ap (λ v. was ++ give v) (sym first) ∙ so_far
 
--- no line is left
+-- no line remains
 pub finished : {A : Type 0} (give : List Line → List A) (was whole : List A) (lines : List Line) → lines ≡ [] → give [] ≡ [] → was ++ give lines ≡ whole → was ≡ whole
 finished give was whole lines end nothing so_far = nothing_more was (give lines) (ap give end ∙ nothing) ∙ so_far

@@ -1,23 +1,14 @@
 -- Sections that are written line by line are read back.
-use Rattle.std.proofs.Common.{◌≡◌, ◌+◌, ◌-◌, ℕ, false, Option, Some, None, List, [], ◌∷◌, ◌++◌, length, get_or, map, refl, sym, ap, ◌∙◌, ◌≢◌, append-nil, length-append, arith}
-use Rattle.std.specs.List.{AllByRecursion, flat_map}
+use Rattle.std.proofs.Common.{[], ◌++◌, ◌+◌, ◌-◌, ◌∙◌, ◌∷◌, ◌≡◌, ◌≢◌, ap, append-nil, arith, false, get_or, length, length-append, List, map, None, Option, refl, Some, sym, ℕ}
 use Rattle.std.proofs.lemmas.Bool.{cond-false, false≢true}
-use Rattle.std.proofs.lemmas.List.Elements.{recursion_from_All, All-from_recursion, All-cons, All-push, All-append}
 use Rattle.std.proofs.lemmas.List.{get_or_push}
-use Rattle.list_laws.specs.Lines.{EndsInReturn, IsPlainLine}
-use Rattle.section_reader.specs.declared.assignments.Assignment.{Assignment}
-use Rattle.section_reader.specs.declared.assignments.Note.{Note}
-use Rattle.section_reader.specs.declared.assignments.NoteKind.TheVariants.{OutsideSection, BadHeader}
-use Rattle.section_reader.specs.Lines.{Line, numbered}
-use Rattle.section_reader.specs.Parts.{is_bracketed, is_white, header_name}
-use Rattle.section_reader.specs.Logical.{logical_lines, logical_of}
-use Rattle.section_reader.specs.Sections.{note, assigned, unassigned, up_to_bracket, assignments_in, notes_behind, notes_in, assignments_of, notes_of}
-use Rattle.section_reader.specs.FileLaws.{HasNoMark, physical_lines-file}
-use Rattle.section_reader.specs.WrittenLaws.{Section, last_of, IsOneLine, IsPair, IsSection, IsName, header_line, pair_line, section_lines, written, pairs_from, sections_from, SectionsAreReadBack}
-use Rattle.section_reader.proofs.PlaceLemmas.{assignments_in-entry, notes_behind-entry}
-use Rattle.section_reader.proofs.OneLine.{one_by_one, header-one, header-name, pair-one, pair-plain, pair-of}
+use Rattle.std.proofs.lemmas.List.Elements.{All-append, All-cons, All-from_recursion, All-push, recursion_from_All}
+use Rattle.std.specs.List.{AllByRecursion, flat_map}
+use Rattle.section_reader.proofs.Prelude.{Assignment, BadHeader, EndsInReturn, HasNoMark, header_line, header_name, is_bracketed, is_white, IsName, IsOneLine, IsPair, IsPlainLine, IsSection, last_of, Line, logical_of, Note, note, OutsideSection, pair_line, pairs_from, physical_lines-file, Section, section_lines, sections_from, SectionsAreReadBack, written}
+use Rattle.section_reader.specs.{Lines.numbered, Logical.logical_lines, Sections.assigned, Sections.assignments_in, Sections.assignments_of, Sections.notes_following, Sections.notes_in, Sections.notes_of, Sections.unassigned, Sections.up_to_bracket}
+use Rattle.section_reader.proofs.{OneLine.header-name, OneLine.header-one, OneLine.one_by_one, OneLine.pair-of, OneLine.pair-one, OneLine.pair-plain, PlaceLemmas.assignments_in-entry, PlaceLemmas.notes_following-entry}
 
--- the lines of sections, one after another
+-- the lines of all sections, one section after another
 abbrev all_lines : List Section → List (List ℕ)
 all_lines sections = flat_map section_lines sections
 
@@ -34,18 +25,18 @@ block-pairs n end (pair ∷ pairs) rest all at =
     let line : Line = record { number = n; text = pair_line pair } in
     cond-false _ _ _ (pair-plain pair.0 pair.1 all.0.0) ∙ ap (λ v. line ∷ v) (block-pairs (n + 1) end pairs rest all.1 (omega arith))
 
--- lines of pairs are passed over by what asks for headers alone
-past-pairs : {A : Type 0} (behind : List Line → List A)
-    → ((line : Line) (rest : List Line) → is_bracketed line.text ≡ false → behind (line ∷ rest) ≡ behind rest)
+-- a function that looks only at headers skips lines with pairs
+past-pairs : {A : Type 0} (following : List Line → List A)
+    → ((line : Line) (rest : List Line) → is_bracketed line.text ≡ false → following (line ∷ rest) ≡ following rest)
     → (n end : ℕ) (pairs : List (List ℕ × List ℕ)) (rest : List (List ℕ)) → AllByRecursion IsPair pairs → n + length pairs ≡ end
-    → behind (numbered n (map pair_line pairs ++ rest)) ≡ behind (numbered end rest)
+    → following (numbered n (map pair_line pairs ++ rest)) ≡ following (numbered end rest)
 unfolding numbered
-past-pairs behind past n end [] rest all at = ap (λ k. behind (numbered k rest)) (let here : n ≡ end = omega arith in here)
-past-pairs behind past n end (pair ∷ pairs) rest all at =
+past-pairs following past n end [] rest all at = ap (λ k. following (numbered k rest)) (let here : n ≡ end = omega arith in here)
+past-pairs following past n end (pair ∷ pairs) rest all at =
     past (record { number = n; text = pair_line pair }) (numbered (n + 1) (map pair_line pairs ++ rest)) (pair-plain pair.0 pair.1 all.0.0)
-    ∙ past-pairs behind past (n + 1) end pairs rest all.1 (omega arith)
+    ∙ past-pairs following past (n + 1) end pairs rest all.1 (omega arith)
 
--- assignments
+-- Assignments.
 
 assigned-pair : (name : List ℕ) (n : ℕ) (pair : List ℕ × List ℕ) → IsPair pair
     → assigned name (record { number = n; text = pair_line pair }) ≡ record { section = name; key = pair.0; value = pair.1; line = n } ∷ []
@@ -84,7 +75,7 @@ items-sections n (section ∷ sections) all =
     (past-pairs assignments_in assignments_in-entry (n + 1) (n + 1 + length section.pairs) section.pairs (all_lines sections) pairs refl
     ∙ items-sections (n + 1 + length section.pairs) sections all.1)
 
--- notes
+-- Notes.
 
 unassigned-pair : (n : ℕ) (pair : List ℕ × List ℕ) → IsPair pair → unassigned (record { number = n; text = pair_line pair }) ≡ []
 unfolding unassigned
@@ -101,21 +92,21 @@ named_notes-some : (header : Option (List ℕ)) (name : List ℕ) (line : Line) 
 named_notes-some None name line lines is = absurd (cc)
 named_notes-some (Some n) name line lines is = refl
 
-notes-sections : (n : ℕ) (sections : List Section) → AllByRecursion IsSection sections → notes_behind (numbered n (all_lines sections)) ≡ []
-unfolding notes_behind numbered
+notes-sections : (n : ℕ) (sections : List Section) → AllByRecursion IsSection sections → notes_following (numbered n (all_lines sections)) ≡ []
+unfolding notes_following numbered
 notes-sections n [] all = refl
 notes-sections n (section ∷ sections) all =
     let line : Line = record { number = n; text = header_line section.name } in
     let later = numbered (n + 1) (map pair_line section.pairs ++ all_lines sections) in
     let pairs = recursion_from_All IsPair section.pairs all.0.1 in
-    ap (λ v. v ++ notes_behind later)
+    ap (λ v. v ++ notes_following later)
     (named_notes-some (header_name (header_line section.name)) section.name line (up_to_bracket later) (header-name section.name all.0.0)
     ∙ ap (flat_map unassigned) (section_block (n + 1) section sections pairs)
     ∙ section-notes (n + 1) section.pairs pairs)
-    ∙ past-pairs notes_behind notes_behind-entry (n + 1) (n + 1 + length section.pairs) section.pairs (all_lines sections) pairs refl
+    ∙ past-pairs notes_following notes_following-entry (n + 1) (n + 1 + length section.pairs) section.pairs (all_lines sections) pairs refl
     ∙ notes-sections (n + 1 + length section.pairs) sections all.1
 
--- the whole file
+-- The whole file.
 
 pairs-all : (P : List ℕ → Type 0) (pairs : List (List ℕ × List ℕ)) (rest : List (List ℕ)) → AllByRecursion IsPair pairs → ((pair : List ℕ × List ℕ) → IsPair pair → P (pair_line pair)) → AllByRecursion P rest
     → AllByRecursion P (map pair_line pairs ++ rest)
@@ -130,10 +121,10 @@ sections-all P (section ∷ sections) all header each = (
   pairs-all P section.pairs (all_lines sections) (recursion_from_All IsPair section.pairs all.0.1) each (sections-all P sections all.1 header each),
 )
 
-last_return : (line front : List ℕ) → line ≡ front ++ 13 ∷ [] → last_of line ≡ 13
-last_return line front is =
-    let at : length (front ++ 13 ∷ []) - 1 ≡ length front = omega (arith, length-append front (13 ∷ [])) in
-    ap last_of is ∙ ap (λ k. get_or (front ++ 13 ∷ []) k 0) at ∙ get_or_push front 13 0 (length front) refl
+last_return : (line prefix : List ℕ) → line ≡ prefix ++ 13 ∷ [] → last_of line ≡ 13
+last_return line prefix is =
+    let at : length (prefix ++ 13 ∷ []) - 1 ≡ length prefix = omega (arith, length-append prefix (13 ∷ [])) in
+    ap last_of is ∙ ap (λ k. get_or (prefix ++ 13 ∷ []) k 0) at ∙ get_or_push prefix 13 0 (length prefix) refl
 
 -- a line without whitespace at its end doesn't end in a carriage return
 no_return : (line : List ℕ) → is_white (last_of line) ≡ false → EndsInReturn line → ⊥
@@ -164,5 +155,5 @@ sections_are_read_back sections every =
     let single = sections-all IsOneLine sections all (λ name is. header-one name) (λ pair is. pair-one pair.0 pair.1 is.0 is.1) in
     let lines = ap logical_of (physical_lines-file texts (plain, no_mark sections)) ∙ one_by_one 1 texts single in (
       ap assignments_in lines ∙ items-sections 1 sections all,
-      ap notes_in lines ∙ ap (λ v. map (note OutsideSection) v ++ notes_behind (numbered 1 texts)) (block-sections 1 sections) ∙ notes-sections 1 sections all,
+      ap notes_in lines ∙ ap (λ v. map (note OutsideSection) v ++ notes_following (numbered 1 texts)) (block-sections 1 sections) ∙ notes-sections 1 sections all,
     )

@@ -1,20 +1,15 @@
--- Files that are put together from lines: comments change the numbers of lines and nothing else, and so do blank lines that end no continued line.
-use Rattle.std.proofs.Common.{◌≡◌, ℕ, true, false, List, [], ◌∷◌, ◌++◌, map, sym, ap, ◌∙◌, ◌⊎◌, append-nil}
-use Rattle.std.specs.Prelude.{nat_eq}
-use Rattle.std.specs.List.{All, flat_map, starts_with, list_all}
-use Rattle.std.specs.Str.Lines.{lines}
+-- Files put together from lines: comments change only line numbers, and so do blank lines that don't end a
+-- continuation.
+use Rattle.std.proofs.Common.{[], ◌++◌, ◌∙◌, ◌∷◌, ◌≡◌, ◌⊎◌, All, ap, append-nil, false, List, map, sym, true, ℕ}
 use Rattle.std.proofs.lemmas.Bool.{cond-false}
 use Rattle.std.proofs.lemmas.List.Elements.{recursion_from_All}
-use Rattle.list_laws.specs.Lines.{IsPlainLine, lines-line_feeds}
-use Rattle.section_reader.specs.declared.assignments.Assignment.{Assignment}
-use Rattle.section_reader.specs.declared.assignments.Note.{Note}
-use Rattle.section_reader.specs.declared.assignments.NoteKind.{NoteKind}
-use Rattle.section_reader.specs.declared.parts.LineForm.TheVariants.{Blank, Comment, Continued, Whole}
-use Rattle.section_reader.specs.Lines.{byte_order_mark, numbered, physical_lines}
-use Rattle.section_reader.specs.Parts.{form, is_white}
-use Rattle.section_reader.specs.Sections.{assignments_of, notes_of}
+use Rattle.std.specs.List.{flat_map, list_all, starts_with}
+use Rattle.std.specs.Prelude.{nat_eq}
+use Rattle.std.specs.Str.Lines.{lines}
+use Rattle.section_reader.specs.Prelude.{IsPlainLine, lines-line_feeds}
+use Rattle.section_reader.specs.{declared.assignments.Assignment.Assignment, declared.assignments.Note.Note, declared.assignments.NoteKind.NoteKind, declared.parts.LineForm.TheVariants.Blank, declared.parts.LineForm.TheVariants.Comment, declared.parts.LineForm.TheVariants.Continued, declared.parts.LineForm.TheVariants.Whole, Lines.byte_order_mark, Lines.numbered, Lines.physical_lines, Parts.form, Parts.is_white, Sections.assignments_of, Sections.notes_of}
 
--- the file of these lines, each with a line feed behind it
+-- the file of these lines, each followed by a line feed
 abbrev pub text_of_lines : List (List ℕ) → List ℕ
 text_of_lines texts = flat_map (λ line. line ++ 10 ∷ []) texts
 
@@ -22,48 +17,51 @@ text_of_lines texts = flat_map (λ line. line ++ 10 ∷ []) texts
 abbrev pub HasNoMark : List ℕ → Type 0
 HasNoMark bytes = starts_with nat_eq bytes byte_order_mark ≡ false
 
--- The lines may stand in a file as they are: none has a line feed or ends in a carriage return, and no mark stands before the first.
+-- The lines can be in a file unchanged: none has a line feed or ends in a carriage return, and the file doesn't begin
+-- with a byte order mark.
 abbrev pub ArePlainLines : List (List ℕ) → Type 0
 ArePlainLines texts = All IsPlainLine texts × HasNoMark (text_of_lines texts)
 
--- what an assignment says besides its line's number
+-- an assignment without its line number
 abbrev pub said : Assignment → List ℕ × List ℕ × List ℕ
 said a = (a.section, a.key, a.value)
 
 abbrev pub kind_of : Note → NoteKind
 kind_of n = n.kind
 
--- two files say the same but for the numbers of lines
+-- two files read the same except for line numbers
 abbrev pub SameButNumbers : List ℕ → List ℕ → Type 0
 SameButNumbers x y = (map said (assignments_of x) ≡ map said (assignments_of y)) × (map kind_of (notes_of x) ≡ map kind_of (notes_of y))
 
--- A comment may be put before any line, also before one that goes on with a continued one, and at the end.
+-- A comment may be added before any line, even before the continuation of a line, and at the end.
 abbrev pub CommentsChangeNumbersAlone : Type 0
 CommentsChangeNumbersAlone =
-    (front back : List (List ℕ)) (comment : List ℕ) → form comment ≡ Comment → ArePlainLines (front ++ comment ∷ back) → ArePlainLines (front ++ back)
-    → SameButNumbers (text_of_lines (front ++ comment ∷ back)) (text_of_lines (front ++ back))
+    (prefix back : List (List ℕ)) (comment : List ℕ) → form comment ≡ Comment → ArePlainLines (prefix ++ comment ∷ back) → ArePlainLines (prefix ++ back)
+    → SameButNumbers (text_of_lines (prefix ++ comment ∷ back)) (text_of_lines (prefix ++ back))
 
--- A blank line may be put behind a whole line or a blank one. Behind a continued line it ends what goes on, and behind a comment too if that stands in what goes on.
+-- A blank line may be added after a whole line or a blank line. After a continued line it ends the continuation, and so
+-- it does after a comment within a continuation.
 abbrev pub BlankLinesChangeNumbersAlone : Type 0
 BlankLinesChangeNumbersAlone =
-    (front back : List (List ℕ)) (line blank : List ℕ) → (form line ≡ Whole) ⊎ (form line ≡ Blank) → form blank ≡ Blank
-    → ArePlainLines (front ++ line ∷ blank ∷ back) → ArePlainLines (front ++ line ∷ back)
-    → SameButNumbers (text_of_lines (front ++ line ∷ blank ∷ back)) (text_of_lines (front ++ line ∷ back))
+    (prefix back : List (List ℕ)) (line blank : List ℕ) → (form line ≡ Whole) ⊎ (form line ≡ Blank) → form blank ≡ Blank
+    → ArePlainLines (prefix ++ line ∷ blank ∷ back) → ArePlainLines (prefix ++ line ∷ back)
+    → SameButNumbers (text_of_lines (prefix ++ line ∷ blank ∷ back)) (text_of_lines (prefix ++ line ∷ back))
 
--- And one may stand before the first line.
+-- A blank line may be added before the first line.
 abbrev pub FirstBlankLineChangesNumbersAlone : Type 0
 FirstBlankLineChangesNumbersAlone =
     (back : List (List ℕ)) (blank : List ℕ) → form blank ≡ Blank → ArePlainLines (blank ∷ back) → ArePlainLines back
     → SameButNumbers (text_of_lines (blank ∷ back)) (text_of_lines back)
 
--- A continued line and a whole one behind it say what one line says that has a space in place of the backslash and the line feed.
+-- A continued line and the whole line after it read like one line with a space in place of the backslash and the line
+-- feed.
 abbrev pub ContinuedLinesAreJoined : Type 0
 ContinuedLinesAreJoined =
-    (front back : List (List ℕ)) (start end : List ℕ) → form (start ++ 92 ∷ []) ≡ Continued → form end ≡ Whole → form (start ++ 32 ∷ end) ≡ Whole
-    → ArePlainLines (front ++ (start ++ 92 ∷ []) ∷ end ∷ back) → ArePlainLines (front ++ (start ++ 32 ∷ end) ∷ back)
-    → SameButNumbers (text_of_lines (front ++ (start ++ 92 ∷ []) ∷ end ∷ back)) (text_of_lines (front ++ (start ++ 32 ∷ end) ∷ back))
+    (prefix back : List (List ℕ)) (start end : List ℕ) → form (start ++ 92 ∷ []) ≡ Continued → form end ≡ Whole → form (start ++ 32 ∷ end) ≡ Whole
+    → ArePlainLines (prefix ++ (start ++ 92 ∷ []) ∷ end ∷ back) → ArePlainLines (prefix ++ (start ++ 32 ∷ end) ∷ back)
+    → SameButNumbers (text_of_lines (prefix ++ (start ++ 92 ∷ []) ∷ end ∷ back)) (text_of_lines (prefix ++ (start ++ 32 ∷ end) ∷ back))
 
--- What begins with whitespace and then `#` or `;` is a comment, whatever follows, and a line of whitespace is blank.
+-- A line with whitespace and then `#` or `;` is a comment, whatever follows; a line of whitespace is blank.
 abbrev pub CommentsAreMarked : Type 0
 CommentsAreMarked = (white rest : List ℕ) (b : ℕ) → list_all is_white white ≡ true → (b ≡ 35) ⊎ (b ≡ 59) → form (white ++ b ∷ rest) ≡ Comment
 

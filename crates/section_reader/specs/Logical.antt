@@ -1,11 +1,11 @@
--- The logical lines of a file: physical lines, by cases on the first and what follows it.
--- Source: systemd.syntax(7), "Introduction"; what a blank line, the end of the file and several backslashes do is this project's own.
-use Rattle.std.specs.Prelude.{ℕ, List, [], ◌∷◌, ◌++◌, map, filter, Bool, if◌then◌else◌}
-use Rattle.section_reader.specs.declared.parts.LineForm.TheVariants.{Blank, Comment, Continued, Whole}
-use Rattle.section_reader.specs.Lines.{Line, physical_lines}
-use Rattle.section_reader.specs.Parts.{form, spaced, trimmed, has_bytes}
+-- The logical lines of a file, defined from its physical lines by the form of each.
+-- Source: systemd.syntax(7), "Introduction"; what a blank line, the end of the file and several backslashes do is this
+-- project's own.
+use Rattle.std.proofs.Common.{[], ◌++◌, ◌∷◌, Bool, filter, if◌then◌else◌, List, map, ℕ}
+use Rattle.section_reader.specs.{declared.parts.LineForm.TheVariants.Blank, declared.parts.LineForm.TheVariants.Comment, declared.parts.LineForm.TheVariants.Continued, declared.parts.LineForm.TheVariants.Whole, Lines.Line, Lines.physical_lines, Parts.form, Parts.has_bytes, Parts.spaced, Parts.trimmed}
 
--- What a continued line goes on with, by the lines that follow it: comments are passed over, and a blank line or the end of the file ends it.
+-- The continuation of a continued line, taken from the lines after it: comments are skipped, and a blank line or the
+-- end of the file ends it.
 unfoldable pub going_on : List Line → List ℕ
 going_on [] = []
 going_on (line ∷ rest) = elim (form line.text) [
@@ -15,28 +15,28 @@ going_on (line ∷ rest) = elim (form line.text) [
   | Whole ↦ line.text
 ]
 
--- a continued line, joined with what it goes on with
+-- a continued line, joined with its continuation
 abbrev pub joined : Line → List Line → Line
 joined line rest = record { number = line.number; text = spaced line.text ++ going_on rest }
 
 unfoldable mutual
-  -- The lines of which each is whole: those that begin none are passed over, and a continued line is joined with what it goes on with.
+  -- Joined lines: blank lines and comments are left out, and a continued line is joined with its continuation.
   pub joined_lines : List Line → List Line
   joined_lines [] = []
   joined_lines (line ∷ rest) = elim (form line.text) [
     | Blank ↦ joined_lines rest
     | Comment ↦ joined_lines rest
-    | Continued ↦ joined line rest ∷ lines_behind rest
+    | Continued ↦ joined line rest ∷ lines_following rest
     | Whole ↦ line ∷ joined_lines rest
   ]
 
-  -- the same, behind what a continued line goes on with
-  pub lines_behind : List Line → List Line
-  lines_behind [] = []
-  lines_behind (line ∷ rest) = elim (form line.text) [
+  -- the joined lines after the rest of a continuation
+  pub lines_following : List Line → List Line
+  lines_following [] = []
+  lines_following (line ∷ rest) = elim (form line.text) [
     | Blank ↦ joined_lines rest
-    | Comment ↦ lines_behind rest
-    | Continued ↦ lines_behind rest
+    | Comment ↦ lines_following rest
+    | Continued ↦ lines_following rest
     | Whole ↦ joined_lines rest
   ]
 
@@ -47,7 +47,7 @@ trimmed_line line = record { number = line.number; text = trimmed line.text }
 abbrev pub has_text : Line → Bool
 has_text line = has_bytes line.text
 
--- a trimmed line and the logical lines behind it: an empty one is none
+-- a trimmed line and the logical lines after it; an empty line is left out
 abbrev pub kept : Line → List Line → List Line
 kept line rest = if has_text line then line ∷ rest else rest
 

@@ -1,19 +1,19 @@
--- What single lines are: blank, comments, continued, headers, assignments.
+-- The forms of lines: blank, comment, continued, header, assignment.
 -- Source: systemd.syntax(7), "Introduction"; which bytes are whitespace is this project's own.
-use Rattle.std.specs.Prelude.{ℕ, ◌-◌, ◌==◌, nat_eq, nat_lt, Bool, ◌||◌, ◌&&◌, if◌then◌else◌, codes, Option, Some, None, List, [], ◌∷◌, ◌++◌, length, take, drop}
-use Rattle.std.specs.List.{list_all, starts_with, ends_with, slice_range, prefix_len, suffix_len, position_or_len, before_first, after_first}
-use Rattle.section_reader.specs.declared.parts.LineForm.{LineForm}
-use Rattle.section_reader.specs.declared.parts.LineForm.TheVariants.{Blank, Comment, Continued, Whole}
+use Rattle.std.proofs.Common.{[], ◌&&◌, ◌++◌, ◌-◌, ◌==◌, ◌||◌, ◌∷◌, Bool, codes, drop, if◌then◌else◌, length, List, nat_lt, None, Option, Some, take, ℕ}
+use Rattle.std.specs.List.{after_first, before_first, ends_with, list_all, position_or_len, prefix_len, slice_range, starts_with, suffix_len}
+use Rattle.std.specs.Prelude.{nat_eq}
+use Rattle.section_reader.specs.{declared.parts.LineForm.LineForm, declared.parts.LineForm.TheVariants.Blank, declared.parts.LineForm.TheVariants.Comment, declared.parts.LineForm.TheVariants.Continued, declared.parts.LineForm.TheVariants.Whole}
 
 -- whitespace is space, tab and carriage return
 abbrev pub is_white : ℕ → Bool
 is_white b = b == 32 || b == 9 || b == 13
 
--- bytes without the whitespace at their front
+-- bytes without the whitespace at the start
 abbrev pub trim_start : List ℕ → List ℕ
 trim_start bytes = drop (prefix_len is_white bytes) bytes
 
--- bytes without the whitespace at their end
+-- bytes without the whitespace at the end
 abbrev pub trim_end : List ℕ → List ℕ
 trim_end bytes = take (length bytes - suffix_len is_white bytes) bytes
 
@@ -21,19 +21,19 @@ trim_end bytes = take (length bytes - suffix_len is_white bytes) bytes
 unfoldable pub trimmed : List ℕ → List ℕ
 trimmed bytes = trim_end (trim_start bytes)
 
--- nothing but whitespace stands in the line
+-- the line has only whitespace
 abbrev pub is_blank : List ℕ → Bool
 is_blank line = list_all is_white line
 
--- the line's first byte past whitespace is `#` or `;`
+-- the first byte after leading whitespace is `#` or `;`
 abbrev pub is_comment : List ℕ → Bool
 is_comment line = starts_with nat_eq (trim_start line) (codes "#") || starts_with nat_eq (trim_start line) (codes ";")
 
--- the line's last byte is a backslash
+-- the last byte is a backslash
 abbrev pub is_continued : List ℕ → Bool
 is_continued line = ends_with nat_eq line (codes "\\")
 
--- What a physical line is. A blank line or a comment is never continued.
+-- The form of a physical line. A blank line or a comment is never continued.
 unfoldable pub form : List ℕ → LineForm
 form line = if is_blank line then Blank else (if is_comment line then Comment else (if is_continued line then Continued else Whole))
 
@@ -48,21 +48,21 @@ has_bytes text = nat_lt 0 (length text)
 abbrev pub is_bracketed : List ℕ → Bool
 is_bracketed text = starts_with nat_eq text (codes "[")
 
--- The name in a good header, one that ends in a bracket with something between: all that stands between.
+-- The name in a good header, which ends in a bracket and isn't empty between the two: all that is between them.
 unfoldable pub header_name : List ℕ → Option (List ℕ)
 header_name text = if is_bracketed text && ends_with nat_eq text (codes "]") && nat_lt 2 (length text) then Some (slice_range text 1 (length text - 1)) else None
 
 abbrev pub is_equals : ℕ → Bool
 is_equals b = b == 61
 
--- what stands before the first equals sign
+-- the text before the first equals sign
 abbrev pub key_in : List ℕ → List ℕ
 key_in text = trimmed (before_first is_equals text)
 
--- what stands behind the first equals sign
+-- the text after the first equals sign
 abbrev pub value_in : List ℕ → List ℕ
 value_in text = trimmed (after_first is_equals text)
 
--- The key and the value of a line. None where it has no equals sign or the key is empty.
+-- The key and the value of a line; `None` if it has no equals sign or the key is empty.
 unfoldable pub pair_of : List ℕ → Option (List ℕ × List ℕ)
 pair_of text = if nat_lt (position_or_len is_equals text) (length text) && has_bytes (key_in text) then Some (key_in text, value_in text) else None

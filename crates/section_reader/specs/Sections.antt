@@ -1,21 +1,15 @@
--- The assignments and notes of a file, by its logical lines.
+-- The assignments and notes of a file, defined from its logical lines.
 -- Source: systemd.syntax(7), "Introduction"; that a file is read on behind a bad header is this project's own.
-use Rattle.std.specs.Prelude.{ℕ, Some, None, if◌then◌else◌, List, [], ◌∷◌, ◌++◌, map}
+use Rattle.std.proofs.Common.{[], ◌++◌, ◌∷◌, if◌then◌else◌, List, map, None, Some, ℕ}
 use Rattle.std.specs.List.{flat_map}
-use Rattle.section_reader.specs.declared.assignments.Assignment.{Assignment}
-use Rattle.section_reader.specs.declared.assignments.Note.{Note}
-use Rattle.section_reader.specs.declared.assignments.NoteKind.{NoteKind}
-use Rattle.section_reader.specs.declared.assignments.NoteKind.TheVariants.{OutsideSection, NoEquals, BadHeader}
-use Rattle.section_reader.specs.Lines.{Line}
-use Rattle.section_reader.specs.Logical.{logical_lines}
-use Rattle.section_reader.specs.Parts.{is_bracketed, header_name, pair_of}
+use Rattle.section_reader.specs.{declared.assignments.Assignment.Assignment, declared.assignments.Note.Note, declared.assignments.NoteKind.NoteKind, declared.assignments.NoteKind.TheVariants.BadHeader, declared.assignments.NoteKind.TheVariants.NoEquals, declared.assignments.NoteKind.TheVariants.OutsideSection, Lines.Line, Logical.logical_lines, Parts.header_name, Parts.is_bracketed, Parts.pair_of}
 
 -- the lines up to the first that begins with a bracket
 unfoldable pub up_to_bracket : List Line → List Line
 up_to_bracket [] = []
 up_to_bracket (line ∷ rest) = if is_bracketed line.text then [] else line ∷ up_to_bracket rest
 
--- what a line of a section assigns: one thing, or nothing
+-- what a line of a section assigns: one assignment or none
 unfoldable pub assigned : List ℕ → Line → List Assignment
 assigned section line = elim (pair_of line.text) [
   | None ↦ []
@@ -25,14 +19,15 @@ assigned section line = elim (pair_of line.text) [
 abbrev pub note : NoteKind → Line → Note
 note kind line = record { line = line.number; kind = kind }
 
--- the note on a line of a section, where it assigns nothing
+-- the note on a line of a section that assigns nothing
 unfoldable pub unassigned : Line → List Note
 unassigned line = elim (pair_of line.text) [
   | None ↦ note NoEquals line ∷ []
   | Some pair ↦ []
 ]
 
--- what the section of this header assigns, where the line is a good header: its lines are those up to the next that begins with a bracket
+-- what the section of this header assigns, if the header is good: its lines are those up to the next that begins with a
+-- bracket
 abbrev pub section_items : Line → List Line → List Assignment
 section_items line rest = elim (header_name line.text) [
   | None ↦ []
@@ -44,7 +39,8 @@ unfoldable pub assignments_in : List Line → List Assignment
 assignments_in [] = []
 assignments_in (line ∷ rest) = section_items line rest ++ assignments_in rest
 
--- the notes on a header and its section: behind a bad one the lines up to the next that begins with a bracket have none
+-- the notes on a header and its section: after a bad header the lines up to the next that begins with a bracket have
+-- none
 abbrev pub section_notes : Line → List Line → List Note
 section_notes line rest = elim (header_name line.text) [
   | None ↦ note BadHeader line ∷ []
@@ -52,18 +48,18 @@ section_notes line rest = elim (header_name line.text) [
 ]
 
 -- The notes on headers and sections.
-unfoldable pub notes_behind : List Line → List Note
-notes_behind [] = []
-notes_behind (line ∷ rest) = (if is_bracketed line.text then section_notes line rest else []) ++ notes_behind rest
+unfoldable pub notes_following : List Line → List Note
+notes_following [] = []
+notes_following (line ∷ rest) = (if is_bracketed line.text then section_notes line rest else []) ++ notes_following rest
 
--- The notes: on each line that stands before any header, good or bad, and then section by section.
+-- The notes: on each line before any header, good or bad, and then section by section.
 unfoldable pub notes_in : List Line → List Note
-notes_in lines = map (note OutsideSection) (up_to_bracket lines) ++ notes_behind lines
+notes_in lines = map (note OutsideSection) (up_to_bracket lines) ++ notes_following lines
 
 -- the assignments of a file
 unfoldable pub assignments_of : List ℕ → List Assignment
 assignments_of bytes = assignments_in (logical_lines bytes)
 
--- the notes on a file's lines
+-- the notes on the lines of a file
 unfoldable pub notes_of : List ℕ → List Note
 notes_of bytes = notes_in (logical_lines bytes)

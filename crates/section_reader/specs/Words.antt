@@ -1,8 +1,7 @@
--- How notes are spelled.
+-- The texts of notes.
 -- Source: this project's own.
-use Rattle.std.specs.Prelude.{ℕ, List, codes}
-use Rattle.section_reader.specs.declared.assignments.NoteKind.{NoteKind}
-use Rattle.section_reader.specs.declared.assignments.NoteKind.TheVariants.{OutsideSection, NoEquals, BadHeader}
+use Rattle.std.proofs.Common.{codes, List, ℕ}
+use Rattle.section_reader.specs.{declared.assignments.NoteKind.NoteKind, declared.assignments.NoteKind.TheVariants.BadHeader, declared.assignments.NoteKind.TheVariants.NoEquals, declared.assignments.NoteKind.TheVariants.OutsideSection}
 
 -- the code of a note
 abbrev pub code_of : NoteKind → List ℕ
@@ -10,7 +9,7 @@ code_of OutsideSection = codes "K1"
 code_of NoEquals = codes "K2"
 code_of BadHeader = codes "K3"
 
--- a note in print: its code and its name
+-- a printed note: its code and its name
 abbrev pub words_of : NoteKind → List ℕ
 words_of OutsideSection = codes "K1 OutsideSection"
 words_of NoEquals = codes "K2 NoEquals"

@@ -1,27 +1,21 @@
 -- Files that are written section by section are read back.
-use Rattle.std.proofs.Common.{◌≡◌, ◌≢◌, ◌<◌, ◌+◌, ◌-◌, ℕ, false, List, [], ◌∷◌, ◌++◌, length, map}
-use Rattle.std.specs.Prelude.{slice_index}
-use Rattle.std.specs.List.{All, flat_map}
-use Rattle.list_laws.specs.Lines.{HasNoLineFeed}
-use Rattle.section_reader.specs.declared.assignments.Assignment.{Assignment}
-use Rattle.section_reader.specs.Lines.{numbered}
-use Rattle.section_reader.specs.Parts.{is_white}
-use Rattle.section_reader.specs.Logical.{logical_of}
-use Rattle.section_reader.specs.FileLaws.{text_of_lines}
-use Rattle.section_reader.specs.Sections.{assignments_of, notes_of}
+use Rattle.std.proofs.Common.{[], ◌++◌, ◌+◌, ◌-◌, ◌<◌, ◌∷◌, ◌≡◌, ◌≢◌, All, false, length, List, map, slice_index, ℕ}
+use Rattle.std.specs.List.{flat_map}
+use Rattle.section_reader.specs.Prelude.{HasNoLineFeed}
+use Rattle.section_reader.specs.{declared.assignments.Assignment.Assignment, FileLaws.text_of_lines, Lines.numbered, Logical.logical_of, Parts.is_white, Sections.assignments_of, Sections.notes_of}
 
--- the first and the last byte, where there is one
+-- the first and the last byte, if any
 abbrev pub first_of : List ℕ → ℕ
 first_of bytes = slice_index bytes 0
 
 abbrev pub last_of : List ℕ → ℕ
 last_of bytes = slice_index bytes (length bytes - 1)
 
--- no whitespace stands at the ends
+-- there is no whitespace at the ends
 abbrev pub HasBareEnds : List ℕ → Type 0
 HasBareEnds bytes = (is_white (first_of bytes) ≡ false) × (is_white (last_of bytes) ≡ false)
 
--- A line that stands for itself: it isn't empty, has no whitespace at its ends, begins no comment and isn't continued.
+-- A line that is one logical line by itself: not empty, no whitespace at its ends, no comment, not continued.
 pub record IsOneLine (line : List ℕ) : Type 0 where
   pub some : 0 < length line
   pub bare : HasBareEnds line
@@ -29,12 +23,12 @@ pub record IsOneLine (line : List ℕ) : Type 0 where
   pub semicolon : first_of line ≢ 59
   pub backslash : last_of line ≢ 92
 
--- a name as it may stand in a header
+-- a valid name in a header
 pub record IsName (name : List ℕ) : Type 0 where
   pub some : 0 < length name
   pub one_line : HasNoLineFeed name
 
--- a key as it may stand before an equals sign
+-- a valid key before an equals sign
 pub record IsKey (key : List ℕ) : Type 0 where
   pub some : 0 < length key
   pub one_line : HasNoLineFeed key
@@ -44,13 +38,13 @@ pub record IsKey (key : List ℕ) : Type 0 where
   pub bracket : first_of key ≢ 91
   pub equals : All (λ b. b ≢ 61) key
 
--- a value as it may stand behind an equals sign: it may be empty
+-- a valid value after an equals sign; it may be empty
 pub record IsValue (value : List ℕ) : Type 0 where
   pub one_line : HasNoLineFeed value
   pub bare : HasBareEnds value
   pub backslash : last_of value ≢ 92
 
--- a section to be written: its name, and its keys with their values
+-- a section to write: its name, and its keys with their values
 pub record Section : Type 0 where
   pub name : List ℕ
   pub pairs : List (List ℕ × List ℕ)
@@ -67,7 +61,7 @@ header_line name = 91 ∷ name ++ 93 ∷ []
 abbrev pub pair_line : List ℕ × List ℕ → List ℕ
 pair_line pair = pair.0 ++ 61 ∷ pair.1
 
--- a section, line by line
+-- the lines of a section
 abbrev pub section_lines : Section → List (List ℕ)
 section_lines section = header_line section.name ∷ map pair_line section.pairs
 
@@ -75,21 +69,21 @@ section_lines section = header_line section.name ∷ map pair_line section.pairs
 abbrev pub written : List Section → List ℕ
 written sections = text_of_lines (flat_map section_lines sections)
 
--- the assignments of a section, the first of which stands at line n
+-- the assignments of a section, the first of which is on line n
 abbrev pub pairs_from : List ℕ → ℕ → List (List ℕ × List ℕ) → List Assignment
 pairs_from name n [] = []
 pairs_from name n (pair ∷ pairs) = record { section = name; key = pair.0; value = pair.1; line = n } ∷ pairs_from name (n + 1) pairs
 
--- the assignments of sections, the first of which begins at line n
+-- the assignments of sections, the first of which begins on line n
 abbrev pub sections_from : ℕ → List Section → List Assignment
 sections_from n [] = []
 sections_from n (section ∷ sections) = pairs_from section.name (n + 1) section.pairs ++ sections_from (n + 1 + length section.pairs) sections
 
--- Lines that stand for themselves are the logical lines.
+-- Lines that are logical lines by themselves are the logical lines of their file.
 abbrev pub LinesAreReadOneByOne : Type 0
 LinesAreReadOneByOne = (n : ℕ) (texts : List (List ℕ)) → All IsOneLine texts → logical_of (numbered n texts) ≡ numbered n texts
 
--- What is written section by section is read back, each assignment with its line, and there is nothing to note.
+-- Sections that are written are read back, each assignment with its line number, and there are no notes.
 abbrev pub SectionsAreReadBack : Type 0
 SectionsAreReadBack =
     (sections : List Section) → All IsSection sections → (assignments_of (written sections) ≡ sections_from 1 sections) × (notes_of (written sections) ≡ [])

@@ -1,4 +1,4 @@
-//! What `read` answers of single lines.
+//! Assignments and notes: what `read` returns for single lines.
 ghost use Rattle.std.specs.Prelude.{◌≡◌};
 ghost use Rattle.section_reader.specs.Words.{code_of};
 
@@ -6,20 +6,20 @@ use plain_values::{Bytes, TryClone};
 use std::alloc::AllocError;
 use std::fmt;
 
-/// What a line of a section assigns (systemd.syntax(7), "Introduction").
+/// An assignment in a section (systemd.syntax(7), "Introduction").
 #[derive(Debug, PartialEq, Eq, Drop)]
 pub struct Assignment {
-    /// The name in the header that the line stands under. All assignments of a section share its bytes.
+    /// The name of the section. All assignments of a section share its bytes.
     pub section: Bytes,
-    /// What stands before the line's first equals sign, without whitespace at its ends. It isn't empty.
+    /// The text before the line's first equals sign, trimmed. It isn't empty.
     pub key: Bytes,
-    /// What stands behind that, without whitespace at its ends. It may be empty.
+    /// The text after the equals sign, trimmed. It may be empty.
     pub value: Bytes,
-    /// The number of the line, from 1: of its first, where lines are joined.
+    /// The line number, from 1; for joined lines, that of the first.
     pub line: usize,
 }
 
-/// An equal assignment, whose texts share their bytes.
+/// Copies share the bytes of the texts.
 impl TryClone for Assignment {
     fn try_clone(&self) -> Result<Assignment, AllocError> {
         Ok(Assignment {
@@ -34,17 +34,17 @@ impl TryClone for Assignment {
 /// Why a line assigns nothing.
 #[derive(Clone, Copy, Debug, PartialEq, Eq)]
 pub enum NoteKind {
-    /// K1: it stands before the first header.
+    /// K1: the line comes before the first header.
     OutsideSection,
-    /// K2: it has no equals sign, or nothing stands before the first.
+    /// K2: the line has no equals sign, or no key before it.
     NoEquals,
-    /// K3: it begins with a bracket and is no header. What follows it, up to the next line that begins with a bracket, is
-    /// passed over without a note.
+    /// K3: the line begins with a bracket but isn't a header. The lines after it, up to the next line that begins with
+    /// a bracket, are skipped without a note.
     BadHeader,
 }
 
 impl NoteKind {
-    /// The code alone: `K1`, `K2` or `K3`.
+    /// Returns the code alone: `K1`, `K2` or `K3`.
     pub fn code(self) -> &'static str
         ensures code { result.now ≡ code_of self }
     {
@@ -56,7 +56,7 @@ impl NoteKind {
     }
 }
 
-/// Prints the code and the name, as `K1 OutsideSection`.
+/// Prints the code and the name, for example `K1 OutsideSection`.
 impl fmt::Display for NoteKind {
     ghost use Rattle.std.specs.Prelude.{Some};
     ghost use Rattle.section_reader.specs.Words.{words_of};
@@ -72,12 +72,12 @@ impl fmt::Display for NoteKind {
     }
 }
 
-/// A line that assigns nothing, though it is no comment, blank line or header.
+/// A line that assigns nothing, though it isn't a comment, a blank line or a header.
 #[derive(Clone, Copy, Debug, PartialEq, Eq)]
 pub struct Note {
-    /// The number of the line, from 1: of its first, where lines are joined.
+    /// The line number, from 1; for joined lines, that of the first.
     pub line: usize,
-    /// What is wrong with it.
+    /// What is wrong with the line.
     pub kind: NoteKind,
 }
 

@@ -1,13 +1,13 @@
-//! What is true of all unit files: laws, each the contract of a function that does nothing.
+//! Laws of unit files, for all files. Each law is the contract of a function that does nothing.
 ghost use Rattle.section_reader.specs.FileLaws.{CommentsChangeNumbersAlone, BlankLinesChangeNumbersAlone, FirstBlankLineChangesNumbersAlone, ContinuedLinesAreJoined, CommentsAreMarked, WhitespaceIsBlank, MarksChangeNothing};
 ghost use Rattle.section_reader.specs.WrittenLaws.{LinesAreReadOneByOne, SectionsAreReadBack};
 
-/// Some lines change the numbers of lines and nothing else: a comment anywhere, also where a line goes on; and a blank line
-/// before the first line, behind a blank line, and behind a whole one. Behind a comment or a continued line it may end a line
-/// that goes on, and then changes what is said. A line that is continued by a whole one says what one line says that has a
-/// space in place of the backslash and the line feed.
+/// Some lines change only the line numbers: a comment anywhere, even between a continued line and its continuation; and
+/// a blank line before the first line, after a blank line, or after a whole line. After a continued line, or after a
+/// comment within a continuation, a blank line ends the continuation, which may change the result. A continued line
+/// followed by a whole line reads like one line with a space in place of the backslash and the line feed.
 pub fn reading_laws()
-    ensures marked { CommentsAreMarked }
+    ensures comment_sign { CommentsAreMarked }
     ensures white { WhitespaceIsBlank }
     ensures byte_order_mark { MarksChangeNothing }
     ensures comments { CommentsChangeNumbersAlone }
@@ -16,7 +16,8 @@ pub fn reading_laws()
     ensures continued { ContinuedLinesAreJoined }
 {}
 
-/// A file that is written line by line, without comments, blank lines, continued lines and bad lines, is read line by line.
+/// A file that is written line by line, without comments, blank lines, continued lines and bad lines, is read back line
+/// by line.
 pub fn writing_laws()
     ensures lines { LinesAreReadOneByOne }
     ensures sections { SectionsAreReadBack }

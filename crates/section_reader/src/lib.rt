@@ -1,9 +1,11 @@
-//! What a unit file says: the assignments of its sections, and notes on the lines that say nothing. The syntax is
-//! that of systemd.syntax(7), "Introduction"; what that page leaves open is this project's own.
+//! A reader of unit files: it returns the assignments of each section, and notes on lines that are wrong. The syntax is
+//! that of systemd.syntax(7), "Introduction"; this project decides what that page leaves open.
 //!
 //! Promise: names and files are read exactly.
 //!
-//! Nothing here knows what a section or a key means. `read` takes bytes, and refuses for want of memory alone.
+//! The crate doesn't know what a section or a key means. `read` takes bytes, returns `Sections` with an `Assignment` or
+//! a `Note` for each line that has one, and fails only if memory runs out. `reading_laws` and `writing_laws` say how
+//! comments, blank lines and joined lines are read, and that written sections are read back.
 #![tactic(auto)]
 
 mod assignments;

@@ -5,7 +5,7 @@ ghost use Rattle.section_reader.specs.Lines.{without_mark, physical_lines};
 use bstr::ByteSlice;
 use std::marker::Model;
 
-/// The mark that a file of UTF-8 may begin with.
+/// The byte order mark that a UTF-8 file may begin with.
 const BYTE_ORDER_MARK: &[u8] = b"\xef\xbb\xbf";
 
 /// A physical line.
@@ -13,14 +13,14 @@ const BYTE_ORDER_MARK: &[u8] = b"\xef\xbb\xbf";
 pub(crate) struct Line<'a> {
     /// Its number, from 1.
     pub(crate) number: usize,
-    /// Its bytes, without its end.
+    /// Its bytes, without the line end.
     pub(crate) text: &'a [u8],
 }
 
 /// The lines of a file that are still to be read.
 #[derive(Debug, Drop)]
 pub(crate) struct Lines<'a> {
-    /// How many lines were read.
+    // The number of lines read so far.
     read: usize,
     rest: &'a [u8],
 }
@@ -37,7 +37,7 @@ impl<'a> Model for Lines<'a> {
 }
 
 impl<'a> Lines<'a> {
-    /// All lines of a file.
+    /// Returns all lines of a file.
     pub(crate) fn of(bytes: &'a [u8]) -> Lines<'a>
         ensures lines { result ≡ physical_lines bytes.now }
     {
@@ -47,7 +47,7 @@ impl<'a> Lines<'a> {
         }
     }
 
-    /// The next line.
+    /// Returns the next line.
     pub(crate) fn next_line(&mut self) -> Option<Line<'a>>
         ensures next { MatchOption result (self.old ≡ [])
             (λ line. self.old ≡ record { number = line.number; text = line.text.now } ∷ self.new) }
@@ -76,7 +76,7 @@ fn without_mark(bytes: &[u8]) -> &[u8]
     }
 }
 
-/// The first line, and what follows it. The line loses its line feed and one carriage return directly before that.
+// Splits off the first line. Its line feed is dropped, and one carriage return directly before that.
 fn cut_line(bytes: &[u8]) -> (&[u8], &[u8])
     requires some { 0 < length bytes.now }
     ensures lines { lines bytes.now ≡ result.0.now ∷ lines result.1.now }

@@ -1,16 +1,16 @@
-//! Continued lines.
+//! Joining continued lines.
 ghost use Rattle.std.specs.Prelude.{◌≡◌, ◌<◌, ◌≤◌, ◌++◌, ◌∷◌, [], length, IfOk, OnOk};
-ghost use Rattle.section_reader.specs.{Parts.{spaced}, Logical.{going_on, joined_lines, lines_behind}};
+ghost use Rattle.section_reader.specs.{Parts.{spaced}, Logical.{going_on, joined_lines, lines_following}};
 
 use crate::lines::Lines;
 use crate::parts::{LineForm, form};
 use std::alloc::{AllocError, Global};
 
-/// A continued line, joined with what it goes on with. What is left are the lines behind that.
+/// Joins a continued line with its continuation, which is removed from `lines`.
 pub(crate) fn join(alloc: Global, first: &[u8], lines: &mut Lines) -> Result<Vec<u8>, AllocError>
     requires some { 0 < length first.now }
     ensures text { IfOk result (λ text. text.items ≡ spaced first.now ++ going_on lines.old) }
-    ensures behind { OnOk result (lines_behind lines.old ≡ joined_lines lines.new) }
+    ensures following { OnOk result (lines_following lines.old ≡ joined_lines lines.new) }
     ensures fewer { OnOk result (length lines.new ≤ length lines.old) }
 {
     let mut text = Vec::new(alloc);
@@ -29,7 +29,7 @@ pub(crate) fn join(alloc: Global, first: &[u8], lines: &mut Lines) -> Result<Vec
     Ok(text)
 }
 
-/// Adds a continued line, with a space in place of its backslash.
+// Appends a continued line, with a space in place of its backslash.
 fn push_spaced(text: &mut Vec<u8>, line: &[u8]) -> Result<(), AllocError>
     requires some { 0 < length line.now }
     ensures text { OnOk result (text.new.items ≡ text.old.items ++ spaced line.now) }

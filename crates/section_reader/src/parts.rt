@@ -1,24 +1,24 @@
-//! What single lines are, and their parts.
+//! The form of a line, and its parts.
 ghost use Rattle.std.specs.{Prelude.{◌≡◌, ◌<◌, ◌≤◌, MatchOption, None, Some, length}, List.{list_all, prefix_len, suffix_len}};
 ghost use Rattle.bstr.specs.Find.{IsFirstByte};
 ghost use Rattle.section_reader.specs.Parts.{is_white, trim_start, trim_end, trimmed, is_blank, is_comment, is_bracketed, is_equals, form, header_name, pair_of};
 
 use bstr::ByteSlice;
 
-/// What a physical line is.
+/// The form of a physical line.
 #[derive(Clone, Copy, Debug, PartialEq, Eq)]
 pub(crate) enum LineForm {
-    /// It has nothing but whitespace.
+    /// Only whitespace.
     Blank,
-    /// Its first byte past whitespace is `#` or `;`.
+    /// The first byte after leading whitespace is `#` or `;`.
     Comment,
-    /// It ends in a backslash.
+    /// The last byte is a backslash.
     Continued,
-    /// None of these.
+    /// None of the above.
     Whole,
 }
 
-/// What a physical line is.
+/// Returns the form of a physical line.
 #[tactic(auto, unfolding(crate::specs::Parts::form))]
 pub(crate) fn form(line: &[u8]) -> LineForm
     ensures form { result ≡ form line.now }
@@ -53,7 +53,7 @@ fn is_comment(line: &[u8]) -> bool
     text.starts_with(b"#") || text.starts_with(b";")
 }
 
-/// Bytes without the whitespace at both ends.
+/// Returns the bytes without the whitespace at both ends.
 #[tactic(auto, unfolding(crate::specs::Parts::trimmed))]
 pub(crate) fn trim(bytes: &[u8]) -> &[u8]
     ensures part { result.now ≡ trimmed bytes.now }
@@ -64,7 +64,7 @@ pub(crate) fn trim(bytes: &[u8]) -> &[u8]
 fn trim_start(bytes: &[u8]) -> &[u8]
     ensures part { result.now ≡ trim_start bytes.now }
 {
-    &bytes[white_at_front(bytes)..]
+    &bytes[white_at_start(bytes)..]
 }
 
 fn trim_end(bytes: &[u8]) -> &[u8]
@@ -73,15 +73,15 @@ fn trim_end(bytes: &[u8]) -> &[u8]
     &bytes[..bytes.len() - white_at_end(bytes)]
 }
 
-/// How many bytes of whitespace stand at the front.
-fn white_at_front(bytes: &[u8]) -> usize
+// Returns the number of leading whitespace bytes.
+fn white_at_start(bytes: &[u8]) -> usize
     ensures count { result ≡ prefix_len is_white bytes.now }
     ensures within { result ≤ length bytes.now }
 {
     bytes.iter().take_while(|b| is_white(**b)).count()
 }
 
-/// How many bytes of whitespace stand at the end.
+// Returns the number of trailing whitespace bytes.
 fn white_at_end(bytes: &[u8]) -> usize
     ensures count { result ≡ suffix_len is_white bytes.now }
     ensures within { result ≤ length bytes.now }
@@ -89,14 +89,14 @@ fn white_at_end(bytes: &[u8]) -> usize
     bytes.iter().rev().take_while(|b| is_white(**b)).count()
 }
 
-/// Whether a logical line is a header, good or bad.
+/// Returns whether a logical line begins with a bracket: it is a header, good or bad.
 pub(crate) fn is_bracketed(text: &[u8]) -> bool
     ensures test { result ≡ is_bracketed text.now }
 {
     text.starts_with(b"[")
 }
 
-/// The name in a good header.
+/// Returns the name in a good header.
 #[tactic(auto, unfolding(crate::specs::Parts::header_name))]
 pub(crate) fn header_name(text: &[u8]) -> Option<&[u8]>
     ensures name { MatchOption result (header_name text.now ≡ None) (λ name.
@@ -109,7 +109,7 @@ pub(crate) fn header_name(text: &[u8]) -> Option<&[u8]>
     }
 }
 
-/// The key and the value of a logical line.
+/// Returns the key and the value of a logical line.
 #[tactic(auto, unfolding(crate::specs::Parts::pair_of))]
 pub(crate) fn pair_of(text: &[u8]) -> Option<(&[u8], &[u8])>
     ensures pair { MatchOption result (pair_of text.now ≡ None)
@@ -124,7 +124,7 @@ pub(crate) fn pair_of(text: &[u8]) -> Option<(&[u8], &[u8])>
     }
 }
 
-/// Where the first equals sign stands.
+// Returns the index of the first equals sign.
 fn first_equals(text: &[u8]) -> Option<usize>
     ensures place { IsFirstByte is_equals text.now result }
 {

@@ -1,14 +1,14 @@
-//! Where a reader stands in a file.
+//! The state of the reader between two lines.
 
 use plain_values::Bytes;
 
-/// What stands before a line that doesn't begin with a bracket.
+/// Which section a line belongs to, unless it begins with a bracket.
 #[derive(Debug, Drop)]
 pub(crate) enum Place {
-    /// No header, good or bad.
+    /// There was no header yet, good or bad.
     Outside,
-    /// A header with this name.
+    /// The last header has this name.
     Inside(Bytes),
-    /// A bad header.
+    /// The last header was bad, so the line is skipped.
     PassedOver,
 }

@@ -1,7 +1,7 @@
 //! The reader: one pass over the lines of a file.
 ghost use Rattle.std.specs.Prelude.{◌≡◌, ◌++◌, ◌∷◌, [], List, IfOk, OnOk};
 ghost use Rattle.section_reader.specs.{Lines.{Line}, Logical.{kept}};
-ghost use Rattle.section_reader.specs.Places.{items_at, notes_at, place_behind, header_notes, items_from, notes_from};
+ghost use Rattle.section_reader.specs.Places.{items_at, notes_at, place_following, header_notes, items_from, notes_from};
 ghost use Rattle.section_reader.specs.Sections.{assignments_of, notes_of};
 
 use crate::assignments::{Assignment, Note, NoteKind};
@@ -13,14 +13,14 @@ use crate::sections::Sections;
 use plain_values::{Bytes, Items};
 use std::alloc::{AllocError, Global};
 
-/// Reads the bytes of a unit file. It refuses for want of memory alone.
+/// Reads the bytes of a unit file. Fails only if memory runs out.
 ///
-/// The syntax is that of systemd.syntax(7), "Introduction". Bytes that are no UTF-8 are kept, names are told apart by case,
-/// and a byte order mark at the very start is passed over. What a bad line costs is that line: behind a bad header the lines
-/// up to the next that begins with a bracket.
+/// The syntax is that of systemd.syntax(7), "Introduction". Bytes that aren't UTF-8 are kept, names are case-sensitive,
+/// and a byte order mark at the very start is skipped. A bad line loses only itself, but a bad header also the lines
+/// after it, up to the next that begins with a bracket.
 ///
-/// The time and the memory that it takes grow as the bytes: a name or a value is copied once, and once more where lines are
-/// joined, and the assignments of a section share its name.
+/// Time and memory are linear in the bytes. A key or a value is copied once, and once more if lines are joined; the
+/// assignments of a section share its name.
 pub fn read(alloc: Global, bytes: &[u8]) -> Result<Sections, AllocError>
     ensures items { IfOk result (λ sections. sections.items ≡ assignments_of bytes.now) }
     ensures notes { IfOk result (λ sections. sections.notes ≡ notes_of bytes.now) }
@@ -40,7 +40,7 @@ pub fn read(alloc: Global, bytes: &[u8]) -> Result<Sections, AllocError>
     Ok(reader.sections)
 }
 
-/// What was read so far, and where the reader stands.
+// What was read so far, and the state of the reader.
 #[derive(Debug, Drop)]
 struct Reader {
     sections: Sections,
@@ -62,7 +62,7 @@ impl Reader {
         }
     }
 
-    /// Reads a joined line, which is trimmed.
+    // Reads a logical line, which is joined and trimmed.
     fn read_line(&mut self, alloc: Global, number: usize, text: &[u8]) -> Result<(), AllocError>
         ensures items { OnOk result ((rest : List Line)
             → self.new.sections.items ++ items_from self.new.place rest
@@ -80,12 +80,12 @@ impl Reader {
         }
     }
 
-    /// Reads a line that begins with a bracket.
+    // Reads a line that begins with a bracket.
     fn read_header(&mut self, alloc: Global, number: usize, text: &[u8]) -> Result<(), AllocError>
         ensures items { OnOk result (self.new.sections.items ≡ self.old.sections.items) }
         ensures notes { OnOk result (self.new.sections.notes
             ≡ self.old.sections.notes ++ header_notes (record { number = number; text = text.now })) }
-        ensures place { OnOk result (self.new.place ≡ place_behind text.now) }
+        ensures place { OnOk result (self.new.place ≡ place_following text.now) }
     {
         match header_name(text) {
             Some(name) => {
@@ -99,7 +99,7 @@ impl Reader {
         Ok(())
     }
 
-    /// Reads another line.
+    // Reads any other line.
     fn read_entry(&mut self, alloc: Global, number: usize, text: &[u8]) -> Result<(), AllocError>
         ensures items { OnOk result (self.new.sections.items
             ≡ self.old.sections.items ++ items_at self.old.place (record { number = number; text = text.now } ∷ [])) }

@@ -1,21 +1,21 @@
-//! What a unit file says.
+//! The contents of a unit file.
 ghost use Rattle.std.specs.Prelude.{◌≡◌, IfOk};
 
 use crate::assignments::{Assignment, Note};
 use plain_values::{Items, TryClone};
 use std::alloc::AllocError;
 
-/// What a unit file says: its assignments, and notes on lines that assign nothing, each in the order of the file.
+/// The contents of a unit file: its assignments, and notes on lines that assign nothing, each in file order.
 #[derive(Debug, PartialEq, Eq, Drop)]
 pub struct Sections {
-    /// The assignments under good headers.
+    /// The assignments in sections with a good header.
     pub items: Items<Assignment>,
     /// What is wrong with other lines.
     pub notes: Items<Note>,
 }
 
 impl Sections {
-    /// The same again. It fails for want of memory alone.
+    /// Returns an equal value. Fails only if memory runs out.
     pub fn try_clone(&self) -> Result<Sections, AllocError>
         ensures copy { IfOk result (λ copy. copy ≡ self.now) }
     {

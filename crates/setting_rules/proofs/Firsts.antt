@@ -1,16 +1,11 @@
--- Keys at their first places, and maps that have a value for each.
-use Rattle.std.proofs.Common.{◌≡◌, Bool, true, false, cond, ◌||◌, not, List, [], ◌∷◌, ◌++◌, map, refl, ap, sym, ◌∙◌, append-nil}
-use Rattle.std.specs.List.{list_any}
+-- Keys at their first occurrence, and maps with values for each.
+use Rattle.std.proofs.Common.{[], ◌++◌, ◌||◌, ◌∙◌, ◌∷◌, ◌≡◌, ap, append-nil, Bool, cond, false, List, map, not, refl, sym, true}
 use Rattle.std.proofs.lemmas.Bool.{true≢false}
 use Rattle.std.proofs.lemmas.List.Elements.{filter-append}
-use Rattle.setting_rules.specs.declared.keys.SettingKey.{SettingKey}
-use Rattle.setting_rules.specs.Rules.{Text}
-use Rattle.setting_rules.specs.Maps.{SettingMap, same_key, changed}
-use Rattle.setting_rules.specs.KeyLaws.{same_key_is, same_key_turned}
-use Rattle.setting_rules.specs.Settings.{firsts}
-use Rattle.setting_rules.specs.EnteredLaws.{others, any_others}
+use Rattle.std.specs.List.{list_any}
+use Rattle.setting_rules.proofs.Prelude.{any_others, changed, firsts, others, same_key, same_key_is, same_key_turned, SettingKey, SettingMap, Text}
 
--- the keys with one more at the end, unless it is there
+-- the keys, with one more at the end unless it is present
 abbrev pub with_last : List SettingKey → SettingKey → List SettingKey
 with_last ks k = cond (list_any (same_key k) ks) ks (ks ++ k ∷ [])
 
@@ -43,7 +38,7 @@ any_firsts k (x ∷ ks) = by (same_key k x) refl (any_firsts k ks)
     by true e rest = ap (λ b. b || list_any (same_key k) (others x (firsts ks))) e ∙ sym (ap (λ b. b || list_any (same_key k) ks) e)
     by false e rest = ap (λ b. same_key k x || b) (any_others k x e (firsts ks) ∙ rest)
 
--- no key of the list is the same as one behind it
+-- the list has no duplicate keys
 abbrev pub AreApart : List SettingKey → Type 0
 AreApart [] = Unit {0}
 AreApart (k ∷ ks) = (list_any (same_key k) ks ≡ false) × AreApart ks
@@ -86,15 +81,15 @@ pairs_alike g h [] same = refl
 pairs_alike g h (k ∷ ks) same = ap (λ v. (k, v) ∷ pairs g ks) (sym (same k)) ∙ ap (λ l. (k, h k) ∷ l) (pairs_alike g h ks same)
 
 module _ (g h : SettingKey → List Text) (q : SettingKey) (same : (k : SettingKey) → same_key q k ≡ false → h k ≡ g k) where
-  pairs_behind : (ks : List SettingKey) → list_any (same_key q) ks ≡ false → pairs g ks ≡ pairs h ks
-  pairs_behind [] none = refl
-  pairs_behind (k ∷ ks) none = by (same_key q k) refl none (pairs_behind ks)
+  pairs_following : (ks : List SettingKey) → list_any (same_key q) ks ≡ false → pairs g ks ≡ pairs h ks
+  pairs_following [] none = refl
+  pairs_following (k ∷ ks) none = by (same_key q k) refl none (pairs_following ks)
     where
       by : (b : Bool) → same_key q k ≡ b → (b || list_any (same_key q) ks) ≡ false → (list_any (same_key q) ks ≡ false → pairs g ks ≡ pairs h ks) → (k, g k) ∷ pairs g ks ≡ (k, h k) ∷ pairs h ks
       by true e none more = absurd (true≢false none)
       by false e none more = ap (λ v. (k, v) ∷ pairs g ks) (sym (same k e)) ∙ ap (λ l. (k, h k) ∷ l) (more none)
 
-  -- a map with a value for each key, changed at one of them
+  -- a map with values for each key, changed at one of them
   pub changed_pairs : (f : List Text → List Text) → h q ≡ f (g q) → (ks : List SettingKey) → AreApart ks → (list_any (same_key q) ks ≡ false → g q ≡ []) → changed f (pairs g ks) q ≡ pairs h (with_last ks q)
   changed_pairs f new [] apart none = ap (λ v. (q, v) ∷ []) (sym (new ∙ ap f (none refl)))
   changed_pairs f new (x ∷ ks) apart none = by (same_key q x) (list_any (same_key q) ks) refl refl (λ m. changed_pairs f new ks apart.1 m) none
@@ -103,7 +98,7 @@ module _ (g h : SettingKey → List Text) (q : SettingKey) (same : (k : SettingK
           → cond b ((x, f (g x)) ∷ pairs g ks) ((x, g x) ∷ changed f (pairs g ks) q) ≡ pairs h (cond (b || list_any (same_key q) ks) (x ∷ ks) ((x ∷ ks) ++ q ∷ []))
       by true a e d more none =
           let is = same_key_is q x e in
-          ap (λ v. (x, v) ∷ pairs g ks) (sym (ap h (sym is) ∙ new ∙ ap (λ k. f (g k)) is)) ∙ ap (λ l. (x, h x) ∷ l) (pairs_behind ks (ap (λ k. list_any (same_key k) ks) is ∙ apart.0))
+          ap (λ v. (x, v) ∷ pairs g ks) (sym (ap h (sym is) ∙ new ∙ ap (λ k. f (g k)) is)) ∙ ap (λ l. (x, h x) ∷ l) (pairs_following ks (ap (λ k. list_any (same_key k) ks) is ∙ apart.0))
       by false a e d more none =
           ap (λ v. (x, v) ∷ changed f (pairs g ks) q) (sym (same x e))
           ∙ ap (λ l. (x, h x) ∷ l) (more (λ m. none (ap (λ b. b || list_any (same_key q) ks) e ∙ m)))

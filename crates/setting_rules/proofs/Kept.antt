@@ -1,22 +1,14 @@
--- What was kept of the values of each key so far, and what one more assignment makes of it.
-use Rattle.std.proofs.Common.{◌≡◌, ℕ, ◌<◌, ◌≤◌, Bool, true, false, cond, ◌&&◌, ◌||◌, not, nat_le, List, [], ◌∷◌, ◌++◌, map, filter, length, drop, refl, ap, sym, ◌∙◌, append-nil, length-append, arith}
-use Rattle.std.specs.List.{list_any}
+-- The values of each key that may still count so far, and how one more assignment changes them.
+use Rattle.std.proofs.Common.{[], ◌&&◌, ◌++◌, ◌<◌, ◌||◌, ◌∙◌, ◌∷◌, ◌≡◌, ◌≤◌, ap, append-nil, arith, Bool, cond, drop, false, filter, length, length-append, List, map, nat_le, not, refl, sym, true, ℕ}
 use Rattle.std.proofs.Math.Bool.{and-false}
 use Rattle.std.proofs.lemmas.Bool.{true≢false}
 use Rattle.std.proofs.lemmas.Bool.Decides.{nat_tests}
-use Rattle.std.proofs.lemmas.List.{map-append, drop-append-le}
+use Rattle.std.proofs.lemmas.List.{drop-append-le, map-append}
 use Rattle.std.proofs.lemmas.List.Elements.{filter-append}
-use Rattle.section_reader.specs.declared.assignments.Assignment.{Assignment}
-use Rattle.setting_rules.specs.declared.keys.SettingKey.{SettingKey}
-use Rattle.setting_rules.specs.declared.rules.KeyRule.{KeyRule}
-use Rattle.setting_rules.specs.declared.rules.KeyRule.TheVariants.{Ignored, Dependency, Switch, Condition, Assertion, Plain}
-use Rattle.setting_rules.specs.Rules.{Text, is_empty, rule_of}
-use Rattle.setting_rules.specs.Maps.{same_key, changed}
-use Rattle.setting_rules.specs.KeyLaws.{same_key_turned}
-use Rattle.setting_rules.specs.Settings.{key_of, rule_at, counts, emptied_by, resets, gives, given, behind_last, last_alone, counted, keys_of, firsts}
-use Rattle.setting_rules.specs.ResetLaws.{behind_last-push, given-append, filter-none, filter-behind_last-none, filter-drop-none}
-use Rattle.setting_rules.proofs.Firsts.{pairs, pairs_alike, changed_pairs, firsts-push, any_firsts, apart_firsts}
-use Rattle.setting_rules.proofs.Starts.{drop_past}
+use Rattle.std.specs.List.{list_any}
+use Rattle.setting_rules.proofs.Prelude.{Assertion, Assignment, changed, Condition, counted, counts, Dependency, emptied_by, filter-drop-none, filter-following_last-none, filter-none, firsts, following_last, following_last-push, given, given-append, gives, Ignored, is_empty, key_of, KeyRule, last_alone, Plain, resets, rule_at, rule_of, same_key, same_key_turned, SettingKey, Switch, Text}
+use Rattle.setting_rules.specs.Settings.{keys_of}
+use Rattle.setting_rules.proofs.{Firsts.any_firsts, Firsts.apart_firsts, Firsts.changed_pairs, Firsts.firsts-push, Firsts.pairs, Firsts.pairs_alike, Starts.drop_past}
 
 pub given_passed : (k : SettingKey) (x : Assignment) (l : List Assignment) → gives k x ≡ false → given k (l ++ x ∷ []) ≡ given k l
 given_passed k x l h =
@@ -25,7 +17,7 @@ given_passed k x l h =
 pub given_taken : (k : SettingKey) (x : Assignment) (l : List Assignment) → gives k x ≡ true → given k (l ++ x ∷ []) ≡ given k l ++ x.value ∷ []
 given_taken k x l h = given-append k l (x ∷ []) ∙ ap (λ b. given k l ++ map (λ a. a.value) (cond b (x ∷ []) [])) h
 
--- a place that lies behind the list lies behind it with one more, or at its end
+-- dropping more than the whole list gives the same with one more element
 pub drop_later : (n : ℕ) (x : Assignment) (l : List Assignment) → length l < n → drop n (l ++ x ∷ []) ≡ drop n l
 drop_later n x l h = drop_past n (l ++ x ∷ []) (omega (arith, h, length-append l (x ∷ []))) ∙ sym (drop_past n l (omega arith))
 
@@ -44,9 +36,9 @@ module _ (c a : ℕ) where
   live_by Switch k items = items
   live_by Condition k items = drop c items
   live_by Assertion k items = drop a items
-  live_by Plain k items = behind_last (resets k) items
+  live_by Plain k items = following_last (resets k) items
 
-  -- the values of a key that were kept so far
+  -- the values of a key so far
   abbrev pub kept : List Assignment → SettingKey → List Text
   kept items k = counted (rule_at k) (given k (live_by (rule_at k) k items))
 
@@ -60,8 +52,8 @@ module _ (c a : ℕ) where
       by Condition e = given_drop_passed k x c p none
       by Assertion e = given_drop_passed k x a p none
       by Plain e =
-          ap (given k) (behind_last-push (resets k) p x ∙ ap (λ b. cond b [] (behind_last (resets k) p ++ x ∷ [])) (reset e))
-          ∙ given_passed k x (behind_last (resets k) p) none
+          ap (given k) (following_last-push (resets k) p x ∙ ap (λ b. cond b [] (following_last (resets k) p ++ x ∷ [])) (reset e))
+          ∙ given_passed k x (following_last (resets k) p) none
 
   module _ (p : List Assignment) (x : Assignment) where
     -- an assignment that doesn't count changes nothing
@@ -87,7 +79,7 @@ module _ (c a : ℕ) where
         ap (λ r. is_empty x.value && emptied_by (rule_of x.section x.key) r (same_key k (key_of x))) e
         ∙ ap (λ b. is_empty x.value && b) (plain_stays (rule_of x.section x.key) (same_key k (key_of x)) (same_key_turned k (key_of x) ∙ h)) ∙ and-false (is_empty x.value)
 
-    -- of a key without an assignment that counts nothing is kept
+    -- a key without an assignment that counts has no values
     none_kept : (q : SettingKey) → list_any (same_key q) (keys_of p) ≡ false → kept p q ≡ []
     unfolding keys_of
     none_kept q h = by (rule_at q)
@@ -113,7 +105,7 @@ module _ (c a : ℕ) where
         by Switch = ap (λ l. last_alone (map (λ v. v.value) l)) (filter-none (gives q) p nothing)
         by Condition = ap (map (λ v. v.value)) (filter-drop-none (gives q) c p nothing)
         by Assertion = ap (map (λ v. v.value)) (filter-drop-none (gives q) a p nothing)
-        by Plain = ap (map (λ v. v.value)) (filter-behind_last-none (gives q) (resets q) p nothing)
+        by Plain = ap (map (λ v. v.value)) (filter-following_last-none (gives q) (resets q) p nothing)
 
     -- an assignment that counts changes the values of its key
     pub change : counts x ≡ true → (f : List Text → List Text) → kept (p ++ x ∷ []) (key_of x) ≡ f (kept p (key_of x)) → changed f (pairs (kept p) (keys_of p)) (key_of x) ≡ pairs (kept (p ++ x ∷ [])) (keys_of (p ++ x ∷ []))

@@ -1,3 +1,4 @@
+pub mod Prelude
 mod Firsts
 mod Kept
 mod MapLemmas

@@ -1,16 +1,15 @@
--- Maps whose keys are sought by their places.
-use Rattle.std.proofs.Common.{◌≡◌, ℕ, suc, ◌+◌, ◌<◌, ◌≤◌, Bool, true, false, cond, not, nat_lt, Some, None, List, [], ◌∷◌, length, position, slice_get, refl, ap, sym, ◌∙◌, arith}
+-- Maps that are searched by key and indexed.
+use Rattle.indexmap.specs.IndexMap.{insert_entry}
+use Rattle.indexmap.specs.Layout.{set_value_at}
+use Rattle.std.proofs.Common.{[], ◌+◌, ◌<◌, ◌∙◌, ◌∷◌, ◌≡◌, ◌≤◌, ap, arith, Bool, cond, false, length, List, nat_lt, None, not, position, refl, slice_get, Some, suc, sym, true, ℕ}
 use Rattle.std.proofs.lemmas.Bool.Decides.{nat_tests}
 use Rattle.std.proofs.lemmas.Option.{none-some}
 use Rattle.std.specs.List.{position_or_len}
-use Rattle.std.specs.Map.{keys_of, values_of}
-use Rattle.indexmap.specs.IndexMap.{insert_entry}
-use Rattle.indexmap.specs.Layout.{set_value_at}
-use Rattle.setting_rules.specs.declared.keys.SettingKey.{SettingKey}
-use Rattle.setting_rules.specs.Rules.{Text}
-use Rattle.setting_rules.specs.Maps.{SettingMap, same_key, place_of, changed, with_key}
+use Rattle.std.specs.Map.{values_of}
+use Rattle.setting_rules.proofs.Prelude.{changed, place_of, same_key, SettingKey, SettingMap, Text, with_key}
+use Rattle.std.specs.Map.{keys_of}
 
--- a comparison of keys that tells which are the same
+-- a comparison of keys that decides equality
 module _ (test : SettingKey → SettingKey → Bool) (same : (k q : SettingKey) → test k q ≡ same_key k q) (k : SettingKey) where
   place_sought : (es : SettingMap) → position_or_len (test k) (keys_of es) ≡ place_of es k
   place_sought [] = refl
@@ -38,7 +37,7 @@ module _ (test : SettingKey → SettingKey → Bool) (same : (k q : SettingKey) 
       by true e s = absurd (none-some _ s)
       by false e s = grind (arith, nat_tests, e)
 
-  -- where a search finds the key it stands at its place
+  -- if a search finds the key, it is at its index
   pub found_place : (es : SettingMap) (i : ℕ) → Some i ≡ position (test k) (keys_of es) → i ≡ place_of es k
   found_place es i h = (sought_within _ _ i (sym h)).1 ∙ place_sought es
 
@@ -73,14 +72,14 @@ module _ (test : SettingKey → SettingKey → Bool) (same : (k q : SettingKey) 
       by true h = omega arith
       by false h = omega arith
 
-  -- a key that no search finds is put last
+  -- a key that no search finds is added at the end
   pub new_goes_last : (es : SettingMap) → None ≡ position (test k) (keys_of es) → insert_entry test es k [] ≡ with_key es k
   new_goes_last es h = goes_last es (beyond es h)
 
   pub new_place : (es : SettingMap) → None ≡ position (test k) (keys_of es) → length es ≡ place_of es k
   new_place es h = let b = beyond es h in omega (arith, b, place_small es)
 
--- a key that was entered stands at its place
+-- a key that was entered is at its index
 pub within : (es : SettingMap) (k : SettingKey) → place_of es k < length (with_key es k)
 within [] k = omega arith
 within (e ∷ es) k = by (same_key k e.0) (within es k)
@@ -89,7 +88,7 @@ within (e ∷ es) k = by (same_key k e.0) (within es k)
     by true h = omega arith
     by false h = omega arith
 
--- a write at the place of a key that was entered changes its values
+-- a write at the index of a key changes its values
 pub written : (change : List Text → List Text) (es : SettingMap) (k : SettingKey) (values : List Text) → slice_get (values_of (with_key es k)) (place_of es k) ≡ Some values → set_value_at (with_key es k) (place_of es k) (change values) ≡ changed change es k
 written change [] k values h = let e : [] ≡ values = cc (h) in ap (λ v. (k, change v) ∷ []) (sym e)
 written change (e ∷ es) k values h = by (same_key k e.0) h (written change es k values)
@@ -98,7 +97,7 @@ written change (e ∷ es) k values h = by (same_key k e.0) h (written change es 
     by true h more = let v : e.1 ≡ values = cc (h) in ap (λ v. (e.0, change v) ∷ es) (sym v)
     by false h more = ap (λ l. e ∷ l) (more h)
 
--- the same for a map and a place that are these
+-- the same for a map and an index equal to these
 pub written_at : (change : List Text → List Text) (old : SettingMap) (k : SettingKey) (es : SettingMap) (i : ℕ) (values new : List Text) → es ≡ with_key old k → i ≡ place_of old k → slice_get (values_of es) i ≡ Some values → new ≡ change values → set_value_at es i new ≡ changed change old k
 written_at change old k es i values new e p v n =
     ap (λ m. set_value_at m i new) e ∙ ap (λ j. set_value_at (with_key old k) j new) p ∙ ap (set_value_at (with_key old k) (place_of old k)) n

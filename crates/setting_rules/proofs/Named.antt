@@ -1,17 +1,11 @@
 -- Names and notes, one word or one value at a time.
-use Rattle.std.proofs.Common.{◌≡◌, List, ◌++◌, map, ap, ◌∙◌}
-use Rattle.std.specs.List.{flat_map}
-use Rattle.std.specs.Result.{result_ok}
+use Rattle.std.proofs.Common.{◌++◌, ◌∙◌, ◌≡◌, ap, List, map}
+use Rattle.std.proofs.lemmas.Grind.{flat_map-append}
 use Rattle.std.proofs.lemmas.List.{map-append}
 use Rattle.std.proofs.lemmas.List.Elements.{filter_map-append}
-use Rattle.std.proofs.lemmas.Grind.{flat_map-append}
-use Rattle.unit_name.specs.Names.{Name}
-use Rattle.setting_rules.specs.declared.kinds.DepKind.{DepKind}
-use Rattle.setting_rules.specs.declared.notes.SettingNote.{SettingNote}
-use Rattle.setting_rules.specs.Rules.{Text}
-use Rattle.setting_rules.specs.Settings.{note_on}
-use Rattle.setting_rules.specs.Words.{words_of}
-use Rattle.setting_rules.specs.Dependencies.{named_by, result_err, names_by, faults_by, key_for}
+use Rattle.std.specs.List.{flat_map}
+use Rattle.std.specs.Result.{result_ok}
+use Rattle.setting_rules.proofs.Prelude.{DepKind, faults_by, key_for, Name, named_by, names_by, note_on, result_err, SettingNote, Text, words_of}
 
 abbrev pub noted_by : Name → DepKind → List Text → List SettingNote
 noted_by unit kind ws = map (note_on (key_for kind)) (faults_by unit ws)
@@ -23,7 +17,7 @@ pub noted_by-append : (unit : Name) (kind : DepKind) (xs ys : List Text) → not
 noted_by-append unit kind xs ys =
     ap (map (note_on (key_for kind))) (filter_map-append (λ w. result_err (named_by unit w)) xs ys) ∙ map-append (note_on (key_for kind)) (faults_by unit xs) (faults_by unit ys)
 
--- the same of what elements stand for, and of the words of values
+-- the same for views of elements, and for the words of values
 module _ {B : Type 0} (made : List Text → List B) (made-append : (xs ys : List Text) → made (xs ++ ys) ≡ made xs ++ made ys) where
   pub by_elements : {X : Type 0} (v : X → Text) (xs ys : List X) → made (map v (xs ++ ys)) ≡ made (map v xs) ++ made (map v ys)
   by_elements v xs ys = ap made (map-append v xs ys) ∙ made-append (map v xs) (map v ys)

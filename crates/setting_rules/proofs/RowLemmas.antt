@@ -1,21 +1,14 @@
 -- Rows and notes, one value or one key at a time.
-use Rattle.std.proofs.Common.{◌≡◌, ℕ, zero, suc, ◌+◌, ◌<◌, true, false, cond, Some, is_none, List, [], ◌∷◌, ◌++◌, map, filter, length, take, drop, slice_get, get_or, find, ap, sym, ◌∙◌, append-nil, append_assoc, add-one}
-use Rattle.std.specs.List.{flat_map, filter_map}
+use Rattle.std.proofs.Common.{[], ◌++◌, ◌+◌, ◌<◌, ◌∙◌, ◌∷◌, ◌≡◌, add-one, ap, append-nil, append_assoc, cond, drop, false, filter, find, get_or, is_none, length, List, map, slice_get, Some, suc, sym, take, true, zero, ℕ}
+use Rattle.std.proofs.lemmas.Grind.{flat_map-append}
 use Rattle.std.proofs.lemmas.List.{map-append, take_more}
 use Rattle.std.proofs.lemmas.List.Elements.{filter-append, filter_map-append}
-use Rattle.std.proofs.lemmas.Grind.{flat_map-append}
 use Rattle.std.proofs.lemmas.Option.{none-some}
-use Rattle.unit_name.specs.Names.{Name}
-use Rattle.unit_name.specs.Specifiers.{expand}
-use Rattle.setting_rules.specs.declared.keys.SettingKey.{SettingKey}
-use Rattle.setting_rules.specs.declared.notes.SettingNoteKind.TheVariants.{BadEscape}
-use Rattle.setting_rules.specs.Maps.{SettingMap, same_key, values_at, texts_or_none}
-use Rattle.setting_rules.specs.Rules.{Text}
-use Rattle.setting_rules.specs.Settings.{note_on}
-use Rattle.setting_rules.specs.Rows.{row, rows_at, escape_notes_at, is_dependency}
+use Rattle.std.specs.List.{filter_map, flat_map}
+use Rattle.setting_rules.proofs.Prelude.{BadEscape, escape_notes_at, expand, is_dependency, Name, note_on, row, rows_at, same_key, SettingKey, SettingMap, Text, texts_or_none, values_at}
 
 module _ {X : Type 0} where
-  -- the elements up to and with the one at a place
+  -- the elements up to and including the one at an index
   pub take_got : (l : List X) (i : ℕ) (x : X) → slice_get l i ≡ Some x → take (i + 1) l ≡ take i l ++ x ∷ []
   take_got l i x h = ap (λ n. take n l) (add-one i) ∙ by l i h
     where
@@ -24,7 +17,7 @@ module _ {X : Type 0} where
       by (y ∷ l) zero h = ap (λ z. z ∷ []) (cc (h))
       by (y ∷ l) (suc i) h = ap (λ m. y ∷ m) (by l i h)
 
-  -- the elements from a place on
+  -- the elements from an index on
   pub drop_got : (l : List X) (i : ℕ) (x : X) → slice_get l i ≡ Some x → drop i l ≡ x ∷ drop (i + 1) l
   drop_got l i x h = by l i h ∙ ap (λ n. x ∷ drop n l) (sym (add-one i))
     where
@@ -36,7 +29,7 @@ module _ {X : Type 0} where
   one_more : (l : List X) (i : ℕ) (d x : X) → i < length l → x ≡ get_or l i d → take (i + 1) l ≡ take i l ++ x ∷ []
   one_more l i d x h is = take_more l i d h ∙ ap (λ y. take i l ++ y ∷ []) (sym is)
 
--- lists that are made element by element
+-- lists that are built element by element
 module _ {X B : Type 0} (made : List X → List B) (made-append : (xs ys : List X) → made (xs ++ ys) ≡ made xs ++ made ys) where
   pub texts_more : (l : List X) (i : ℕ) (d x : X) (was now new : List B) → i < length l → x ≡ get_or l i d → now ≡ was ++ made (take i l) → new ≡ now ++ made (x ∷ []) → new ≡ was ++ made (take (i + 1) l)
   texts_more l i d x was now new h is w n =
@@ -51,7 +44,7 @@ escape_notes_at-append unit k xs ys =
     ap (map (λ _. note_on k BadEscape)) (filter-append (λ value. is_none (expand value unit)) xs ys)
     ∙ map-append (λ _. note_on k BadEscape) (filter (λ value. is_none (expand value unit)) xs) (filter (λ value. is_none (expand value unit)) ys)
 
--- lists that are made key by key, without the keys that set dependencies
+-- lists that are built key by key, without the keys that set dependencies
 module _ {B : Type 0} (at_key : SettingKey → List Text → List B) where
   abbrev pub made_of : SettingMap → List B
   made_of m = flat_map (λ e. cond (is_dependency e.0) [] (at_key e.0 e.1)) m
@@ -63,12 +56,12 @@ module _ {B : Type 0} (at_key : SettingKey → List Text → List B) where
       ∙ sym (flat_map-append (λ e. cond (is_dependency e.0) [] (at_key e.0 e.1)) (take i m) ((k, values) ∷ []))
       ∙ ap made_of (sym (take_got m i (k, values) got))
 
--- the key stands at a place where the walk over the map is
+-- the loop over the map is at the key
 pub look_found : (m : SettingMap) (i : ℕ) (k q : SettingKey) (values : List Text) → slice_get m i ≡ Some (q, values) → same_key k q ≡ true → values_at (drop i m) k ≡ values
 look_found m i k q values got is =
     ap (λ l. values_at l k) (drop_got m i (q, values) got) ∙ ap (λ b. texts_or_none (cond b (Some (q, values)) (find (λ e. same_key k e.0) (drop (i + 1) m)))) is
 
--- or another key does
+-- the loop is at another key
 pub look_passed : (m : SettingMap) (i : ℕ) (k q : SettingKey) (values : List Text) → slice_get m i ≡ Some (q, values) → same_key k q ≡ false → values_at (drop i m) k ≡ values_at (drop (i + 1) m) k
 look_passed m i k q values got is =
     ap (λ l. values_at l k) (drop_got m i (q, values) got) ∙ ap (λ b. texts_or_none (cond b (Some (q, values)) (find (λ e. same_key k e.0) (drop (i + 1) m)))) is

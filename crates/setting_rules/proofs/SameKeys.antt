@@ -1,12 +1,11 @@
--- Keys are equal where their sections and names are.
-use Rattle.std.proofs.Common.{◌≡◌, ◌&&◌, ap, ◌∙◌, nat_cmp}
+-- Keys are equal if their sections and names are.
+use Rattle.std.proofs.Common.{◌&&◌, ◌∙◌, ◌≡◌, ap, nat_cmp}
+use Rattle.std.proofs.lemmas.Map.Text.{is_eq-slice_cmp}
+use Rattle.std.specs.Cmp.Lexicographic.{slice_cmp}
 use Rattle.std.specs.Ordering.{is_eq}
 use Rattle.std.specs.Str.{bytes_eq}
-use Rattle.std.specs.Cmp.Lexicographic.{slice_cmp}
-use Rattle.std.proofs.lemmas.Map.Text.{is_eq-slice_cmp}
-use Rattle.setting_rules.specs.declared.keys.SettingKey.{SettingKey}
+use Rattle.setting_rules.proofs.Prelude.{same_key, SettingKey}
 use Rattle.setting_rules.specs.contracts.keys.SettingKeyPartialEq.TheImpl.{eq-value}
-use Rattle.setting_rules.specs.Maps.{same_key}
 
 pub same : (k q : SettingKey) → eq-value.it k q ≡ same_key k q
 same k q =

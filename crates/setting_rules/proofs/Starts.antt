@@ -1,32 +1,31 @@
--- Where a family's values count from.
-use Rattle.std.proofs.Common.{◌≡◌, ℕ, zero, suc, ◌+◌, ◌<◌, ◌≤◌, Bool, true, false, cond, List, [], ◌∷◌, ◌++◌, length, take, drop, get_or, refl, ap, sym, ◌∙◌, ◌⊎◌, inl, inr, arith}
-use Rattle.std.proofs.lemmas.List.{take_more, drop-append-le, length-take-le}
-use Rattle.setting_rules.specs.Settings.{behind_last}
-use Rattle.setting_rules.specs.ResetLaws.{behind_last-push}
+-- The index from which a family's values count.
+use Rattle.std.proofs.Common.{[], ◌++◌, ◌+◌, ◌<◌, ◌∙◌, ◌∷◌, ◌≡◌, ◌≤◌, ◌⊎◌, ap, arith, Bool, cond, drop, false, get_or, inl, inr, length, List, refl, suc, sym, take, true, zero, ℕ}
+use Rattle.std.proofs.lemmas.List.{drop-append-le, length-take-le, take_more}
+use Rattle.setting_rules.proofs.Prelude.{following_last, following_last-push}
 
 module _ {X : Type 0} where
-  -- nothing stands behind the end
+  -- dropping at least the whole list leaves nothing
   pub drop_past : (n : ℕ) (xs : List X) → length xs ≤ n → drop n xs ≡ []
   drop_past zero [] h = refl
   drop_past (suc n) [] h = refl
   drop_past zero (x ∷ xs) h = absurd (omega (arith, h))
   drop_past (suc n) (x ∷ xs) h = drop_past n xs (omega arith)
 
-  pub start_more : (p : X → Bool) (xs : List X) (i : ℕ) (x : X) (s t : ℕ) → i < length xs → x ≡ get_or xs i x → s ≤ i → drop s (take i xs) ≡ behind_last p (take i xs) → (((p x ≡ true) × (t ≡ i + 1)) ⊎ ((p x ≡ false) × (t ≡ s)))
-      → (t ≤ i + 1) × (drop t (take (i + 1) xs) ≡ behind_last p (take (i + 1) xs))
-  start_more p xs i x s t h is le was new = elim new as (λ n. (t ≤ i + 1) × (drop t (take (i + 1) xs) ≡ behind_last p (take (i + 1) xs))) [
-    | inl y ↦ (omega (arith, y.1), drop_past t (take (i + 1) xs) (omega (arith, y.1, length-take-le (i + 1) xs (omega arith))) ∙ sym (ap (λ b. cond b [] (behind_last p (take i xs) ++ x ∷ [])) y.0) ∙ sym pushed)
-    | inr y ↦ (omega (arith, y.1), ap (λ l. drop t l) grown ∙ ap (λ n. drop n (take i xs ++ x ∷ [])) y.1 ∙ drop-append-le s (take i xs) (x ∷ []) (omega (arith, length-take-le i xs (omega arith))) ∙ ap (λ l. l ++ x ∷ []) was ∙ sym (ap (λ b. cond b [] (behind_last p (take i xs) ++ x ∷ [])) y.0) ∙ sym pushed)
+  pub start_more : (p : X → Bool) (xs : List X) (i : ℕ) (x : X) (s t : ℕ) → i < length xs → x ≡ get_or xs i x → s ≤ i → drop s (take i xs) ≡ following_last p (take i xs) → (((p x ≡ true) × (t ≡ i + 1)) ⊎ ((p x ≡ false) × (t ≡ s)))
+      → (t ≤ i + 1) × (drop t (take (i + 1) xs) ≡ following_last p (take (i + 1) xs))
+  start_more p xs i x s t h is le was new = elim new as (λ n. (t ≤ i + 1) × (drop t (take (i + 1) xs) ≡ following_last p (take (i + 1) xs))) [
+    | inl y ↦ (omega (arith, y.1), drop_past t (take (i + 1) xs) (omega (arith, y.1, length-take-le (i + 1) xs (omega arith))) ∙ sym (ap (λ b. cond b [] (following_last p (take i xs) ++ x ∷ [])) y.0) ∙ sym pushed)
+    | inr y ↦ (omega (arith, y.1), ap (λ l. drop t l) grown ∙ ap (λ n. drop n (take i xs ++ x ∷ [])) y.1 ∙ drop-append-le s (take i xs) (x ∷ []) (omega (arith, length-take-le i xs (omega arith))) ∙ ap (λ l. l ++ x ∷ []) was ∙ sym (ap (λ b. cond b [] (following_last p (take i xs) ++ x ∷ [])) y.0) ∙ sym pushed)
   ]
     where
       grown : take (i + 1) xs ≡ take i xs ++ x ∷ []
       grown = take_more xs i x h ∙ ap (λ y. take i xs ++ y ∷ []) (sym is)
 
-      pushed : behind_last p (take (i + 1) xs) ≡ cond (p x) [] (behind_last p (take i xs) ++ x ∷ [])
-      pushed = ap (behind_last p) grown ∙ behind_last-push p (take i xs) x
+      pushed : following_last p (take (i + 1) xs) ≡ cond (p x) [] (following_last p (take i xs) ++ x ∷ [])
+      pushed = ap (following_last p) grown ∙ following_last-push p (take i xs) x
 
-  pub start_whole : (p : X → Bool) (xs : List X) (i s : ℕ) → length xs ≤ i → drop s (take i xs) ≡ behind_last p (take i xs) → drop s xs ≡ behind_last p xs
-  start_whole p xs i s h was = ap (drop s) (sym whole) ∙ was ∙ ap (behind_last p) whole
+  pub start_whole : (p : X → Bool) (xs : List X) (i s : ℕ) → length xs ≤ i → drop s (take i xs) ≡ following_last p (take i xs) → drop s xs ≡ following_last p xs
+  start_whole p xs i s h was = ap (drop s) (sym whole) ∙ was ∙ ap (following_last p) whole
     where
       whole : take i xs ≡ xs
       whole = take_past i xs h

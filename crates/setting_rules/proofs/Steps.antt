@@ -1,25 +1,14 @@
 -- One more assignment, and all of them.
-use Rattle.std.proofs.Common.{◌≡◌, ℕ, ◌+◌, ◌<◌, ◌≤◌, ◌-◌, Bool, true, false, cond, ◌&&◌, not, nat_le, is_some, Some, None, List, [], ◌∷◌, ◌++◌, map, filter, length, take, drop, get_or, refl, ap, sym, ◌∙◌, length-append, arith}
+use Rattle.std.proofs.Common.{[], ◌&&◌, ◌++◌, ◌+◌, ◌-◌, ◌<◌, ◌∙◌, ◌∷◌, ◌≡◌, ◌≤◌, ap, arith, Bool, cond, drop, false, filter, get_or, is_some, length, length-append, List, map, nat_le, None, not, refl, Some, sym, take, true, ℕ}
 use Rattle.std.proofs.Math.Bool.{and-false}
-use Rattle.std.proofs.lemmas.Bool.{true≢false, and_from}
-use Rattle.std.proofs.lemmas.Bool.Decides.{nat_tests}
-use Rattle.std.proofs.lemmas.List.{map-append, drop-append-le, take_more, length-take-le}
 use Rattle.std.proofs.Math.Seq.{drop-append_seam}
+use Rattle.std.proofs.lemmas.Bool.{and_from, true≢false}
+use Rattle.std.proofs.lemmas.Bool.Decides.{nat_tests}
+use Rattle.std.proofs.lemmas.List.{drop-append-le, length-take-le, map-append, take_more}
 use Rattle.std.proofs.lemmas.List.Elements.{filter-append}
-use Rattle.section_reader.specs.declared.assignments.Assignment.{Assignment}
-use Rattle.setting_rules.specs.declared.keys.SettingKey.{SettingKey}
-use Rattle.setting_rules.specs.declared.notes.SettingNote.{SettingNote}
-use Rattle.setting_rules.specs.declared.notes.SettingNoteKind.TheVariants.{BadBoolean}
-use Rattle.setting_rules.specs.declared.rules.KeyRule.{KeyRule}
-use Rattle.setting_rules.specs.declared.rules.KeyRule.TheVariants.{Ignored, Dependency, Switch, Condition, Assertion, Plain}
-use Rattle.setting_rules.specs.Rules.{Text, is_empty, boolean, rule_of, same_rule}
-use Rattle.setting_rules.specs.Maps.{SettingMap, same_key}
-use Rattle.setting_rules.specs.KeyLaws.{same_key_itself}
-use Rattle.setting_rules.specs.Settings.{key_of, rule_at, counts, counts_by, emptied_by, resets, gives, given, behind_last, last_alone, counted, keys_of, values_of, settings_of, boolean_notes, is_bad, is_bad_by, note_on}
-use Rattle.setting_rules.specs.ResetLaws.{behind_last-push, behind_last-none, is_never_emptied, none_resets}
-use Rattle.setting_rules.specs.Effects.{effect, changed_by, start_of, resets_family}
-use Rattle.setting_rules.proofs.Firsts.{pairs, pairs_alike}
-use Rattle.setting_rules.proofs.Kept.{kept, live_by, no_change, change, given_taken, given_passed, drop_later}
+use Rattle.setting_rules.proofs.Prelude.{Assertion, Assignment, BadBoolean, changed_by, Condition, counted, counts, counts_by, Dependency, effect, emptied_by, following_last, following_last-none, following_last-push, given, gives, Ignored, is_bad, is_bad_by, is_empty, is_never_emptied, key_of, KeyRule, keys_of, last_alone, none_resets, note_on, Plain, resets, resets_family, rule_at, rule_of, same_key, same_key_itself, same_rule, SettingKey, SettingMap, SettingNote, start_of, Switch, Text}
+use Rattle.setting_rules.specs.{Rules.boolean, Settings.boolean_notes, Settings.settings_of, Settings.values_of}
+use Rattle.setting_rules.proofs.{Firsts.pairs, Firsts.pairs_alike, Kept.change, Kept.drop_later, Kept.given_passed, Kept.given_taken, Kept.kept, Kept.live_by, Kept.no_change}
 
 last_alone-push : (values : List Text) (v : Text) → last_alone (values ++ v ∷ []) ≡ v ∷ []
 last_alone-push values v =
@@ -65,7 +54,7 @@ module _ (c a : ℕ) (p : List Assignment) (x : Assignment) where
   family_kept n false h e =
       let lt : length p < n = grind (arith, nat_tests, e) in ap (given (key_of x)) (drop_later n x p lt)
 
-  -- what one more assignment makes of the map is the map with it
+  -- the map changed by one more assignment is the map of the longer list
   pub step : (live : Bool) → live ≡ nat_le (start_of c a (rule_of x.section x.key)) (length p)
       → changed_by (effect (rule_of x.section x.key) live x.value) (pairs (kept c a p) (keys_of p)) (key_of x) ≡ pairs (kept c a (p ++ x ∷ [])) (keys_of (p ++ x ∷ []))
   step live l = by (rule_of x.section x.key) refl l
@@ -106,29 +95,29 @@ module _ (c a : ℕ) (p : List Assignment) (x : Assignment) where
               ap (λ b. b && emptied_by (rule_of x.section x.key) (rule_of x.section x.key) (same_key (key_of x) (key_of x))) d
               ∙ ap (λ r. emptied_by r r (same_key (key_of x) (key_of x))) e ∙ same_key_itself (key_of x)
 
-          pushed : (b : Bool) → resets (key_of x) x ≡ b → behind_last (resets (key_of x)) (p ++ x ∷ []) ≡ cond b [] (behind_last (resets (key_of x)) p ++ x ∷ [])
-          pushed b h = behind_last-push (resets (key_of x)) p x ∙ ap (λ b. cond b [] (behind_last (resets (key_of x)) p ++ x ∷ [])) h
+          pushed : (b : Bool) → resets (key_of x) x ≡ b → following_last (resets (key_of x)) (p ++ x ∷ []) ≡ cond b [] (following_last (resets (key_of x)) p ++ x ∷ [])
+          pushed b h = following_last-push (resets (key_of x)) p x ∙ ap (λ b. cond b [] (following_last (resets (key_of x)) p ++ x ∷ [])) h
 
-          at : counts x ≡ true → (b : Bool) → is_empty x.value ≡ b → given (key_of x) (behind_last (resets (key_of x)) (p ++ x ∷ [])) ≡ cond b [] (given (key_of x) (behind_last (resets (key_of x)) p) ++ x.value ∷ [])
+          at : counts x ≡ true → (b : Bool) → is_empty x.value ≡ b → given (key_of x) (following_last (resets (key_of x)) (p ++ x ∷ [])) ≡ cond b [] (given (key_of x) (following_last (resets (key_of x)) p) ++ x.value ∷ [])
           at h true d = ap (given (key_of x)) (pushed true (itself d))
           at h false d =
               ap (given (key_of x)) (pushed false (ap (λ b. b && emptied_by (rule_of x.section x.key) (rule_of x.section x.key) (same_key (key_of x) (key_of x))) d))
-              ∙ given_taken (key_of x) x (behind_last (resets (key_of x)) p) (taken h d)
+              ∙ given_taken (key_of x) x (following_last (resets (key_of x)) p) (taken h d)
 
--- what was kept of all assignments is the values that count
-pub kept_whole : (c a : ℕ) (l : List Assignment) → drop c l ≡ behind_last (resets_family Condition) l → drop a l ≡ behind_last (resets_family Assertion) l → (k : SettingKey) → values_of k l ≡ kept c a l k
+-- after all assignments, the values that may still count are the effective values
+pub kept_whole : (c a : ℕ) (l : List Assignment) → drop c l ≡ following_last (resets_family Condition) l → drop a l ≡ following_last (resets_family Assertion) l → (k : SettingKey) → values_of k l ≡ kept c a l k
 unfolding values_of
 kept_whole c a l conditions assertions k = by (rule_at k) refl
   where
-    never : (r : KeyRule) → rule_at k ≡ r → is_never_emptied r ≡ true → behind_last (resets k) l ≡ l
-    never r e h = behind_last-none (resets k) l (none_resets k l (ap is_never_emptied e ∙ h))
+    never : (r : KeyRule) → rule_at k ≡ r → is_never_emptied r ≡ true → following_last (resets k) l ≡ l
+    never r e h = following_last-none (resets k) l (none_resets k l (ap is_never_emptied e ∙ h))
 
-    family : (r : KeyRule) (n : ℕ) → rule_at k ≡ r → ((q : KeyRule) (b : Bool) → emptied_by q r b ≡ same_rule q r) → drop n l ≡ behind_last (resets_family r) l → behind_last (resets k) l ≡ drop n l
+    family : (r : KeyRule) (n : ℕ) → rule_at k ≡ r → ((q : KeyRule) (b : Bool) → emptied_by q r b ≡ same_rule q r) → drop n l ≡ following_last (resets_family r) l → following_last (resets k) l ≡ drop n l
     family r n e h start =
         let alike = λ (y : Assignment).
         ap (λ q. is_empty y.value && emptied_by (rule_of y.section y.key) q (same_key k (key_of y))) e
         ∙ ap (λ b. is_empty y.value && b) (h (rule_of y.section y.key) (same_key k (key_of y))) in
-        ap (λ t. behind_last t l) (λ i y. alike y i) ∙ sym start
+        ap (λ t. following_last t l) (λ i y. alike y i) ∙ sym start
 
     condition : (q : KeyRule) (b : Bool) → emptied_by q Condition b ≡ same_rule q Condition
     condition Condition b = refl
@@ -138,7 +127,7 @@ kept_whole c a l conditions assertions k = by (rule_at k) refl
     assertion Assertion b = refl
     assertion q b = refl
 
-    by : (r : KeyRule) → rule_at k ≡ r → counted r (given k (behind_last (resets k) l)) ≡ counted r (given k (live_by c a r k l))
+    by : (r : KeyRule) → rule_at k ≡ r → counted r (given k (following_last (resets k) l)) ≡ counted r (given k (live_by c a r k l))
     by Ignored e = ap (given k) (never Ignored e refl)
     by Dependency e = ap (given k) (never Dependency e refl)
     by Switch e = ap (λ m. last_alone (given k m)) (never Switch e refl)
@@ -147,7 +136,7 @@ kept_whole c a l conditions assertions k = by (rule_at k) refl
     by Plain e = refl
 
 -- the map of all assignments
-pub settings_whole : (c a : ℕ) (l : List Assignment) → drop c l ≡ behind_last (resets_family Condition) l → drop a l ≡ behind_last (resets_family Assertion) l → pairs (kept c a l) (keys_of l) ≡ settings_of l
+pub settings_whole : (c a : ℕ) (l : List Assignment) → drop c l ≡ following_last (resets_family Condition) l → drop a l ≡ following_last (resets_family Assertion) l → pairs (kept c a l) (keys_of l) ≡ settings_of l
 unfolding settings_of
 settings_whole c a l conditions assertions = pairs_alike (kept c a l) (λ k. values_of k l) (keys_of l) (kept_whole c a l conditions assertions)
 
@@ -163,12 +152,12 @@ notes_more p x =
     by true = refl
     by false = refl
 
--- the assignments up to and with the one at a place
+-- the assignments up to and including the one at an index
 grown : {X : Type 0} (l : List X) (i : ℕ) (x : X) → i < length l → x ≡ get_or l i x → take i l ++ x ∷ [] ≡ take (i + 1) l
 grown l i x h is = ap (λ y. take i l ++ y ∷ []) is ∙ sym (take_more l i x h)
 
 module _ (c a : ℕ) (l : List Assignment) (i : ℕ) (x : Assignment) (rule : KeyRule) (within : i < length l) (is : x ≡ get_or l i x) (rule_is : rule ≡ rule_of x.section x.key) where
-  -- the map that the loop has after the assignment at a place
+  -- the loop's map after the assignment at an index
   pub map_more : (start : ℕ) (was new : SettingMap) → start ≡ start_of c a rule → was ≡ pairs (kept c a (take i l)) (keys_of (take i l)) → new ≡ changed_by (effect rule (nat_le start i) x.value) was (key_of x)
       → new ≡ pairs (kept c a (take (i + 1) l)) (keys_of (take (i + 1) l))
   map_more start was new s w n =

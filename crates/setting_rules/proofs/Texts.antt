@@ -1,6 +1,6 @@
--- Texts without bytes.
-use Rattle.std.proofs.Common.{◌≡◌, ◌==◌, [], ◌∷◌, length, refl, arith, ne_eqb}
-use Rattle.setting_rules.specs.Rules.{Text, is_empty}
+-- Empty texts.
+use Rattle.std.proofs.Common.{[], ◌==◌, ◌∷◌, ◌≡◌, arith, length, ne_eqb, refl}
+use Rattle.setting_rules.proofs.Prelude.{is_empty, Text}
 
 pub none_left : (text : Text) → (length text == 0) ≡ is_empty text
 none_left [] = refl

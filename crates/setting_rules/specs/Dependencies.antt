@@ -1,24 +1,14 @@
 -- The units that a unit's settings name.
--- Source: systemd.unit(5), "[Unit] Section Options"; that a template takes the instance or the prefix is this project's own.
-use Rattle.std.specs.Prelude.{if◌then◌else◌, Option, Some, None, Result, Ok, Err, List, codes, map}
-use Rattle.std.specs.List.{flat_map, filter_map}
+-- Source: systemd.unit(5), "[Unit] Section Options"; that a template takes the instance or the prefix is this project's
+-- own.
+use Rattle.std.proofs.Common.{codes, Err, if◌then◌else◌, List, map, None, Ok, Option, Result, Some}
+use Rattle.std.specs.List.{filter_map, flat_map}
 use Rattle.std.specs.Result.{result_ok}
+use Rattle.setting_rules.specs.Prelude.{expand, is_name, Name, name_cmp}
+use Rattle.setting_rules.specs.{declared.dependency_lists.DependencyList.DependencyList, declared.keys.SettingKey.SettingKey, declared.kinds.DepKind.DepKind, declared.notes.SettingNote.SettingNote, declared.notes.SettingNoteKind.SettingNoteKind, declared.notes.SettingNoteKind.TheVariants.BadEscape, declared.notes.SettingNoteKind.TheVariants.BadName, Kinds.settable, Kinds.word, Maps.SettingMap, Maps.values_at, Rules.Text, Settings.note_on, Words.for_unit, Words.words_of}
 use Rattle.std.specs.FinMap as finmap
-use Rattle.unit_name.specs.Names.{Name, is_name, name_cmp}
-use Rattle.unit_name.specs.Specifiers.{expand}
-use Rattle.setting_rules.specs.declared.dependency_lists.DependencyList.{DependencyList}
-use Rattle.setting_rules.specs.declared.keys.SettingKey.{SettingKey}
-use Rattle.setting_rules.specs.declared.kinds.DepKind.{DepKind}
-use Rattle.setting_rules.specs.declared.notes.SettingNote.{SettingNote}
-use Rattle.setting_rules.specs.declared.notes.SettingNoteKind.{SettingNoteKind}
-use Rattle.setting_rules.specs.declared.notes.SettingNoteKind.TheVariants.{BadEscape, BadName}
-use Rattle.setting_rules.specs.Kinds.{word, settable}
-use Rattle.setting_rules.specs.Maps.{SettingMap, values_at}
-use Rattle.setting_rules.specs.Rules.{Text}
-use Rattle.setting_rules.specs.Settings.{note_on}
-use Rattle.setting_rules.specs.Words.{words_of, for_unit}
 
--- the name, if there is one
+-- the name, or `BadName` if there is none
 abbrev pub or_bad_name : Option Name → Result Name SettingNoteKind
 or_bad_name None = Err BadName
 or_bad_name (Some name) = Ok name
@@ -28,16 +18,17 @@ abbrev pub named_by_text : Name → Option Text → Result Name SettingNoteKind
 named_by_text unit None = Err BadEscape
 named_by_text unit (Some text) = if is_name text then or_bad_name (for_unit unit text) else Err BadName
 
--- What a word of a unit's dependencies names, or what is wrong with it: it is expanded, and then it is to be a name.
+-- The unit that a word of a unit's dependencies names, or what is wrong with it: the word is expanded, and then read as
+-- a name.
 unfoldable pub named_by : Name → Text → Result Name SettingNoteKind
 named_by unit w = named_by_text unit (expand w unit)
 
--- what is wrong, where something is
+-- the error, if any
 abbrev pub result_err : {T E : Type 0} → Result T E → Option E
 result_err (Ok x) = None
 result_err (Err e) = Some e
 
--- the names that words name
+-- the names that words give
 abbrev pub names_by : Name → List Text → List Name
 names_by unit ws = filter_map (λ w. result_ok (named_by unit w)) ws
 
@@ -45,7 +36,7 @@ names_by unit ws = filter_map (λ w. result_ok (named_by unit w)) ws
 abbrev pub faults_by : Name → List Text → List SettingNoteKind
 faults_by unit ws = filter_map (λ w. result_err (named_by unit w)) ws
 
--- names in byte order, each once: those of the map that has each of them
+-- names in byte order, without duplicates
 abbrev pub in_byte_order : List Name → List Name
 in_byte_order names = finmap.keys (finmap.from_entries {X = Unit {0}} {R = name_cmp} (map (λ name. (name, tt)) names))
 
@@ -53,7 +44,7 @@ in_byte_order names = finmap.keys (finmap.from_entries {X = Unit {0}} {R = name_
 abbrev pub key_for : DepKind → SettingKey
 key_for kind = record { section = codes "Unit"; key = word kind }
 
--- the words of the values that a kind's key has
+-- the words in the values of a kind's key
 abbrev pub words_for : SettingMap → DepKind → List Text
 words_for entries kind = flat_map words_of (values_at entries (key_for kind))
 
@@ -65,7 +56,7 @@ list_for entries unit kind = record { kind = kind; names = in_byte_order (names_
 unfoldable pub lists_of : SettingMap → Name → List DependencyList
 lists_of entries unit = map (list_for entries unit) settable
 
--- notes on the words of a kind
+-- the notes on the words of a kind
 abbrev pub notes_for : SettingMap → Name → DepKind → List SettingNote
 notes_for entries unit kind = map (note_on (key_for kind)) (faults_by unit (words_for entries kind))
 

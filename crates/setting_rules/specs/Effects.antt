@@ -1,15 +1,11 @@
--- What one assignment does to the values of its key, and what was kept of the values before an assignment.
+-- How one assignment changes the values of its key, and which values before an assignment still count.
 -- Source: this project's own.
-use Rattle.std.specs.Prelude.{ℕ, Bool, ◌&&◌, not, if◌then◌else◌, Option, Some, None, is_some, List, [], ◌∷◌, ◌++◌}
-use Rattle.section_reader.specs.declared.assignments.Assignment.{Assignment}
-use Rattle.setting_rules.specs.declared.keys.SettingKey.{SettingKey}
-use Rattle.setting_rules.specs.declared.rules.KeyRule.{KeyRule}
-use Rattle.setting_rules.specs.declared.rules.KeyRule.TheVariants.{Ignored, Dependency, Switch, Condition, Assertion, Plain}
-use Rattle.setting_rules.specs.Maps.{SettingMap, changed}
-use Rattle.setting_rules.specs.Rules.{Text, is_empty, boolean, rule_of, same_rule}
+use Rattle.std.proofs.Common.{[], ◌&&◌, ◌++◌, ◌∷◌, Bool, if◌then◌else◌, is_some, List, None, not, Option, Some, ℕ}
+use Rattle.setting_rules.specs.Prelude.{Assignment}
+use Rattle.setting_rules.specs.{declared.keys.SettingKey.SettingKey, declared.rules.KeyRule.KeyRule, declared.rules.KeyRule.TheVariants.Assertion, declared.rules.KeyRule.TheVariants.Condition, declared.rules.KeyRule.TheVariants.Dependency, declared.rules.KeyRule.TheVariants.Ignored, declared.rules.KeyRule.TheVariants.Plain, declared.rules.KeyRule.TheVariants.Switch, Maps.changed, Maps.SettingMap, Rules.boolean, Rules.is_empty, Rules.rule_of, Rules.same_rule, Rules.Text}
 
--- what a value does to those before it of its key; nothing, where it doesn't count. A value of a family counts where it is
--- live: where no later one empties the family.
+-- how a value changes the earlier values of its key; `None` if it doesn't count. A value of a family counts only if it
+-- is live: no later assignment empties the family.
 abbrev pub effect : KeyRule → Bool → Text → Option (List Text → List Text)
 effect Ignored live value = None
 effect Dependency live value = if is_empty value then None else Some (λ values. values ++ value ∷ [])
@@ -26,7 +22,7 @@ changed_by (Some change) entries k = changed change entries k
 abbrev pub resets_family : KeyRule → Assignment → Bool
 resets_family family a = is_empty a.value && same_rule (rule_of a.section a.key) family
 
--- where the values of keys with a rule count from: those of a family from its start
+-- the index from which the values of keys with this rule count: for a family, the start of its live values
 abbrev pub start_of : ℕ → ℕ → KeyRule → ℕ
 start_of conditions assertions Condition = conditions
 start_of conditions assertions Assertion = assertions

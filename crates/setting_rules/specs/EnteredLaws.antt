@@ -1,36 +1,30 @@
 -- Which keys enter the map, and in what order.
 -- Source: this project's own.
-use Rattle.std.proofs.Common.{◌≡◌, Bool, true, false, cond, ◌||◌, not, List, [], ◌∷◌, ◌++◌, map, filter, refl, ap, sym, ◌∙◌}
-use Rattle.std.specs.Prelude.{if◌then◌else◌}
-use Rattle.std.specs.List.{list_any}
+use Rattle.std.proofs.Common.{[], ◌++◌, ◌||◌, ◌∙◌, ◌∷◌, ◌≡◌, ap, Bool, cond, false, filter, if◌then◌else◌, List, map, not, refl, sym, true}
 use Rattle.std.proofs.lemmas.List.{map-append}
 use Rattle.std.proofs.lemmas.List.Elements.{filter-append, filter_agree}
-use Rattle.list_laws.specs.Filters.{filter_twice}
-use Rattle.section_reader.specs.declared.assignments.Assignment.{Assignment}
-use Rattle.setting_rules.specs.declared.keys.SettingKey.{SettingKey}
-use Rattle.setting_rules.specs.Rules.{Text}
-use Rattle.setting_rules.specs.Maps.{same_key, keys_in}
-use Rattle.setting_rules.specs.KeyLaws.{same_key_is}
-use Rattle.setting_rules.specs.Settings.{key_of, counts, firsts, values_of, keys_of, settings_of}
+use Rattle.std.specs.List.{list_any}
+use Rattle.setting_rules.specs.Prelude.{Assignment, filter_twice}
+use Rattle.setting_rules.specs.{declared.keys.SettingKey.SettingKey, KeyLaws.same_key_is, Maps.keys_in, Maps.same_key, Rules.Text, Settings.counts, Settings.firsts, Settings.key_of, Settings.keys_of, Settings.settings_of, Settings.values_of}
 
--- of some keys those that aren't among others
+-- those of some keys that aren't among others
 abbrev pub not_among : List SettingKey → List SettingKey → List SettingKey
 not_among others ks = filter (λ k. not (list_any (same_key k) others)) ks
 
--- The keys of two lists in a row are those of the first, then those of the second that the first hasn't.
+-- The keys of two concatenated lists are those of the first, then those of the second that the first doesn't have.
 abbrev pub KeysJoin : Type 0
 KeysJoin = (first second : List Assignment) →
     keys_in (settings_of (first ++ second)) ≡ keys_in (settings_of first) ++ not_among (keys_in (settings_of first)) (keys_in (settings_of second))
 
--- One assignment enters its key where it counts.
+-- One assignment enters its key if it counts.
 abbrev pub OneKeyEnters : Type 0
 OneKeyEnters = (a : Assignment) → keys_in (settings_of (a ∷ [])) ≡ (if counts a then key_of a ∷ [] else [])
 
--- the keys but one
+-- all keys but one
 abbrev pub others : SettingKey → List SettingKey → List SettingKey
 others x ks = filter (λ q. not (same_key q x)) ks
 
--- another key is among them where it was
+-- any other key is among them if it was before
 pub any_others : (k x : SettingKey) → same_key k x ≡ false → (ks : List SettingKey) → list_any (same_key k) (others x ks) ≡ list_any (same_key k) ks
 any_others k x h [] = refl
 any_others k x h (y ∷ ks) = by (same_key y x) refl (any_others k x h ks)

@@ -1,24 +1,16 @@
--- What an empty condition or assertion empties, said of all keys that begin with one word.
+-- What an empty condition or assertion empties, stated for all keys with the same beginning.
 -- Source: systemd.unit(5), "Conditions and Asserts".
-use Rattle.std.proofs.Common.{◌≡◌, Bool, true, false, ◌&&◌, ◌||◌, not, List, [], ◌∷◌, ◌++◌, map, codes, refl, ap, ◌∙◌, subst}
-use Rattle.std.specs.List.{All, list_any}
+use Rattle.std.proofs.Common.{[], ◌&&◌, ◌++◌, ◌||◌, ◌∙◌, ◌∷◌, ◌≡◌, All, ap, Bool, codes, false, List, map, not, refl, subst, true}
 use Rattle.std.proofs.lemmas.List.Elements.{All-head, All-tail}
-use Rattle.section_reader.specs.declared.assignments.Assignment.{Assignment}
-use Rattle.setting_rules.specs.declared.keys.SettingKey.{SettingKey}
-use Rattle.setting_rules.specs.declared.rules.KeyRule.{KeyRule}
-use Rattle.setting_rules.specs.declared.rules.KeyRule.TheVariants.{Condition, Assertion}
-use Rattle.setting_rules.specs.Kinds.{settable_kind}
-use Rattle.setting_rules.specs.Rules.{Text, is_empty, rule_of}
-use Rattle.setting_rules.specs.Maps.{same_key, values_at}
-use Rattle.setting_rules.specs.KeyLaws.{same_key_is}
-use Rattle.setting_rules.specs.Settings.{key_of, rule_at, counts, counted, emptied_by, gives, resets, values_of, settings_of}
-use Rattle.setting_rules.specs.ResetLaws.{filter-behind_last-none, resets_forget, settings_show_values}
+use Rattle.std.specs.List.{list_any}
+use Rattle.setting_rules.specs.Prelude.{Assignment}
+use Rattle.setting_rules.specs.{declared.keys.SettingKey.SettingKey, declared.rules.KeyRule.KeyRule, declared.rules.KeyRule.TheVariants.Assertion, declared.rules.KeyRule.TheVariants.Condition, KeyLaws.same_key_is, Kinds.settable_kind, Maps.same_key, Maps.values_at, ResetLaws.filter-following_last-none, ResetLaws.resets_forget, ResetLaws.settings_show_values, Rules.is_empty, Rules.rule_of, Rules.Text, Settings.counted, Settings.counts, Settings.emptied_by, Settings.gives, Settings.key_of, Settings.resets, Settings.rule_at, Settings.settings_of, Settings.values_of}
 
--- a key of `[Unit]` that begins with a word
+-- a key of `[Unit]` that begins with this word
 abbrev pub BeginsWith : Text → SettingKey → Type 0
 BeginsWith word k = (k.section ≡ codes "Unit") × ((rest : Text) × (k.key ≡ word ++ rest))
 
--- an empty value of such a key, behind which no such key is set, leaves each of these keys without values
+-- an empty value of such a key leaves all such keys without values, if no such key is set after it
 abbrev pub EmptiesAll : Text → Type 0
 EmptiesAll word = (before after : List Assignment) (a : Assignment) (k : SettingKey) →
     BeginsWith word (key_of a) → a.value ≡ [] → All (λ b. ¬ BeginsWith word (key_of b)) after → BeginsWith word k → values_at (settings_of (before ++ a ∷ after)) k ≡ []
@@ -39,7 +31,7 @@ assertion_words : (rest : Text) → rule_of (codes "Unit") (codes "Assert" ++ re
 unfolding rule_of settable_kind
 assertion_words rest = refl
 
--- where the keys that begin with a word have a rule by which an empty value empties all of them
+-- if the keys that begin with a word have a rule by which an empty value empties all of them
 module _ (word : Text) (rule : KeyRule) (ruled : (rest : Text) → rule_of (codes "Unit") (word ++ rest) ≡ rule) (empties : (itself : Bool) → emptied_by rule rule itself ≡ true) (all : (values : List Text) → counted rule values ≡ values) where
   rule_is : (k : SettingKey) → BeginsWith word k → rule_at k ≡ rule
   rule_is k h = ap (λ s. rule_of s k.key) h.0 ∙ ap (rule_of (codes "Unit")) h.1.1 ∙ ruled h.1.0
@@ -52,15 +44,15 @@ module _ (word : Text) (rule : KeyRule) (ruled : (rest : Text) → rule_of (code
       by true e more = absurd (All-head (λ b. ¬ BeginsWith word (key_of b)) b after apart (subst (λ q. BeginsWith word q) (same_key_is k (key_of b) e) h))
       by false e more = ap (λ s. (s && counts b && not (is_empty b.value)) || list_any (gives k) after) e ∙ more
 
-  nothing_behind : (k : SettingKey) → BeginsWith word k → (after : List Assignment) → All (λ b. ¬ BeginsWith word (key_of b)) after → values_of k after ≡ []
+  nothing_following : (k : SettingKey) → BeginsWith word k → (after : List Assignment) → All (λ b. ¬ BeginsWith word (key_of b)) after → values_of k after ≡ []
   unfolding values_of
-  nothing_behind k h after apart =
-      ap (λ l. counted (rule_at k) (map (λ b. b.value) l)) (filter-behind_last-none (gives k) (resets k) after (none_given k h after apart))
+  nothing_following k h after apart =
+      ap (λ l. counted (rule_at k) (map (λ b. b.value) l)) (filter-following_last-none (gives k) (resets k) after (none_given k h after apart))
       ∙ ap (λ r. counted r []) (rule_is k h) ∙ all []
 
   emptied : EmptiesAll word
   emptied before after a k of_a empty apart h =
-      settings_show_values k (before ++ a ∷ after) ∙ resets_forget k before after a reset ∙ nothing_behind k h after apart
+      settings_show_values k (before ++ a ∷ after) ∙ resets_forget k before after a reset ∙ nothing_following k h after apart
     where
       reset : resets k a ≡ true
       reset =

@@ -1,24 +1,19 @@
--- The settings of lists that are put one behind the other, as a fragment's assignments and those of its drop-ins.
-use Rattle.std.proofs.Common.{◌≡◌, ◌+◌, ◌-◌, Bool, true, false, cond, List, [], ◌∷◌, ◌++◌, length, drop, refl, ap, sym, ◌∙◌, append-nil, length-append, arith}
-use Rattle.std.specs.List.{list_any}
+-- The settings of concatenated lists, such as the assignments of a fragment and of its drop-ins.
+use Rattle.std.proofs.Common.{[], ◌++◌, ◌+◌, ◌-◌, ◌∙◌, ◌∷◌, ◌≡◌, ap, append-nil, arith, Bool, cond, drop, false, length, length-append, List, refl, sym, true}
 use Rattle.std.proofs.Math.Seq.{drop-append-add}
-use Rattle.section_reader.specs.declared.assignments.Assignment.{Assignment}
-use Rattle.setting_rules.specs.declared.keys.SettingKey.{SettingKey}
-use Rattle.setting_rules.specs.declared.rules.KeyRule.{KeyRule}
-use Rattle.setting_rules.specs.declared.rules.KeyRule.TheVariants.{Ignored, Dependency, Switch, Condition, Assertion, Plain}
-use Rattle.setting_rules.specs.Rules.{Text}
-use Rattle.setting_rules.specs.Settings.{behind_last, given, resets, counted, last_alone, rule_at, values_of}
-use Rattle.setting_rules.specs.ResetLaws.{behind_last-append, behind_last-none, given-append}
+use Rattle.std.specs.List.{list_any}
+use Rattle.setting_rules.specs.Prelude.{Assignment}
+use Rattle.setting_rules.specs.{declared.keys.SettingKey.SettingKey, declared.rules.KeyRule.KeyRule, declared.rules.KeyRule.TheVariants.Assertion, declared.rules.KeyRule.TheVariants.Condition, declared.rules.KeyRule.TheVariants.Dependency, declared.rules.KeyRule.TheVariants.Ignored, declared.rules.KeyRule.TheVariants.Plain, declared.rules.KeyRule.TheVariants.Switch, ResetLaws.following_last-append, ResetLaws.following_last-none, ResetLaws.given-append, Rules.Text, Settings.counted, Settings.following_last, Settings.given, Settings.last_alone, Settings.resets, Settings.rule_at, Settings.values_of}
 
--- the last of two lists is that of the second, if it has any
-pub last_behind : (xs : List Text) (y : Text) (ys : List Text) → last_alone (xs ++ y ∷ ys) ≡ last_alone (y ∷ ys)
-last_behind xs y ys =
+-- the last value of two lists is that of the second, if it has any
+pub last_following : (xs : List Text) (y : Text) (ys : List Text) → last_alone (xs ++ y ∷ ys) ≡ last_alone (y ∷ ys)
+last_following xs y ys =
     let n : length (xs ++ y ∷ ys) - 1 ≡ length xs + (length (y ∷ ys) - 1) = omega (arith, length-append xs (y ∷ ys)) in
     ap (λ k. drop k (xs ++ y ∷ ys)) n ∙ drop-append-add xs (y ∷ ys) (length (y ∷ ys) - 1)
 
 one : (y : Text) (ys : List Text) → (z : Text) × (last_alone (y ∷ ys) ≡ z ∷ [])
 one y [] = (y, refl)
-one y (x ∷ ys) = let o = one x ys in (o.0, last_behind (y ∷ []) x ys ∙ o.1)
+one y (x ∷ ys) = let o = one x ys in (o.0, last_following (y ∷ []) x ys ∙ o.1)
 
 twice : (xs : List Text) → last_alone (last_alone xs) ≡ last_alone xs
 twice [] = refl
@@ -28,7 +23,7 @@ last_alone-append : (xs ys : List Text) → last_alone (xs ++ ys) ≡ last_alone
 last_alone-append xs [] = ap last_alone (append-nil xs) ∙ sym (twice xs) ∙ ap last_alone (sym (append-nil (last_alone xs)))
 last_alone-append xs (y ∷ ys) =
     let o = one y ys in
-    last_behind xs y ys ∙ o.1 ∙ sym (last_behind (last_alone xs) o.0 []) ∙ ap (λ l. last_alone (last_alone xs ++ l)) (sym o.1)
+    last_following xs y ys ∙ o.1 ∙ sym (last_following (last_alone xs) o.0 []) ∙ ap (λ l. last_alone (last_alone xs ++ l)) (sym o.1)
 
 counted-append : (r : KeyRule) (xs ys : List Text) → counted r (xs ++ ys) ≡ counted r (counted r xs ++ counted r ys)
 counted-append Ignored xs ys = refl
@@ -38,7 +33,7 @@ counted-append Condition xs ys = refl
 counted-append Assertion xs ys = refl
 counted-append Plain xs ys = refl
 
--- The values of two lists are those of the second alone, where something there empties the key, and else those of both.
+-- The values of two lists are those of the second alone if something there empties the key, and else those of both.
 abbrev pub ListsJoin : Type 0
 ListsJoin = (k : SettingKey) (first second : List Assignment) →
     values_of k (first ++ second) ≡ cond (list_any (resets k) second) (values_of k second) (counted (rule_at k) (values_of k first ++ values_of k second))
@@ -46,12 +41,12 @@ ListsJoin = (k : SettingKey) (first second : List Assignment) →
 pub lists_join : ListsJoin
 unfolding values_of
 lists_join k first second =
-    ap (λ l. counted (rule_at k) (given k l)) (behind_last-append (resets k) first second) ∙ by (list_any (resets k) second) refl
+    ap (λ l. counted (rule_at k) (given k l)) (following_last-append (resets k) first second) ∙ by (list_any (resets k) second) refl
   where
-    by : (b : Bool) → list_any (resets k) second ≡ b → counted (rule_at k) (given k (cond b (behind_last (resets k) second) (behind_last (resets k) first ++ second)))
-        ≡ cond b (counted (rule_at k) (given k (behind_last (resets k) second))) (counted (rule_at k) (counted (rule_at k) (given k (behind_last (resets k) first)) ++ counted (rule_at k) (given k (behind_last (resets k) second))))
+    by : (b : Bool) → list_any (resets k) second ≡ b → counted (rule_at k) (given k (cond b (following_last (resets k) second) (following_last (resets k) first ++ second)))
+        ≡ cond b (counted (rule_at k) (given k (following_last (resets k) second))) (counted (rule_at k) (counted (rule_at k) (given k (following_last (resets k) first)) ++ counted (rule_at k) (given k (following_last (resets k) second))))
     by true e = refl
     by false e =
-        ap (counted (rule_at k)) (given-append k (behind_last (resets k) first) second)
-        ∙ counted-append (rule_at k) (given k (behind_last (resets k) first)) (given k second)
-        ∙ ap (λ l. counted (rule_at k) (counted (rule_at k) (given k (behind_last (resets k) first)) ++ counted (rule_at k) (given k l))) (sym (behind_last-none (resets k) second e))
+        ap (counted (rule_at k)) (given-append k (following_last (resets k) first) second)
+        ∙ counted-append (rule_at k) (given k (following_last (resets k) first)) (given k second)
+        ∙ ap (λ l. counted (rule_at k) (counted (rule_at k) (given k (following_last (resets k) first)) ++ counted (rule_at k) (given k l))) (sym (following_last-none (resets k) second e))

@@ -1,10 +1,9 @@
--- Keys are the same where they are equal.
-use Rattle.std.proofs.Common.{◌≡◌, Bool, true, false, refl, ap, sym, ◌∙◌}
-use Rattle.std.specs.Str.{bytes_eq}
-use Rattle.std.proofs.lemmas.Bool.{true≢false, and_parts, and_from}
+-- Comparing keys is equality.
+use Rattle.std.proofs.Common.{◌∙◌, ◌≡◌, ap, Bool, false, refl, sym, true}
+use Rattle.std.proofs.lemmas.Bool.{and_from, and_parts, true≢false}
 use Rattle.std.proofs.lemmas.Slice.Eq.{bytes_eq-Decides}
-use Rattle.setting_rules.specs.declared.keys.SettingKey.{SettingKey}
-use Rattle.setting_rules.specs.Maps.{same_key}
+use Rattle.std.specs.Str.{bytes_eq}
+use Rattle.setting_rules.specs.{declared.keys.SettingKey.SettingKey, Maps.same_key}
 
 pub same_key_is : (k q : SettingKey) → same_key k q ≡ true → k ≡ q
 same_key_is k q h =
@@ -15,7 +14,7 @@ same_key_is k q h =
 pub same_key_itself : (k : SettingKey) → same_key k k ≡ true
 same_key_itself k = and_from _ _ ((bytes_eq-Decides k.section k.section).1 refl) ((bytes_eq-Decides k.key k.key).1 refl)
 
--- which key is compared with which makes no difference
+-- the comparison is symmetric
 pub same_key_turned : (k q : SettingKey) → same_key k q ≡ same_key q k
 same_key_turned k q = by (same_key k q) (same_key q k) refl refl
   where

@@ -1,12 +1,12 @@
 -- The kinds of dependencies.
 -- Source: systemd.unit(5), "Mapping of unit properties to their inverses".
-use Rattle.std.specs.Prelude.{ℕ, Bool, true, false, Option, List, [], ◌∷◌, codes, find, filter}
+use Rattle.std.proofs.Common.{[], ◌∷◌, Bool, codes, false, filter, List, Option, true, ℕ}
 use Rattle.std.specs.List.{flat_map}
+use Rattle.std.specs.Prelude.{find}
 use Rattle.std.specs.Str.{bytes_eq}
-use Rattle.setting_rules.specs.declared.kinds.DepKind.{DepKind}
-use Rattle.setting_rules.specs.declared.kinds.DepKind.TheVariants.{Before, After, Wants, WantedBy, Requires, RequiredBy, Requisite, RequisiteOf, BindsTo, BoundBy, PartOf, ConsistsOf, Conflicts, ConflictedBy, OnFailure, OnFailureOf, PropagatesReloadTo, ReloadPropagatedFrom}
+use Rattle.setting_rules.specs.{declared.kinds.DepKind.DepKind, declared.kinds.DepKind.TheVariants.After, declared.kinds.DepKind.TheVariants.Before, declared.kinds.DepKind.TheVariants.BindsTo, declared.kinds.DepKind.TheVariants.BoundBy, declared.kinds.DepKind.TheVariants.ConflictedBy, declared.kinds.DepKind.TheVariants.Conflicts, declared.kinds.DepKind.TheVariants.ConsistsOf, declared.kinds.DepKind.TheVariants.OnFailure, declared.kinds.DepKind.TheVariants.OnFailureOf, declared.kinds.DepKind.TheVariants.PartOf, declared.kinds.DepKind.TheVariants.PropagatesReloadTo, declared.kinds.DepKind.TheVariants.ReloadPropagatedFrom, declared.kinds.DepKind.TheVariants.RequiredBy, declared.kinds.DepKind.TheVariants.Requires, declared.kinds.DepKind.TheVariants.Requisite, declared.kinds.DepKind.TheVariants.RequisiteOf, declared.kinds.DepKind.TheVariants.WantedBy, declared.kinds.DepKind.TheVariants.Wants}
 
--- the kind that says the same from the other unit
+-- the kind that states the same relation from the other unit
 abbrev pub inverse : DepKind → DepKind
 inverse Before = After
 inverse After = Before
@@ -27,15 +27,15 @@ inverse OnFailureOf = OnFailure
 inverse PropagatesReloadTo = ReloadPropagatedFrom
 inverse ReloadPropagatedFrom = PropagatesReloadTo
 
--- the kinds that have a row of their own, in the order of the rows
+-- the first kind of each pair of a kind and its inverse, in order
 abbrev pub row_kinds : List DepKind
 row_kinds = Before ∷ Wants ∷ Requires ∷ Requisite ∷ BindsTo ∷ PartOf ∷ Conflicts ∷ OnFailure ∷ PropagatesReloadTo ∷ []
 
--- All kinds: row by row, a kind before its inverse.
+-- All kinds, pair by pair: a kind and then its inverse.
 abbrev pub kinds : List DepKind
 kinds = flat_map (λ kind. kind ∷ inverse kind ∷ []) row_kinds
 
--- Whether a unit file may set the kind: that of each row, and of the first and the last row the inverse too.
+-- Whether a unit file may set the kind: the first kind of each pair, and both kinds of the first and the last pair.
 abbrev pub is_settable : DepKind → Bool
 is_settable Before = true
 is_settable After = true
@@ -56,11 +56,11 @@ is_settable OnFailureOf = false
 is_settable PropagatesReloadTo = true
 is_settable ReloadPropagatedFrom = true
 
--- the kinds that a unit file may set, in the order of all
+-- the kinds that a unit file may set, in the order of all kinds
 abbrev pub settable : List DepKind
 settable = filter is_settable kinds
 
--- the kind's word
+-- the name of a kind
 abbrev pub word : DepKind → List ℕ
 word Before = codes "Before"
 word After = codes "After"

@@ -1,3 +1,4 @@
+pub mod Prelude
 pub mod Dependencies
 pub mod Effects
 pub mod EnteredLaws

@@ -1,9 +1,9 @@
--- The values of keys, as a list of pairs in which each key stands once.
+-- Maps from keys to their values, as lists of pairs without duplicate keys.
 -- Source: this project's own.
-use Rattle.std.specs.Prelude.{ℕ, suc, Bool, ◌&&◌, if◌then◌else◌, Option, Some, None, List, [], ◌∷◌, map, find}
+use Rattle.std.proofs.Common.{[], ◌&&◌, ◌∷◌, Bool, if◌then◌else◌, List, map, None, Option, Some, suc, ℕ}
+use Rattle.std.specs.Prelude.{find}
 use Rattle.std.specs.Str.{bytes_eq}
-use Rattle.setting_rules.specs.declared.keys.SettingKey.{SettingKey}
-use Rattle.setting_rules.specs.Rules.{Text}
+use Rattle.setting_rules.specs.{declared.keys.SettingKey.SettingKey, Rules.Text}
 
 -- the keys with their values, in the order of the keys
 abbrev pub SettingMap : Type 0
@@ -20,20 +20,20 @@ abbrev pub texts_or_none : Option (SettingKey × List Text) → List Text
 texts_or_none None = []
 texts_or_none (Some e) = e.1
 
--- the values that a map has at a key: none where the key isn't there
+-- the values of a key; none if the key is absent
 abbrev pub values_at : SettingMap → SettingKey → List Text
 values_at entries k = texts_or_none (find (λ e. same_key k e.0) entries)
 
--- where a key stands, or would stand if it were entered
+-- the index of a key, or the index that it would get if it were entered
 abbrev pub place_of : SettingMap → SettingKey → ℕ
 place_of [] k = 0
 place_of (e ∷ entries) k = if same_key k e.0 then 0 else suc (place_of entries k)
 
--- the map with the values of a key changed, which is entered with none unless it is there
+-- the map with the values of a key changed; an absent key is entered first, with no values
 abbrev pub changed : (List Text → List Text) → SettingMap → SettingKey → SettingMap
 changed change [] k = (k, change []) ∷ []
 changed change (e ∷ entries) k = if same_key k e.0 then (e.0, change e.1) ∷ entries else e ∷ changed change entries k
 
--- the map with a key entered, unless it is there
+-- the map with a key entered, unless it is present
 abbrev pub with_key : SettingMap → SettingKey → SettingMap
 with_key entries k = changed (λ values. values) entries k

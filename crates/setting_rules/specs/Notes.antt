@@ -1,8 +1,7 @@
--- How notes on settings are spelled.
+-- The texts of notes on settings.
 -- Source: this project's own.
-use Rattle.std.specs.Prelude.{ℕ, List, codes}
-use Rattle.setting_rules.specs.declared.notes.SettingNoteKind.{SettingNoteKind}
-use Rattle.setting_rules.specs.declared.notes.SettingNoteKind.TheVariants.{BadBoolean, BadEscape, BadName}
+use Rattle.std.proofs.Common.{codes, List, ℕ}
+use Rattle.setting_rules.specs.{declared.notes.SettingNoteKind.SettingNoteKind, declared.notes.SettingNoteKind.TheVariants.BadBoolean, declared.notes.SettingNoteKind.TheVariants.BadEscape, declared.notes.SettingNoteKind.TheVariants.BadName}
 
 -- the code of a note
 abbrev pub code_of : SettingNoteKind → List ℕ
@@ -10,7 +9,7 @@ code_of BadBoolean = codes "K4"
 code_of BadEscape = codes "K5"
 code_of BadName = codes "K6"
 
--- a note in print: its code and its name
+-- a printed note: its code and its name
 abbrev pub words_of : SettingNoteKind → List ℕ
 words_of BadBoolean = codes "K4 BadBoolean"
 words_of BadEscape = codes "K5 BadEscape"

@@ -1,23 +1,19 @@
--- Names in byte order, each once.
-use Rattle.std.proofs.Common.{◌≡◌, Bool, true, false, ◌||◌, is_some, List, [], ◌∷◌, map, IsTrue, T, refl, ap, sym, ◌∙◌, inl, inr}
-use Rattle.std.specs.Prelude.{◌↔◌, ◌⊎◌}
-use Rattle.std.specs.List.{list_any, Contains, AllByRecursion}
-use Rattle.std.specs.List.Sorted.{IsStrictlySortedBy}
-use Rattle.std.specs.FinMap as finmap
-use Rattle.std.specs.FinMap.{is_sorted, contains_key-keys, get-from_entries, entries_sorted}
-use Rattle.std.specs.FinMap.Entries.{is_some-find, below_all}
+-- Names in byte order, without duplicates.
+use Rattle.std.proofs.Common.{[], ◌||◌, ◌↔◌, ◌∙◌, ◌∷◌, ◌≡◌, ◌⊎◌, ap, Bool, false, inl, inr, is_some, IsTrue, List, map, refl, sym, T, true}
+use Rattle.std.proofs.lemmas.Bool.{and_parts, true≢false}
+use Rattle.std.proofs.lemmas.Cmp.{tied_itself}
 use Rattle.std.specs.Cmp.Lexicographic.{nat_list_cmp_total}
+use Rattle.std.specs.FinMap.{contains_key-keys, entries_sorted, get-from_entries, is_sorted}
+use Rattle.std.specs.FinMap.Entries.{below_all, is_some-find}
+use Rattle.std.specs.List.{AllByRecursion, Contains, list_any}
 use Rattle.std.specs.Ordering.{eq_by_cmp, is_eq}
 use Rattle.std.specs.declared.cmp.Ordering.TheVariants.{Less}
-use Rattle.std.proofs.lemmas.Bool.{true≢false, and_parts}
-use Rattle.std.proofs.lemmas.Cmp.{tied_itself}
-use Rattle.list_laws.specs.Members.{IsAmong, among_from_contains, contains_from_among}
-use Rattle.list_laws.specs.Orderings.{is_less, is_equal}
-use Rattle.unit_name.specs.Names.{Name, name_cmp}
-use Rattle.unit_name.specs.NameLaws.{name_cmp-IsAntisymmetric}
+use Rattle.setting_rules.specs.Prelude.{among_from_contains, contains_from_among, is_equal, is_less, IsAmong, Name, name_cmp, name_cmp-IsAntisymmetric}
 use Rattle.setting_rules.specs.Dependencies.{in_byte_order}
+use Rattle.std.specs.List.Sorted.{IsStrictlySortedBy}
+use Rattle.std.specs.FinMap as finmap
 
--- a list has a name where one of it is equal
+-- a name that compares as equal to a member is a member
 pub IsAmong-from_any : (z : Name) (xs : List Name) → list_any (eq_by_cmp name_cmp z) xs ≡ true → IsAmong z xs
 IsAmong-from_any z [] h = true≢false (sym h)
 IsAmong-from_any z (y ∷ xs) h = by (eq_by_cmp name_cmp z y) refl h (IsAmong-from_any z xs)
@@ -39,7 +35,7 @@ firsts_are : (names : List Name) → map (λ e. e.0) (map (λ name. let p : Name
 firsts_are [] = refl
 firsts_are (n ∷ names) = ap (λ l. n ∷ l) (firsts_are names)
 
--- the names in byte order are the names
+-- sorting keeps the set of names
 pub any-in_byte_order : (z : Name) (names : List Name) → list_any (eq_by_cmp name_cmp z) (in_byte_order names) ≡ list_any (eq_by_cmp name_cmp z) names
 any-in_byte_order z names =
     let es = map (λ name. let p : Name × Unit {0} = (name, tt) in p) names in
@@ -51,16 +47,16 @@ above : (x : Name) (es : List (Name × Unit {0})) → IsTrue (below_all name_cmp
 above x [] h = tt
 above x (e ∷ es) h = (is_less _ (and_parts _ _ h).0, above x es (and_parts _ _ h).1)
 
-rising : (es : List (Name × Unit {0})) → IsTrue (is_sorted name_cmp es) → IsStrictlySortedBy name_cmp (map (λ e. e.0) es)
+ascending : (es : List (Name × Unit {0})) → IsTrue (is_sorted name_cmp es) → IsStrictlySortedBy name_cmp (map (λ e. e.0) es)
 unfolding IsStrictlySortedBy
-rising [] h = tt
-rising (e ∷ es) h = (above e.0 es (and_parts _ _ h).0, rising es (and_parts _ _ h).1)
+ascending [] h = tt
+ascending (e ∷ es) h = (above e.0 es (and_parts _ _ h).0, ascending es (and_parts _ _ h).1)
 
--- In byte order each name is below those behind it, so that it stands there once.
-abbrev pub NamesRise : Type 0
-NamesRise = (names : List Name) → IsStrictlySortedBy name_cmp (in_byte_order names)
+-- In byte order each name is below those after it, so it occurs once.
+abbrev pub NamesAscend : Type 0
+NamesAscend = (names : List Name) → IsStrictlySortedBy name_cmp (in_byte_order names)
 
--- And there are just the names of the list.
+-- The names are exactly those of the list.
 abbrev pub NamesStay : Type 0
 NamesStay = (names : List Name) (z : Name) → Contains (in_byte_order names) z ↔ Contains names z
 
@@ -68,8 +64,8 @@ is_true : (b : Bool) → T b → IsTrue b
 is_true true h = refl
 is_true false h = absurd h
 
-pub names_rise : NamesRise
-names_rise names = rising _ (is_true _ (entries_sorted (finmap.from_entries {X = Unit {0}} {R = name_cmp} (map (λ name. (name, tt)) names))))
+pub names_ascend : NamesAscend
+names_ascend names = ascending _ (is_true _ (entries_sorted (finmap.from_entries {X = Unit {0}} {R = name_cmp} (map (λ name. (name, tt)) names))))
 
 pub names_stay : NamesStay
 names_stay names z = (

@@ -1,10 +1,9 @@
--- Where a kind stands among those that a unit file may set.
+-- The index of a kind among those that a unit file may set.
 -- Source: this project's own.
-use Rattle.std.specs.Prelude.{ℕ}
-use Rattle.setting_rules.specs.declared.kinds.DepKind.{DepKind}
-use Rattle.setting_rules.specs.declared.kinds.DepKind.TheVariants.{Before, After, Wants, Requires, Requisite, BindsTo, PartOf, Conflicts, OnFailure, PropagatesReloadTo, ReloadPropagatedFrom}
+use Rattle.std.proofs.Common.{ℕ}
+use Rattle.setting_rules.specs.{declared.kinds.DepKind.DepKind, declared.kinds.DepKind.TheVariants.After, declared.kinds.DepKind.TheVariants.Before, declared.kinds.DepKind.TheVariants.BindsTo, declared.kinds.DepKind.TheVariants.Conflicts, declared.kinds.DepKind.TheVariants.OnFailure, declared.kinds.DepKind.TheVariants.PartOf, declared.kinds.DepKind.TheVariants.PropagatesReloadTo, declared.kinds.DepKind.TheVariants.ReloadPropagatedFrom, declared.kinds.DepKind.TheVariants.Requires, declared.kinds.DepKind.TheVariants.Requisite, declared.kinds.DepKind.TheVariants.Wants}
 
--- the place of a kind among those, and their count for each other
+-- the index of a kind among those; their number for any other kind
 abbrev pub place : DepKind → ℕ
 place Before = 0
 place After = 1

@@ -1,60 +1,55 @@
--- What resets leave.
-use Rattle.std.proofs.Common.{◌≡◌, ℕ, zero, suc, Bool, true, false, cond, ◌&&◌, ◌||◌, not, List, [], ◌∷◌, ◌++◌, map, filter, find, Some, drop, refl, ap, sym, ◌∙◌}
-use Rattle.std.specs.List.{list_any}
+-- The values that remain after resets.
+use Rattle.std.proofs.Common.{[], ◌&&◌, ◌++◌, ◌||◌, ◌∙◌, ◌∷◌, ◌≡◌, ap, Bool, cond, drop, false, filter, List, map, not, refl, Some, suc, sym, true, zero, ℕ}
 use Rattle.std.proofs.Math.Bool.{and-false}
 use Rattle.std.proofs.lemmas.Bool.{true≢false}
 use Rattle.std.proofs.lemmas.List.{map-append}
 use Rattle.std.proofs.lemmas.List.Elements.{filter-append}
 use Rattle.std.proofs.lemmas.List.Folds.{list_any-append}
-use Rattle.section_reader.specs.declared.assignments.Assignment.{Assignment}
-use Rattle.setting_rules.specs.declared.keys.SettingKey.{SettingKey}
-use Rattle.setting_rules.specs.declared.rules.KeyRule.{KeyRule}
-use Rattle.setting_rules.specs.declared.rules.KeyRule.TheVariants.{Ignored, Dependency, Switch, Condition, Assertion, Plain}
-use Rattle.setting_rules.specs.Rules.{Text, is_empty, rule_of}
-use Rattle.setting_rules.specs.Maps.{SettingMap, same_key, values_at, texts_or_none}
-use Rattle.setting_rules.specs.KeyLaws.{same_key_is}
-use Rattle.setting_rules.specs.Settings.{behind_last, key_of, counts, counts_by, emptied_by, gives, given, resets, counted, rule_at, firsts, values_of, keys_of, settings_of}
+use Rattle.std.specs.List.{list_any}
+use Rattle.setting_rules.specs.Prelude.{Assignment}
+use Rattle.setting_rules.specs.{declared.keys.SettingKey.SettingKey, declared.rules.KeyRule.KeyRule, declared.rules.KeyRule.TheVariants.Assertion, declared.rules.KeyRule.TheVariants.Condition, declared.rules.KeyRule.TheVariants.Dependency, declared.rules.KeyRule.TheVariants.Ignored, declared.rules.KeyRule.TheVariants.Plain, declared.rules.KeyRule.TheVariants.Switch, KeyLaws.same_key_is, Maps.same_key, Maps.SettingMap, Maps.texts_or_none, Maps.values_at, Rules.is_empty, Rules.rule_of, Rules.Text, Settings.counted, Settings.counts, Settings.counts_by, Settings.emptied_by, Settings.firsts, Settings.following_last, Settings.given, Settings.gives, Settings.key_of, Settings.keys_of, Settings.resets, Settings.rule_at, Settings.settings_of, Settings.values_of}
+use Rattle.std.proofs.Common.{find}
 
 module _ {X : Type 0} (p : X → Bool) where
-  -- where none passes all stands behind
-  pub behind_last-none : (xs : List X) → list_any p xs ≡ false → behind_last p xs ≡ xs
-  behind_last-none [] h = refl
-  behind_last-none (x ∷ xs) h = by (p x) (list_any p xs) h
+  -- if no element passes, all of the list remains
+  pub following_last-none : (xs : List X) → list_any p xs ≡ false → following_last p xs ≡ xs
+  following_last-none [] h = refl
+  following_last-none (x ∷ xs) h = by (p x) (list_any p xs) h
     where
-      by : (a b : Bool) → (a || b) ≡ false → cond b (behind_last p xs) (cond a xs (x ∷ xs)) ≡ x ∷ xs
+      by : (a b : Bool) → (a || b) ≡ false → cond b (following_last p xs) (cond a xs (x ∷ xs)) ≡ x ∷ xs
       by true b e = absurd (true≢false e)
       by false true e = absurd (true≢false e)
       by false false e = refl
 
-  -- of two lists the last of the second counts, if one of these passes
-  pub behind_last-append : (xs ys : List X) → behind_last p (xs ++ ys) ≡ cond (list_any p ys) (behind_last p ys) (behind_last p xs ++ ys)
-  behind_last-append [] ys = by (list_any p ys) refl
+  -- for two lists, the last match in the second counts, if there is one
+  pub following_last-append : (xs ys : List X) → following_last p (xs ++ ys) ≡ cond (list_any p ys) (following_last p ys) (following_last p xs ++ ys)
+  following_last-append [] ys = by (list_any p ys) refl
     where
-      by : (b : Bool) → list_any p ys ≡ b → behind_last p ys ≡ cond b (behind_last p ys) ys
+      by : (b : Bool) → list_any p ys ≡ b → following_last p ys ≡ cond b (following_last p ys) ys
       by true e = refl
-      by false e = behind_last-none ys e
-  behind_last-append (x ∷ xs) ys =
-      ap (λ b. cond b (behind_last p (xs ++ ys)) (cond (p x) (xs ++ ys) (x ∷ (xs ++ ys)))) (list_any-append p xs ys)
-      ∙ by (p x) (list_any p xs) (list_any p ys) (behind_last-append xs ys)
+      by false e = following_last-none ys e
+  following_last-append (x ∷ xs) ys =
+      ap (λ b. cond b (following_last p (xs ++ ys)) (cond (p x) (xs ++ ys) (x ∷ (xs ++ ys)))) (list_any-append p xs ys)
+      ∙ by (p x) (list_any p xs) (list_any p ys) (following_last-append xs ys)
     where
-      by : (a b c : Bool) → behind_last p (xs ++ ys) ≡ cond c (behind_last p ys) (behind_last p xs ++ ys)
-          → cond (b || c) (behind_last p (xs ++ ys)) (cond a (xs ++ ys) (x ∷ (xs ++ ys)))
-          ≡ cond c (behind_last p ys) (cond b (behind_last p xs) (cond a xs (x ∷ xs)) ++ ys)
+      by : (a b c : Bool) → following_last p (xs ++ ys) ≡ cond c (following_last p ys) (following_last p xs ++ ys)
+          → cond (b || c) (following_last p (xs ++ ys)) (cond a (xs ++ ys) (x ∷ (xs ++ ys)))
+          ≡ cond c (following_last p ys) (cond b (following_last p xs) (cond a xs (x ∷ xs)) ++ ys)
       by a true true h = h
       by a true false h = h
       by a false true h = h
       by true false false h = refl
       by false false false h = refl
 
-  -- one more at the end
-  pub behind_last-push : (xs : List X) (x : X) → behind_last p (xs ++ x ∷ []) ≡ cond (p x) [] (behind_last p xs ++ x ∷ [])
-  behind_last-push xs x = behind_last-append xs (x ∷ []) ∙ by (p x)
+  -- with one more element at the end
+  pub following_last-push : (xs : List X) (x : X) → following_last p (xs ++ x ∷ []) ≡ cond (p x) [] (following_last p xs ++ x ∷ [])
+  following_last-push xs x = following_last-append xs (x ∷ []) ∙ by (p x)
     where
-      by : (b : Bool) → cond (b || false) (cond b [] (x ∷ [])) (behind_last p xs ++ x ∷ []) ≡ cond b [] (behind_last p xs ++ x ∷ [])
+      by : (b : Bool) → cond (b || false) (cond b [] (x ∷ [])) (following_last p xs ++ x ∷ []) ≡ cond b [] (following_last p xs ++ x ∷ [])
       by true = refl
       by false = refl
 
-  -- where no element of a list passes a test nothing is left of it
+  -- if no element passes a test, filtering leaves nothing
   pub filter-none : (xs : List X) → list_any p xs ≡ false → filter p xs ≡ []
   filter-none [] h = refl
   filter-none (x ∷ xs) h = by (p x) h (filter-none xs)
@@ -63,21 +58,21 @@ module _ {X : Type 0} (p : X → Bool) where
       by true e more = absurd (true≢false e)
       by false e more = more e
 
-  -- the same of what stands behind the last that passes another test
-  pub filter-behind_last-none : (q : X → Bool) (xs : List X) → list_any p xs ≡ false → filter p (behind_last q xs) ≡ []
-  filter-behind_last-none q [] h = refl
-  filter-behind_last-none q (x ∷ xs) h = by (list_any q xs) (q x) (filter-behind_last-none q xs)
+  -- the same for the elements after the last one that passes another test
+  pub filter-following_last-none : (q : X → Bool) (xs : List X) → list_any p xs ≡ false → filter p (following_last q xs) ≡ []
+  filter-following_last-none q [] h = refl
+  filter-following_last-none q (x ∷ xs) h = by (list_any q xs) (q x) (filter-following_last-none q xs)
     where
       rest : (b : Bool) → (b || list_any p xs) ≡ false → list_any p xs ≡ false
       rest true e = absurd (true≢false e)
       rest false e = e
 
-      by : (b a : Bool) → (list_any p xs ≡ false → filter p (behind_last q xs) ≡ []) → filter p (cond b (behind_last q xs) (cond a xs (x ∷ xs))) ≡ []
+      by : (b a : Bool) → (list_any p xs ≡ false → filter p (following_last q xs) ≡ []) → filter p (cond b (following_last q xs) (cond a xs (x ∷ xs))) ≡ []
       by true a more = more (rest (p x) h)
       by false true more = filter-none xs (rest (p x) h)
       by false false more = filter-none (x ∷ xs) h
 
-  -- and of what stands behind a place
+  -- the same for the elements after an index
   pub filter-drop-none : (n : ℕ) (xs : List X) → list_any p xs ≡ false → filter p (drop n xs) ≡ []
   filter-drop-none zero xs h = filter-none xs h
   filter-drop-none (suc n) [] h = refl
@@ -96,9 +91,9 @@ KeepsAllValues = (k : SettingKey) (items : List Assignment) → list_any (resets
 
 pub keeps_all_values : KeepsAllValues
 unfolding values_of
-keeps_all_values k items h = ap (λ l. counted (rule_at k) (given k l)) (behind_last-none (resets k) items h)
+keeps_all_values k items h = ap (λ l. counted (rule_at k) (given k l)) (following_last-none (resets k) items h)
 
--- What stands before a reset of a key changes nothing of its values.
+-- Assignments before a reset of a key don't change its values.
 abbrev pub ResetsForget : Type 0
 ResetsForget = (k : SettingKey) (before after : List Assignment) (a : Assignment) → resets k a ≡ true → values_of k (before ++ a ∷ after) ≡ values_of k after
 
@@ -106,15 +101,15 @@ pub resets_forget : ResetsForget
 unfolding values_of
 resets_forget k before after a h =
     ap (λ l. counted (rule_at k) (given k l))
-    (behind_last-append (resets k) before (a ∷ after)
-    ∙ ap (λ b. cond (b || list_any (resets k) after) (cond (list_any (resets k) after) (behind_last (resets k) after) (cond b after (a ∷ after))) (behind_last (resets k) before ++ a ∷ after)) h
+    (following_last-append (resets k) before (a ∷ after)
+    ∙ ap (λ b. cond (b || list_any (resets k) after) (cond (list_any (resets k) after) (following_last (resets k) after) (cond b after (a ∷ after))) (following_last (resets k) before ++ a ∷ after)) h
     ∙ by (list_any (resets k) after) refl)
   where
-    by : (b : Bool) → list_any (resets k) after ≡ b → cond b (behind_last (resets k) after) after ≡ behind_last (resets k) after
+    by : (b : Bool) → list_any (resets k) after ≡ b → cond b (following_last (resets k) after) after ≡ following_last (resets k) after
     by true e = refl
-    by false e = sym (behind_last-none (resets k) after e)
+    by false e = sym (following_last-none (resets k) after e)
 
--- An assignment that gives a key no value and doesn't empty it changes nothing of its values.
+-- An assignment that neither gives a key a value nor empties it doesn't change its values.
 abbrev pub OthersChangeNothing : Type 0
 OthersChangeNothing = (k : SettingKey) (before after : List Assignment) (a : Assignment) → gives k a ≡ false → resets k a ≡ false → values_of k (before ++ a ∷ after) ≡ values_of k (before ++ after)
 
@@ -122,19 +117,19 @@ pub others_change_nothing : OthersChangeNothing
 unfolding values_of
 others_change_nothing k before after a none stays =
     ap (counted (rule_at k))
-    (ap (given k) (behind_last-append (resets k) before (a ∷ after))
-    ∙ ap (λ b. given k (cond (b || list_any (resets k) after) (cond (list_any (resets k) after) (behind_last (resets k) after) (cond b after (a ∷ after))) (behind_last (resets k) before ++ a ∷ after))) stays
+    (ap (given k) (following_last-append (resets k) before (a ∷ after))
+    ∙ ap (λ b. given k (cond (b || list_any (resets k) after) (cond (list_any (resets k) after) (following_last (resets k) after) (cond b after (a ∷ after))) (following_last (resets k) before ++ a ∷ after))) stays
     ∙ by (list_any (resets k) after)
-    ∙ ap (given k) (sym (behind_last-append (resets k) before after)))
+    ∙ ap (given k) (sym (following_last-append (resets k) before after)))
   where
     passed : given k (a ∷ after) ≡ given k after
     passed = ap (λ b. map (λ y. y.value) (cond b (a ∷ filter (gives k) after) (filter (gives k) after))) none
 
-    by : (b : Bool) → given k (cond b (cond b (behind_last (resets k) after) (a ∷ after)) (behind_last (resets k) before ++ a ∷ after)) ≡ given k (cond b (behind_last (resets k) after) (behind_last (resets k) before ++ after))
+    by : (b : Bool) → given k (cond b (cond b (following_last (resets k) after) (a ∷ after)) (following_last (resets k) before ++ a ∷ after)) ≡ given k (cond b (following_last (resets k) after) (following_last (resets k) before ++ after))
     by true = refl
-    by false = given-append k (behind_last (resets k) before) (a ∷ after) ∙ ap (λ l. given k (behind_last (resets k) before) ++ l) passed ∙ sym (given-append k (behind_last (resets k) before) after)
+    by false = given-append k (following_last (resets k) before) (a ∷ after) ∙ ap (λ l. given k (following_last (resets k) before) ++ l) passed ∙ sym (given-append k (following_last (resets k) before) after)
 
--- An assignment to another key changes nothing of a key's values, unless both keys are of one family.
+-- An assignment to another key doesn't change a key's values, unless both keys are in one family.
 abbrev pub OtherKeysChangeNothing : Type 0
 OtherKeysChangeNothing = (k : SettingKey) (before after : List Assignment) (a : Assignment) → same_key k (key_of a) ≡ false → emptied_by (rule_of a.section a.key) (rule_at k) false ≡ false → values_of k (before ++ a ∷ after) ≡ values_of k (before ++ after)
 
@@ -144,7 +139,7 @@ other_keys_change_nothing k before after a other apart =
     (ap (λ b. b && counts a && not (is_empty a.value)) other)
     (ap (λ b. is_empty a.value && emptied_by (rule_of a.section a.key) (rule_at k) b) other ∙ ap (λ b. is_empty a.value && b) apart ∙ and-false (is_empty a.value))
 
--- no assignment to a key that isn't entered gives it a value
+-- a key that isn't entered gets no value from any assignment
 none_given : (k : SettingKey) (l : List Assignment) → list_any (same_key k) (map key_of (filter counts l)) ≡ false → list_any (gives k) l ≡ false
 none_given k [] h = refl
 none_given k (y ∷ l) h = by (counts y) (same_key k (key_of y)) refl refl h (none_given k l)
@@ -176,7 +171,7 @@ any_firsts k (x ∷ ks) h = by (same_key k x) refl h (any_firsts k ks)
     by true e h more = ap (λ b. b || list_any (same_key k) (filter (λ y. not (same_key y x)) (firsts ks))) e
     by false e h more = ap (λ b. b || list_any (same_key k) (filter (λ y. not (same_key y x)) (firsts ks))) e ∙ left (firsts ks) e (more h)
 
--- The settings have at each key its values that count: none, where the key isn't entered.
+-- The settings have at each key its effective values; none if the key isn't entered.
 abbrev pub SettingsShowValues : Type 0
 SettingsShowValues = (k : SettingKey) (items : List Assignment) → values_at (settings_of items) k ≡ values_of k items
 
@@ -210,7 +205,7 @@ settings_show_values k items = by (list_any (same_key k) (keys_of items)) refl
 
     nothing : list_any (same_key k) (keys_of items) ≡ false → values_of k items ≡ []
     nothing h =
-        ap (λ l. counted (rule_at k) (map (λ y. y.value) l)) (filter-behind_last-none (gives k) (resets k) items (none_given k items (not_first (list_any (same_key k) (map key_of (filter counts items))) refl)))
+        ap (λ l. counted (rule_at k) (map (λ y. y.value) l)) (filter-following_last-none (gives k) (resets k) items (none_given k items (not_first (list_any (same_key k) (map key_of (filter counts items))) refl)))
         ∙ counted_none (rule_at k)
       where
         not_first : (b : Bool) → list_any (same_key k) (map key_of (filter counts items)) ≡ b → list_any (same_key k) (map key_of (filter counts items)) ≡ false
@@ -242,12 +237,12 @@ none_resets k (a ∷ items) h =
     (never_emptied (rule_of a.section a.key) (rule_at k) (same_key k (key_of a)) h)
     ∙ ap (λ b. b || list_any (resets k) items) (and-false (is_empty a.value)) ∙ none_resets k items h
 
--- and the settings have all that is given it
+-- and the settings have all values that the key is given
 pub settings_keep_all : (k : SettingKey) (items : List Assignment) → is_never_emptied (rule_at k) ≡ true
     → values_at (settings_of items) k ≡ counted (rule_at k) (given k items)
 settings_keep_all k items h = settings_show_values k items ∙ keeps_all_values k items (none_resets k items h)
 
--- An assignment that doesn't count changes nothing at all, as an empty one of a key that sets dependencies.
+-- An assignment that doesn't count changes nothing at all; an example is an empty one of a key that sets dependencies.
 abbrev pub PassedOverChangesNothing : Type 0
 PassedOverChangesNothing = (before after : List Assignment) (a : Assignment) → counts a ≡ false → settings_of (before ++ a ∷ after) ≡ settings_of (before ++ after)
 
@@ -258,25 +253,25 @@ passed_over_changes_nothing before after a h =
     (filter-append counts before (a ∷ after) ∙ ap (λ b. filter counts before ++ cond b (a ∷ filter counts after) (filter counts after)) h ∙ sym (filter-append counts before after))
     ∙ alike (firsts (map key_of (filter counts (before ++ after))))
   where
-    silent : (r : KeyRule) → counts_by r a.value ≡ false → (q : KeyRule) (b : Bool) → emptied_by r q b ≡ false
-    silent Ignored h q b = refl
-    silent Dependency h q b = refl
-    silent Switch h q b = refl
-    silent Condition h q b = absurd (true≢false h)
-    silent Assertion h q b = absurd (true≢false h)
-    silent Plain h q b = absurd (true≢false h)
+    undefined : (r : KeyRule) → counts_by r a.value ≡ false → (q : KeyRule) (b : Bool) → emptied_by r q b ≡ false
+    undefined Ignored h q b = refl
+    undefined Dependency h q b = refl
+    undefined Switch h q b = refl
+    undefined Condition h q b = absurd (true≢false h)
+    undefined Assertion h q b = absurd (true≢false h)
+    undefined Plain h q b = absurd (true≢false h)
 
     stays : (k : SettingKey) → values_of k (before ++ a ∷ after) ≡ values_of k (before ++ after)
     stays k =
         others_change_nothing k before after a
         (ap (λ b. same_key k (key_of a) && b && not (is_empty a.value)) h ∙ ap (λ b. b && not (is_empty a.value)) (and-false (same_key k (key_of a))))
-        (ap (λ b. is_empty a.value && b) (silent (rule_of a.section a.key) h (rule_at k) (same_key k (key_of a))) ∙ and-false (is_empty a.value))
+        (ap (λ b. is_empty a.value && b) (undefined (rule_of a.section a.key) h (rule_at k) (same_key k (key_of a))) ∙ and-false (is_empty a.value))
 
     alike : (ks : List SettingKey) → map {B = SettingKey × List Text} (λ k. (k, values_of k (before ++ a ∷ after))) ks ≡ map (λ k. (k, values_of k (before ++ after))) ks
     alike [] = refl
     alike (k ∷ ks) =
-        let behind : SettingMap = map (λ k. (k, values_of k (before ++ a ∷ after))) ks in
-        ap (λ v. (k, v) ∷ behind) (stays k) ∙ ap (λ l. (k, values_of k (before ++ after)) ∷ l) (alike ks)
+        let following : SettingMap = map (λ k. (k, values_of k (before ++ a ∷ after))) ks in
+        ap (λ v. (k, v) ∷ following) (stays k) ∙ ap (λ l. (k, values_of k (before ++ after)) ∷ l) (alike ks)
 
 -- An empty value of a key that sets dependencies changes nothing.
 abbrev pub EmptyDependenciesChangeNothing : Type 0

@@ -1,19 +1,11 @@
 -- The rows of a unit's settings: the values with the specifiers of its name expanded.
 -- Source: systemd.unit(5), "Specifiers".
-use Rattle.std.specs.Prelude.{Bool, if◌then◌else◌, is_none, List, [], map, filter}
-use Rattle.std.specs.List.{flat_map, filter_map}
-use Rattle.unit_name.specs.Names.{Name}
-use Rattle.unit_name.specs.Specifiers.{expand}
-use Rattle.setting_rules.specs.declared.keys.SettingKey.{SettingKey}
-use Rattle.setting_rules.specs.declared.notes.SettingNote.{SettingNote}
-use Rattle.setting_rules.specs.declared.notes.SettingNoteKind.TheVariants.{BadEscape}
-use Rattle.setting_rules.specs.declared.rows.Row.{Row}
-use Rattle.setting_rules.specs.declared.rules.KeyRule.TheVariants.{Dependency}
-use Rattle.setting_rules.specs.Maps.{SettingMap}
-use Rattle.setting_rules.specs.Rules.{Text, same_rule}
-use Rattle.setting_rules.specs.Settings.{rule_at, note_on}
+use Rattle.std.proofs.Common.{[], Bool, filter, if◌then◌else◌, is_none, List, map}
+use Rattle.std.specs.List.{filter_map, flat_map}
+use Rattle.setting_rules.specs.Prelude.{expand, Name}
+use Rattle.setting_rules.specs.{declared.keys.SettingKey.SettingKey, declared.notes.SettingNote.SettingNote, declared.notes.SettingNoteKind.TheVariants.BadEscape, declared.rows.Row.Row, declared.rules.KeyRule.TheVariants.Dependency, Maps.SettingMap, Rules.same_rule, Rules.Text, Settings.note_on, Settings.rule_at}
 
--- a key sets dependencies
+-- the key sets dependencies
 abbrev pub is_dependency : SettingKey → Bool
 is_dependency k = same_rule (rule_at k) Dependency
 
@@ -21,7 +13,7 @@ is_dependency k = same_rule (rule_at k) Dependency
 abbrev pub row : SettingKey → Text → Row
 row k value = record { section = k.section; key = k.key; value = value }
 
--- the rows of values of a key, without those that can't be expanded
+-- the rows of a key's values, without those that can't be expanded
 abbrev pub rows_at : Name → SettingKey → List Text → List Row
 rows_at unit k values = map (row k) (filter_map (λ value. expand value unit) values)
 

@@ -1,11 +1,11 @@
--- How the values of a key count, and what booleans say.
--- Source: systemd.unit(5), "[Unit] Section Options" and "Conditions and Asserts"; systemd.syntax(7), "Introduction", for booleans.
-use Rattle.std.specs.Prelude.{ℕ, Bool, true, false, ◌||◌, if◌then◌else◌, Option, Some, None, is_some, List, [], ◌∷◌, nat_eq, codes}
+-- How the values of a key are evaluated, and the texts of booleans.
+-- Source: systemd.unit(5), "[Unit] Section Options" and "Conditions and Asserts"; systemd.syntax(7), "Introduction",
+-- for booleans.
+use Rattle.std.proofs.Common.{[], ◌||◌, ◌∷◌, Bool, codes, false, if◌then◌else◌, is_some, List, None, Option, Some, true, ℕ}
 use Rattle.std.specs.List.{starts_with}
+use Rattle.std.specs.Prelude.{nat_eq}
 use Rattle.std.specs.Str.{bytes_eq, str_eq_ignore_ascii_case}
-use Rattle.setting_rules.specs.declared.rules.KeyRule.{KeyRule}
-use Rattle.setting_rules.specs.declared.rules.KeyRule.TheVariants.{Ignored, Dependency, Switch, Condition, Assertion, Plain}
-use Rattle.setting_rules.specs.Kinds.{settable_kind}
+use Rattle.setting_rules.specs.{declared.rules.KeyRule.KeyRule, declared.rules.KeyRule.TheVariants.Assertion, declared.rules.KeyRule.TheVariants.Condition, declared.rules.KeyRule.TheVariants.Dependency, declared.rules.KeyRule.TheVariants.Ignored, declared.rules.KeyRule.TheVariants.Plain, declared.rules.KeyRule.TheVariants.Switch, Kinds.settable_kind}
 
 abbrev pub Text : Type 0
 Text = List ℕ
@@ -20,11 +20,11 @@ spells_yes text = str_eq_ignore_ascii_case text (codes "1") || str_eq_ignore_asc
 abbrev pub spells_no : Text → Bool
 spells_no text = str_eq_ignore_ascii_case text (codes "0") || str_eq_ignore_ascii_case text (codes "no") || str_eq_ignore_ascii_case text (codes "false") || str_eq_ignore_ascii_case text (codes "off")
 
--- What a text says as a boolean, in any case of letters. None of other texts, also of the empty one.
+-- The boolean that a text spells, ignoring case; `None` for other texts, also for the empty one.
 unfoldable pub boolean : Text → Option Bool
 boolean text = if spells_yes text then Some true else if spells_no text then Some false else None
 
--- how the values of a key of `[Unit]` count
+-- how the values of a key of `[Unit]` are evaluated
 abbrev pub unit_rule : Text → KeyRule
 unit_rule key =
     if is_some (settable_kind key) then Dependency
@@ -33,14 +33,14 @@ unit_rule key =
     else if starts_with nat_eq key (codes "Assert") then Assertion
     else Plain
 
--- How the values of a key count, by its section and its name.
+-- How the values of a key are evaluated, by its section and its name.
 unfoldable pub rule_of : Text → Text → KeyRule
 rule_of section key =
     if starts_with nat_eq section (codes "X-") || starts_with nat_eq key (codes "X-") then Ignored
     else if bytes_eq section (codes "Unit") then unit_rule key
     else Plain
 
--- the two rules are one
+-- the two rules are equal
 abbrev pub same_rule : KeyRule → KeyRule → Bool
 same_rule Ignored Ignored = true
 same_rule Dependency Dependency = true

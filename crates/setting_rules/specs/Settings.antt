@@ -1,26 +1,19 @@
--- The values that count, said of the whole list of a unit's assignments and of the last reset in it.
+-- The effective values, defined from the whole list of a unit's assignments and the last reset in it.
 -- Source: systemd.syntax(7), "Introduction", for empty values; systemd.unit(5), "Conditions and Asserts", for families.
-use Rattle.std.specs.Prelude.{◌-◌, Bool, true, false, ◌&&◌, not, if◌then◌else◌, is_some, is_none, List, [], ◌∷◌, map, filter, length, drop}
+use Rattle.std.proofs.Common.{[], ◌&&◌, ◌-◌, ◌∷◌, Bool, drop, false, filter, if◌then◌else◌, is_none, is_some, length, List, map, not, true}
 use Rattle.std.specs.List.{list_any}
-use Rattle.section_reader.specs.declared.assignments.Assignment.{Assignment}
-use Rattle.setting_rules.specs.declared.keys.SettingKey.{SettingKey}
-use Rattle.setting_rules.specs.declared.notes.SettingNote.{SettingNote}
-use Rattle.setting_rules.specs.declared.notes.SettingNoteKind.{SettingNoteKind}
-use Rattle.setting_rules.specs.declared.notes.SettingNoteKind.TheVariants.{BadBoolean}
-use Rattle.setting_rules.specs.declared.rules.KeyRule.{KeyRule}
-use Rattle.setting_rules.specs.declared.rules.KeyRule.TheVariants.{Ignored, Dependency, Switch, Condition, Assertion, Plain}
-use Rattle.setting_rules.specs.Maps.{SettingMap, same_key}
-use Rattle.setting_rules.specs.Rules.{Text, is_empty, boolean, rule_of}
+use Rattle.setting_rules.specs.Prelude.{Assignment}
+use Rattle.setting_rules.specs.{declared.keys.SettingKey.SettingKey, declared.notes.SettingNote.SettingNote, declared.notes.SettingNoteKind.SettingNoteKind, declared.notes.SettingNoteKind.TheVariants.BadBoolean, declared.rules.KeyRule.KeyRule, declared.rules.KeyRule.TheVariants.Assertion, declared.rules.KeyRule.TheVariants.Condition, declared.rules.KeyRule.TheVariants.Dependency, declared.rules.KeyRule.TheVariants.Ignored, declared.rules.KeyRule.TheVariants.Plain, declared.rules.KeyRule.TheVariants.Switch, Maps.same_key, Maps.SettingMap, Rules.boolean, Rules.is_empty, Rules.rule_of, Rules.Text}
 
 -- the key that an assignment sets
 abbrev pub key_of : Assignment → SettingKey
 key_of a = record { section = a.section; key = a.key }
 
--- how the values of a key count
+-- how the values of a key are evaluated
 abbrev pub rule_at : SettingKey → KeyRule
 rule_at k = rule_of k.section k.key
 
--- a value of a key with this rule counts: it isn't passed over, and isn't bad
+-- a value of a key with this rule counts: it isn't ignored or invalid
 abbrev pub counts_by : KeyRule → Text → Bool
 counts_by Ignored value = false
 counts_by Dependency value = not (is_empty value)
@@ -33,14 +26,14 @@ counts_by Plain value = true
 abbrev pub counts : Assignment → Bool
 counts a = counts_by (rule_of a.section a.key) a.value
 
--- an empty value of a key with the first rule empties a key with the second: any of the same family, or the key itself
+-- an empty value of a key with the first rule empties a key with the second: the key itself, or any of the same family
 abbrev pub emptied_by : KeyRule → KeyRule → Bool → Bool
 emptied_by Condition Condition itself = true
 emptied_by Assertion Assertion itself = true
 emptied_by Plain Plain itself = itself
 emptied_by rule other itself = false
 
--- an assignment empties a key: its value is empty, and such a value empties the key
+-- an assignment empties a key: its value is empty, and an empty value empties the key
 abbrev pub resets : SettingKey → Assignment → Bool
 resets k a = is_empty a.value && emptied_by (rule_of a.section a.key) (rule_at k) (same_key k (key_of a))
 
@@ -52,16 +45,16 @@ gives k a = same_key k (key_of a) && counts a && not (is_empty a.value)
 abbrev pub given : SettingKey → List Assignment → List Text
 given k items = map (λ a. a.value) (filter (gives k) items)
 
--- what stands behind the last of a list that passes a test, or all where none does
-abbrev pub behind_last : {X : Type 0} → (X → Bool) → List X → List X
-behind_last p [] = []
-behind_last p (x ∷ xs) = if list_any p xs then behind_last p xs else if p x then xs else x ∷ xs
+-- the elements after the last one that passes a test; all if none does
+abbrev pub following_last : {X : Type 0} → (X → Bool) → List X → List X
+following_last p [] = []
+following_last p (x ∷ xs) = if list_any p xs then following_last p xs else if p x then xs else x ∷ xs
 
--- the last of some values alone
+-- only the last of some values
 abbrev pub last_alone : List Text → List Text
 last_alone values = drop (length values - 1) values
 
--- of a switch's values the last counts, of any other key's each
+-- for a switch only the last value counts, for any other key all do
 abbrev pub counted : KeyRule → List Text → List Text
 counted Ignored values = values
 counted Dependency values = values
@@ -70,11 +63,11 @@ counted Condition values = values
 counted Assertion values = values
 counted Plain values = values
 
--- The values of a key that count: those that are given behind the last assignment that empties it, of a switch the last.
+-- The effective values of a key: those given after the last assignment that empties it; for a switch the last one.
 unfoldable pub values_of : SettingKey → List Assignment → List Text
-values_of k items = counted (rule_at k) (given k (behind_last (resets k) items))
+values_of k items = counted (rule_at k) (given k (following_last (resets k) items))
 
--- each key of a list at its first place
+-- each key of a list, at its first occurrence
 abbrev pub firsts : List SettingKey → List SettingKey
 firsts [] = []
 firsts (k ∷ ks) = k ∷ filter (λ q. not (same_key q k)) (firsts ks)
@@ -83,11 +76,11 @@ firsts (k ∷ ks) = k ∷ filter (λ q. not (same_key q k)) (firsts ks)
 unfoldable pub keys_of : List Assignment → List SettingKey
 keys_of items = firsts (map key_of (filter counts items))
 
--- What the assignments of a unit come to: each key that is entered, with its values that count.
+-- The effective settings: each key that is entered, with its effective values.
 unfoldable pub settings_of : List Assignment → SettingMap
 settings_of items = map (λ k. (k, values_of k items)) (keys_of items)
 
--- a value of a key with this rule is to be a boolean and is none
+-- a value of a key with this rule should be a boolean and isn't
 abbrev pub is_bad_by : KeyRule → Text → Bool
 is_bad_by Switch value = is_none (boolean value)
 is_bad_by rule value = false
@@ -99,6 +92,6 @@ is_bad a = is_bad_by (rule_of a.section a.key) a.value
 abbrev pub note_on : SettingKey → SettingNoteKind → SettingNote
 note_on k kind = record { section = k.section; key = k.key; kind = kind }
 
--- The notes on values that are to be booleans and are none, in the order of the assignments.
+-- The notes on values that should be booleans and aren't, in the order of the assignments.
 unfoldable pub boolean_notes : List Assignment → List SettingNote
 boolean_notes items = map (λ a. note_on (key_of a) BadBoolean) (filter is_bad items)

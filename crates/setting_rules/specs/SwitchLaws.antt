@@ -1,24 +1,16 @@
 -- Which boolean decides whether a unit refuses a manual start.
 -- Source: systemd.unit(5), "[Unit] Section Options".
-use Rattle.std.proofs.Common.{◌≡◌, Bool, true, false, cond, ◌&&◌, ◌||◌, not, Some, None, is_some, unwrap_or, List, [], ◌∷◌, ◌++◌, map, filter, refl, ap, sym, ◌∙◌}
-use Rattle.std.specs.List.{All, list_any}
+use Rattle.std.proofs.Common.{[], ◌&&◌, ◌++◌, ◌||◌, ◌∙◌, ◌∷◌, ◌≡◌, All, ap, Bool, cond, false, filter, is_some, List, map, None, not, refl, Some, sym, true, unwrap_or}
 use Rattle.std.proofs.lemmas.List.Elements.{All-head, All-tail}
-use Rattle.section_reader.specs.declared.assignments.Assignment.{Assignment}
-use Rattle.setting_rules.specs.declared.rules.KeyRule.TheVariants.{Switch}
-use Rattle.setting_rules.specs.Kinds.{settable_kind}
-use Rattle.setting_rules.specs.Rules.{Text, is_empty, boolean, rule_of}
-use Rattle.setting_rules.specs.Maps.{same_key, values_at}
-use Rattle.setting_rules.specs.KeyLaws.{same_key_is, same_key_itself}
-use Rattle.setting_rules.specs.Settings.{key_of, rule_at, counts, counts_by, counted, last_alone, gives, given, settings_of}
-use Rattle.setting_rules.specs.Switches.{manual_start_key, says_yes, last_value, refuses}
-use Rattle.setting_rules.specs.ResetLaws.{filter-none, given-append, is_never_emptied, settings_keep_all}
-use Rattle.setting_rules.specs.JoinLaws.{last_behind}
+use Rattle.std.specs.List.{list_any}
+use Rattle.setting_rules.specs.Prelude.{Assignment}
+use Rattle.setting_rules.specs.{declared.rules.KeyRule.TheVariants.Switch, JoinLaws.last_following, KeyLaws.same_key_is, KeyLaws.same_key_itself, Kinds.settable_kind, Maps.same_key, Maps.values_at, ResetLaws.filter-none, ResetLaws.given-append, ResetLaws.is_never_emptied, ResetLaws.settings_keep_all, Rules.boolean, Rules.is_empty, Rules.rule_of, Rules.Text, Settings.counted, Settings.counts, Settings.counts_by, Settings.given, Settings.gives, Settings.key_of, Settings.last_alone, Settings.rule_at, Settings.settings_of, Switches.last_value, Switches.manual_start_key, Switches.refuses, Switches.says_yes}
 
--- an assignment gives the switch no good boolean
+-- an assignment doesn't give the switch a valid boolean
 abbrev pub GivesNoBoolean : Assignment → Type 0
 GivesNoBoolean a = key_of a ≡ manual_start_key → boolean a.value ≡ None
 
--- A good boolean with no good one behind it is the switch's only value.
+-- A valid boolean is the switch's only value if no valid one follows.
 abbrev pub LastBooleanStays : Type 0
 LastBooleanStays = (before after : List Assignment) (a : Assignment) (says : Bool) →
     key_of a ≡ manual_start_key → boolean a.value ≡ Some says → All GivesNoBoolean after → values_at (settings_of (before ++ a ∷ after)) manual_start_key ≡ a.value ∷ []
@@ -28,7 +20,7 @@ abbrev pub LastBooleanDecides : Type 0
 LastBooleanDecides = (before after : List Assignment) (a : Assignment) (says : Bool) →
     key_of a ≡ manual_start_key → boolean a.value ≡ Some says → All GivesNoBoolean after → refuses (settings_of (before ++ a ∷ after)) ≡ says
 
--- Without a good boolean a unit doesn't refuse.
+-- Without a valid boolean a unit doesn't refuse.
 abbrev pub NothingRefusedUnsaid : Type 0
 NothingRefusedUnsaid = (items : List Assignment) → All GivesNoBoolean items → refuses (settings_of items) ≡ false
 
@@ -36,13 +28,13 @@ switch_rule : rule_at manual_start_key ≡ Switch
 unfolding rule_of settable_kind
 switch_rule = refl
 
--- nothing empties the switch, so its value is the last that is given
+-- nothing empties the switch, so its value is the last one given
 switch_values : (items : List Assignment) → values_at (settings_of items) manual_start_key ≡ last_alone (given manual_start_key items)
 switch_values items =
     settings_keep_all manual_start_key items (ap is_never_emptied switch_rule)
     ∙ ap (λ r. counted r (given manual_start_key items)) switch_rule
 
--- whether an assignment to the switch counts
+-- an assignment to the switch counts exactly if its value is a valid boolean
 counts_where_good : (a : Assignment) → key_of a ≡ manual_start_key → counts a ≡ is_some (boolean a.value)
 counts_where_good a e = ap (λ k. counts_by (rule_at k) a.value) e ∙ ap (λ r. counts_by r a.value) switch_rule
 
@@ -61,7 +53,7 @@ none_given (a ∷ items) h = by (same_key manual_start_key (key_of a)) refl (non
 nothing_given : (items : List Assignment) → All GivesNoBoolean items → given manual_start_key items ≡ []
 nothing_given items h = ap (map (λ a. a.value)) (filter-none (gives manual_start_key) items (none_given items h))
 
--- a good boolean isn't the empty text
+-- a valid boolean isn't the empty text
 not_empty : (value : Text) (says : Bool) → boolean value ≡ Some says → is_empty value ≡ false
 unfolding boolean
 not_empty [] says h = cc
@@ -69,7 +61,7 @@ not_empty (b ∷ bs) says h = refl
 
 pub last_boolean_stays : LastBooleanStays
 last_boolean_stays before after a says of_switch good none =
-    switch_values (before ++ a ∷ after) ∙ ap last_alone values ∙ last_behind (given manual_start_key before) a.value []
+    switch_values (before ++ a ∷ after) ∙ ap last_alone values ∙ last_following (given manual_start_key before) a.value []
   where
     gives_it : gives manual_start_key a ≡ true
     gives_it =

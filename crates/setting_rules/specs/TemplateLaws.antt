@@ -1,28 +1,24 @@
 -- What a unit means by a template that it names.
 -- Source: systemd.unit(5), "Description"; that a unit without an instance gives its prefix is this project's own.
-use Rattle.std.proofs.Common.{◌≡◌, ◌≢◌, ◌<◌, ◌≤◌, Bool, true, false, cond, leb, Some, None, length, refl, ap, ◌∙◌, le-leb, arith}
-use Rattle.std.proofs.lemmas.Bool.{and_parts, not-true, leb-true}
-use Rattle.unit_name.specs.declared.names.Shape.{Shape}
-use Rattle.unit_name.specs.declared.names.Shape.TheVariants.{Plain, Template, Instance}
-use Rattle.unit_name.specs.Names.{Name, IsName, is_empty, prefix, instance, suffix, shape}
-use Rattle.unit_name.specs.Forms.{instance_name, if_short, is_instance, instance_at}
-use Rattle.unit_name.specs.NameLaws.{fits, parts_of_names_fit, prefix_is_instance, instance_is_instance}
-use Rattle.setting_rules.specs.Words.{argument, named_at, for_unit}
+use Rattle.std.proofs.Common.{◌<◌, ◌∙◌, ◌≡◌, ◌≢◌, ◌≤◌, ap, arith, Bool, cond, false, le-leb, leb, length, None, refl, Some, true}
+use Rattle.std.proofs.lemmas.Bool.{and_parts, leb-true, not-true}
+use Rattle.setting_rules.specs.Prelude.{fits, if_short, Instance, instance, instance_at, instance_is_instance, instance_name, is_empty, is_instance, IsName, Name, parts_of_names_fit, Plain, prefix, prefix_is_instance, Shape, shape, suffix, Template}
+use Rattle.setting_rules.specs.Words.{argument, for_unit, named_at}
 
--- a unit means by a template the name with this instance, and none where that has more than 255 bytes
+-- a template that the unit names means its instance with this i; none if that name has more than 255 bytes
 pub record Takes (unit template i : Name) : Type 0 where
   pub short : length (instance_name (prefix template) i (suffix template)) ≤ 255 → for_unit unit template ≡ Some (instance_name (prefix template) i (suffix template))
   pub long : 255 < length (instance_name (prefix template) i (suffix template)) → for_unit unit template ≡ None
 
--- From an instance a template takes its instance.
+-- From an instance a template gets the instance.
 abbrev pub InstancesAreTaken : Type 0
 InstancesAreTaken = (unit template : Name) → IsName unit → shape unit ≡ Instance → shape template ≡ Template → Takes unit template (instance unit)
 
--- From any other unit a template takes its prefix.
+-- From any other unit a template gets the prefix.
 abbrev pub PrefixesAreTaken : Type 0
 PrefixesAreTaken = (unit template : Name) → IsName unit → shape unit ≢ Instance → shape template ≡ Template → Takes unit template (prefix unit)
 
--- A name that is no template stays.
+-- A name that isn't a template stays unchanged.
 abbrev pub OtherNamesStay : Type 0
 OtherNamesStay = (unit name : Name) → shape name ≢ Template → for_unit unit name ≡ Some name
 

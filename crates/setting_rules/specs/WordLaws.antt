@@ -1,15 +1,10 @@
--- What words and kinds are.
-use Rattle.std.proofs.Common.{◌≡◌, false, Some, None, refl, ap, if◌then◌else◌}
+-- Laws of words and kinds.
+use Rattle.std.proofs.Common.{◌≡◌, ap, false, if◌then◌else◌, None, refl, Some}
 use Rattle.std.specs.List.{list_any}
-use Rattle.unit_name.specs.Names.{Name}
-use Rattle.unit_name.specs.SpecifierLaws.{is_percent, plain_texts_stay}
-use Rattle.setting_rules.specs.declared.kinds.DepKind.{DepKind}
-use Rattle.setting_rules.specs.declared.kinds.DepKind.TheVariants.{Before, After, Wants, WantedBy, Requires, RequiredBy, Requisite, RequisiteOf, BindsTo, BoundBy, PartOf, ConsistsOf, Conflicts, ConflictedBy, OnFailure, OnFailureOf, PropagatesReloadTo, ReloadPropagatedFrom}
-use Rattle.setting_rules.specs.Kinds.{inverse, is_settable, word, settable_kind}
-use Rattle.setting_rules.specs.Rules.{Text}
-use Rattle.setting_rules.specs.Dependencies.{named_by, named_by_text}
+use Rattle.setting_rules.specs.Prelude.{is_percent, Name, plain_texts_stay}
+use Rattle.setting_rules.specs.{declared.kinds.DepKind.DepKind, declared.kinds.DepKind.TheVariants.After, declared.kinds.DepKind.TheVariants.Before, declared.kinds.DepKind.TheVariants.BindsTo, declared.kinds.DepKind.TheVariants.BoundBy, declared.kinds.DepKind.TheVariants.ConflictedBy, declared.kinds.DepKind.TheVariants.Conflicts, declared.kinds.DepKind.TheVariants.ConsistsOf, declared.kinds.DepKind.TheVariants.OnFailure, declared.kinds.DepKind.TheVariants.OnFailureOf, declared.kinds.DepKind.TheVariants.PartOf, declared.kinds.DepKind.TheVariants.PropagatesReloadTo, declared.kinds.DepKind.TheVariants.ReloadPropagatedFrom, declared.kinds.DepKind.TheVariants.RequiredBy, declared.kinds.DepKind.TheVariants.Requires, declared.kinds.DepKind.TheVariants.Requisite, declared.kinds.DepKind.TheVariants.RequisiteOf, declared.kinds.DepKind.TheVariants.WantedBy, declared.kinds.DepKind.TheVariants.Wants, Dependencies.named_by, Dependencies.named_by_text, Kinds.inverse, Kinds.is_settable, Kinds.settable_kind, Kinds.word, Rules.Text}
 
--- A word without a percent sign is read as it is.
+-- A word without a percent sign is read unchanged.
 abbrev pub PlainWordsStay : Type 0
 PlainWordsStay = (unit : Name) (w : Text) → list_any is_percent w ≡ false → named_by unit w ≡ named_by_text unit (Some w)
 
@@ -41,7 +36,7 @@ inverses_are_undone OnFailureOf = refl
 inverses_are_undone PropagatesReloadTo = refl
 inverses_are_undone ReloadPropagatedFrom = refl
 
--- A kind's word is the key that sets it, if a unit file may set the kind, and else sets no dependencies.
+-- The name of a kind is the key that sets it, if a unit file may set the kind; else it sets no dependencies.
 abbrev pub WordsSetKinds : Type 0
 WordsSetKinds = (kind : DepKind) → settable_kind (word kind) ≡ (if is_settable kind then Some kind else None)
 

@@ -1,8 +1,8 @@
-//! Booleans.
+//! Boolean values.
 ghost use Rattle.std.specs.{Prelude.{◌≡◌}, List.{list_any}, Str.{str_eq_ignore_ascii_case}};
 ghost use Rattle.setting_rules.specs.Rules.{boolean};
 
-/// What a text says as a boolean, in any case of letters (systemd.syntax(7), "Introduction").
+/// Parses a boolean, ignoring case (systemd.syntax(7), "Introduction").
 #[tactic(auto, unfolding(crate::specs::Rules::boolean))]
 pub(crate) fn boolean(text: &[u8]) -> Option<bool>
     ensures boolean { result ≡ boolean text.now }
@@ -16,7 +16,7 @@ pub(crate) fn boolean(text: &[u8]) -> Option<bool>
     }
 }
 
-// Whether a text is one of these words, in any case of letters.
+// Returns whether a text is one of these words, ignoring case.
 fn is_word_of(text: &[u8], words: &[&[u8]]) -> bool
     ensures word { result ≡ list_any (λ word. str_eq_ignore_ascii_case text.now word.now) words.now }
 {

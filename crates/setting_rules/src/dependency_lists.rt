@@ -1,4 +1,4 @@
-//! The dependencies of a unit, kind by kind.
+//! The dependencies of a unit, by kind.
 ghost use Rattle.std.specs.{Prelude.{◌≡◌, ◌++◌, ◌∷◌, [], IfOk, OnOk, map}, List.{flat_map}};
 ghost use Rattle.setting_rules.specs.{Dependencies.{key_for, in_byte_order, names_by, faults_by}, Settings.{note_on}, Words.{words_of}};
 
@@ -13,16 +13,16 @@ use unit_name::UnitName;
 /// The section whose keys set dependencies.
 pub(crate) const UNIT: &[u8] = b"Unit";
 
-/// The units that a unit depends on in one way.
+/// The units that a unit depends on, for one kind of dependency.
 #[derive(Debug, PartialEq, Eq, Drop)]
 pub struct DependencyList {
-    /// The way.
+    /// The kind of dependency.
     pub kind: DepKind,
-    /// The units' names in byte order, each once.
+    /// The names of the units in byte order, without duplicates.
     pub names: Items<UnitName>,
 }
 
-/// An equal list, whose names share their bytes.
+/// Copies share the bytes of the names.
 impl TryClone for DependencyList {
     fn try_clone(&self) -> Result<DependencyList, AllocError> {
         Ok(DependencyList {
@@ -35,14 +35,14 @@ impl TryClone for DependencyList {
 /// The units that a unit's settings name.
 #[derive(Debug, PartialEq, Eq, Drop)]
 pub struct Dependencies {
-    /// A list for each kind that a unit file may set, in the order of the kinds. It may be empty.
+    /// One list for each kind that a unit file may set, in the order of the kinds. A list may be empty.
     pub lists: Items<DependencyList>,
     /// What is wrong with words, in the order of the kinds and then of the words.
     pub notes: Items<SettingNote>,
 }
 
 impl Dependencies {
-    /// No lists, with room for so many. It fails for want of memory alone.
+    /// Returns no lists, with capacity for `lists`. Fails only if memory runs out.
     pub(crate) fn with_room(alloc: Global, lists: usize) -> Result<Dependencies, AllocError>
         ensures lists { IfOk result (λ all. all.lists ≡ []) }
         ensures notes { IfOk result (λ all. all.notes ≡ []) }
@@ -54,7 +54,7 @@ impl Dependencies {
         })
     }
 
-    /// Adds the list of a kind, whose key has these values. It fails for want of memory alone.
+    /// Adds the list of a kind, given the values of its key. Fails only if memory runs out.
     pub(crate) fn add_kind(
         &mut self,
         alloc: Global,
@@ -83,7 +83,7 @@ impl Dependencies {
         })
     }
 
-    // Adds the names that words name, and notes on those that name none.
+    // Adds the names that words give, and a note on each word that gives none.
     fn add_words(
         &mut self,
         alloc: Global,
@@ -103,7 +103,7 @@ impl Dependencies {
         Ok(())
     }
 
-    // Adds the name that a word names, or a note on it.
+    // Adds the name that a word gives, or a note on it.
     fn add_word(
         &mut self,
         alloc: Global,
@@ -142,7 +142,7 @@ impl Dependencies {
     }
 }
 
-/// Names in byte order, each once. It takes no memory; O(n log n) in the names.
+/// Sorts names in byte order and removes duplicates. O(n log n). Allocates nothing.
 pub fn in_byte_order(mut names: Vec<UnitName>) -> Items<UnitName>
     ensures names { result ≡ in_byte_order names.items }
 {

@@ -1,4 +1,4 @@
-//! The values that count, with specifiers expanded.
+//! The effective values, with specifiers expanded.
 ghost use Rattle.std.specs.Prelude.{◌≡◌, IfOk};
 ghost use Rattle.unit_name.specs.Specifiers.{expand};
 ghost use Rattle.setting_rules.specs.Rows.{rows_of, escape_notes};
@@ -9,11 +9,11 @@ use plain_values::Bytes;
 use std::alloc::{AllocError, Global};
 use unit_name::{ExpandFault, UnitName, expand as expand_bytes};
 
-/// The values that count of the keys that set no dependencies, with the specifiers of the unit's name expanded
-/// (systemd.unit(5), "Specifiers"). A value whose specifiers can't be expanded is left out and noted. It refuses for want of
-/// memory alone.
+/// Returns the effective values of the keys that set no dependencies, with the specifiers of the unit's name expanded
+/// (systemd.unit(5), "Specifiers"). A value whose specifiers can't be expanded is left out and noted. Fails only if
+/// memory runs out.
 ///
-/// The time grows as the bytes of the values and of what they expand to. A value without a percent sign is not copied.
+/// Linear in the bytes of the values and of their expansions. A value without a percent sign isn't copied.
 pub fn values(alloc: Global, settings: &Settings, unit: &UnitName) -> Result<Values, AllocError>
     ensures rows { IfOk result (λ values. values.rows ≡ rows_of settings.now.map unit.now) }
     ensures notes { IfOk result (λ values. values.notes ≡ escape_notes settings.now.map unit.now) }
@@ -26,7 +26,8 @@ pub fn values(alloc: Global, settings: &Settings, unit: &UnitName) -> Result<Val
     Ok(values)
 }
 
-/// A text with the specifiers of a unit's name expanded. None where it can't be. A text without a percent sign is not copied.
+/// Expands the specifiers of a unit's name in a text; `None` if they can't be. A text without a percent sign isn't
+/// copied.
 pub(crate) fn expanded(
     alloc: Global,
     text: &Bytes,

@@ -6,7 +6,8 @@ use plain_values::Bytes;
 use section_reader::Assignment;
 use std::alloc::AllocError;
 
-/// A key of a section, whose values are kept together. The case of letters matters (systemd.syntax(7), "Introduction").
+/// A key in a section. Its values are collected from all assignments to it. Case matters (systemd.syntax(7),
+/// "Introduction").
 #[derive(Debug, PartialEq, Eq, Hash, Drop)]
 pub struct SettingKey {
     /// The name in the section's header.
@@ -18,7 +19,7 @@ pub struct SettingKey {
 impl SettingKey {
     ghost use Rattle.setting_rules.specs.{Settings.{key_of}, Rows.{is_dependency}, Maps.{same_key}};
 
-    /// The key that an assignment sets, with the same bytes. It fails for want of memory alone.
+    /// Returns the key that an assignment sets, with shared bytes. Fails only if memory runs out.
     pub(crate) fn of(assignment: &Assignment) -> Result<SettingKey, AllocError>
         ensures key { IfOk result (λ key. key ≡ key_of assignment.now) }
     {
@@ -28,21 +29,21 @@ impl SettingKey {
         })
     }
 
-    /// Whether the key sets dependencies. It takes no memory.
+    /// Returns whether the key sets dependencies. Allocates nothing.
     pub(crate) fn sets_dependencies(&self) -> bool
         ensures test { result ≡ is_dependency self.now }
     {
         KeyRule::of(self.section.as_slice(), self.key.as_slice()) == KeyRule::Dependency
     }
 
-    /// Whether this is the key with this name of this section. It takes no memory.
+    /// Returns whether this is the key with this name in this section. Allocates nothing.
     pub(crate) fn is(&self, section: &[u8], key: &[u8]) -> bool
         ensures test { result ≡ same_key (record { section = section.now; key = key.now }) self.now }
     {
         key == self.key.as_slice() && section == self.section.as_slice()
     }
 
-    /// The same key again, with the same bytes. It fails for want of memory alone.
+    /// Returns an equal key that shares the bytes. Fails only if memory runs out.
     pub fn try_clone(&self) -> Result<SettingKey, AllocError>
         ensures copy { IfOk result (λ copy. copy ≡ self.now) }
     {

@@ -3,8 +3,8 @@ ghost use Rattle.std.specs.{Prelude.{◌≡◌, IsTrue}, List.{slice_index_or}};
 ghost use Rattle.setting_rules.specs.declared.kinds.DepKind.TheVariants.{Before};
 ghost use Rattle.setting_rules.specs.{Kinds.{kinds, settable, is_settable, inverse, word, settable_kind}, Places.{place}};
 
-/// How one unit depends on another (systemd.unit(5), "Mapping of unit properties to their inverses"). Each kind stands
-/// before its inverse, which says the same of the two units the other way round.
+/// How one unit depends on another (systemd.unit(5), "Mapping of unit properties to their inverses"). The kinds come in
+/// pairs of a kind and its inverse, which states the same relation from the other unit.
 #[derive(Clone, Copy, Debug, PartialEq, Eq, PartialOrd, Ord)]
 pub enum DepKind {
     Before,
@@ -27,7 +27,7 @@ pub enum DepKind {
     ReloadPropagatedFrom,
 }
 
-/// All kinds, in order.
+// All kinds, in order.
 const KINDS: [DepKind; 18] = [
     DepKind::Before,
     DepKind::After,
@@ -49,7 +49,7 @@ const KINDS: [DepKind; 18] = [
     DepKind::ReloadPropagatedFrom,
 ];
 
-/// The kinds that a unit file may set, in order.
+// The kinds that a unit file may set, in order.
 const SETTABLE: [DepKind; 11] = [
     DepKind::Before,
     DepKind::After,
@@ -65,21 +65,22 @@ const SETTABLE: [DepKind; 11] = [
 ];
 
 impl DepKind {
-    /// All kinds, each before its inverse. It takes no memory.
+    /// Returns all kinds, pair by pair: a kind and then its inverse. Allocates nothing.
     pub fn all() -> &'static [DepKind]
         ensures kinds { result.now ≡ kinds }
     {
         &KINDS
     }
 
-    /// The kinds that a key of `[Unit]` sets, in the order of all. It takes no memory.
+    /// Returns the kinds that a key of `[Unit]` sets, in the order of all kinds. Allocates nothing.
     pub fn settable() -> &'static [DepKind]
         ensures kinds { result.now ≡ settable }
     {
         &SETTABLE
     }
 
-    /// Its place among the kinds that a key of `[Unit]` sets; where none sets it, how many those are. It takes no memory.
+    /// Returns the index of the kind among those that a key of `[Unit]` sets; the number of those if no key sets it.
+    /// Allocates nothing.
     pub fn place(self) -> usize
         ensures place { result ≡ place self }
         ensures kind { IsTrue (is_settable self) → slice_index_or settable result Before ≡ self }
@@ -100,7 +101,7 @@ impl DepKind {
         }
     }
 
-    /// The kind that says the same from the other unit.
+    /// Returns the kind that states the same relation from the other unit.
     pub fn inverse(self) -> DepKind
         ensures inverse { result ≡ inverse self }
     {
@@ -126,7 +127,7 @@ impl DepKind {
         }
     }
 
-    /// The word of the kind, as files and answers have it: `Before`, `After` and so on.
+    /// Returns the name of the kind, as in unit files and answers: `Before`, `After` and so on.
     pub fn word(self) -> &'static str
         ensures word { result.now ≡ word self }
     {
@@ -152,7 +153,7 @@ impl DepKind {
         }
     }
 
-    /// The kind that a key of `[Unit]` with this name sets. It takes no memory.
+    /// Returns the kind that the key of `[Unit]` with this name sets. Allocates nothing.
     #[tactic(auto, unfolding(crate::specs::Kinds::settable_kind))]
     pub fn of_key(key: &[u8]) -> Option<DepKind>
         ensures kind { result ≡ settable_kind key.now }

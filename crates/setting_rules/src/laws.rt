@@ -1,14 +1,14 @@
-//! What is true of all assignments, names and kinds: laws, each the contract of a function that does nothing.
+//! Laws of assignments, names and kinds, for all of them. Each law is the contract of a function that does nothing.
 ghost use Rattle.setting_rules.specs.{EnteredLaws.{KeysJoin, OneKeyEnters}, FamilyLaws.{ConditionsEmptyAll, AssertionsEmptyAll}};
-ghost use Rattle.setting_rules.specs.{JoinLaws.{ListsJoin}, OrderLaws.{NamesRise, NamesStay}};
+ghost use Rattle.setting_rules.specs.{JoinLaws.{ListsJoin}, OrderLaws.{NamesAscend, NamesStay}};
 ghost use Rattle.setting_rules.specs.ResetLaws.{KeepsAllValues, ResetsForget, OtherKeysChangeNothing, PassedOverChangesNothing, EmptyDependenciesChangeNothing, SettingsShowValues};
 ghost use Rattle.setting_rules.specs.SwitchLaws.{LastBooleanStays, LastBooleanDecides, NothingRefusedUnsaid};
 ghost use Rattle.setting_rules.specs.TemplateLaws.{InstancesAreTaken, PrefixesAreTaken, OtherNamesStay};
 ghost use Rattle.setting_rules.specs.WordLaws.{PlainWordsStay, InversesAreUndone, WordsSetKinds};
 
-/// A key that no assignment empties keeps all its values; what stands before the last that empties it changes nothing of
-/// them; nor does another key, unless both are of one family; nor an assignment that doesn't count, as an empty one of a key
-/// that sets dependencies. The map has these values at each key.
+/// A key that no assignment empties keeps all its values. Assignments before the last one that empties a key don't
+/// change its values; nor do assignments to another key, unless both keys are in one family; nor assignments that don't
+/// count, such as an empty one of a key that sets dependencies. The map has exactly these values at each key.
 pub fn reset_laws()
     ensures kept { KeepsAllValues }
     ensures forgotten { ResetsForget }
@@ -18,50 +18,50 @@ pub fn reset_laws()
     ensures shown { SettingsShowValues }
 {}
 
-/// An empty condition leaves no condition a value, and an empty assertion no assertion, where none of its family stands
-/// behind it.
+/// An empty condition leaves all conditions without values, if no condition follows; the same holds for assertions.
 pub fn family_laws()
     ensures conditions { ConditionsEmptyAll }
     ensures assertions { AssertionsEmptyAll }
 {}
 
-/// The last good boolean is the only value of `RefuseManualStart`, and decides whether a manual start is refused. Without
-/// one it isn't.
+/// The last valid boolean is the only value of `RefuseManualStart`, and decides whether a manual start is refused.
+/// Without one it isn't refused.
 pub fn switch_laws()
     ensures alone { LastBooleanStays }
     ensures last { LastBooleanDecides }
     ensures unsaid { NothingRefusedUnsaid }
 {}
 
-/// The keys of two lists in a row are those of the first, then the new ones of the second. One assignment enters its key
-/// where it counts.
+/// The keys of two concatenated lists are those of the first, then the new ones of the second. One assignment enters
+/// its key if it counts.
 pub fn key_laws()
     ensures joined { KeysJoin }
     ensures one { OneKeyEnters }
 {}
 
-/// The values of several files are those of the last file that empties a key and of those behind it.
+/// The values of several files are those of the last file that empties a key and of the files after it.
 pub fn join_laws()
     ensures joined { ListsJoin }
 {}
 
-/// A word without a percent sign is read as it is. The names of a list of dependencies rise in byte order, and are just those
-/// that the words name.
+/// A word without a percent sign is read unchanged. The names of a dependency list are strictly ascending in byte
+/// order, and are exactly those that the words give.
 pub fn dependency_laws()
     ensures plain { PlainWordsStay }
-    ensures rise { NamesRise }
+    ensures ascend { NamesAscend }
     ensures stay { NamesStay }
 {}
 
-/// By a template a unit means the instance with its own instance, or with its prefix where it is none itself, and nothing
-/// where that has more than 255 bytes. Any other name stays.
+/// If a unit names a template, this means the template's instance with the unit's own instance, or with the unit's
+/// prefix if it isn't an instance; and nothing if that name has more than 255 bytes. Any other name stays unchanged.
 pub fn template_laws()
     ensures instances { InstancesAreTaken }
     ensures prefixes { PrefixesAreTaken }
     ensures others { OtherNamesStay }
 {}
 
-/// The inverse of a kind's inverse is the kind, and a kind's word is the key that sets it, where a unit file may set it.
+/// The inverse of a kind's inverse is the kind, and the name of a kind is the key that sets it, if a unit file may set
+/// it.
 pub fn kind_laws()
     ensures inverses { InversesAreUndone }
     ensures words { WordsSetKinds }

@@ -1,10 +1,16 @@
-//! What the assignments of a unit come to: the values that count, and the units that it depends on. An empty value
-//! empties a list, but not one of dependencies; the last good boolean counts; specifiers are expanded by the unit's
-//! name.
+//! Evaluation of a unit's assignments: the effective values of each key, and the units that it depends on. An empty
+//! value resets a list, except for dependencies; of booleans the last valid one counts; specifiers of the unit's name
+//! are expanded.
 //!
 //! Promise: units are exact.
 //!
 //! The rules are those of systemd.unit(5) and systemd.syntax(7).
+//!
+//! - `apply` evaluates assignments to `Settings`, a `SettingMap` from `SettingKey` to effective values.
+//! - `values` expands the specifiers in these values.
+//! - `dependencies` returns the named units for each `DepKind`; `for_unit` resolves a template that a unit names.
+//! - `refuses_manual_start` evaluates `RefuseManualStart`.
+//! - `SettingNote` and `SettingNoteKind` say what is wrong with a value.
 #![tactic(auto)]
 
 mod booleans;

@@ -1,4 +1,4 @@
-//! The values of each key, in the order of the keys.
+//! Maps from keys to their values.
 ghost use Rattle.std.specs.Prelude.{◌≡◌, ◌↔◌, ◌<◌, ◌++◌, [], ◌∷◌, IsTrue, IfOk, OnOk, Some, length, slice_get};
 ghost use Rattle.setting_rules.specs.Maps.{place_of, with_key, changed, values_at};
 
@@ -8,7 +8,7 @@ use plain_values::{Bytes, Items};
 use std::alloc::{AllocError, Global};
 use std::marker::Model;
 
-/// The values of each key, in the order in which the keys were entered: contracts see a list of pairs.
+/// A map from keys to their values, in the order in which the keys were entered. Contracts see a list of pairs.
 #[derive(Drop)]
 pub struct SettingMap {
     entries: IndexMap<SettingKey, Items<Bytes>>,
@@ -24,7 +24,7 @@ impl Model for SettingMap {
 }
 
 impl SettingMap {
-    /// No keys, with room for so many. It fails for want of memory alone.
+    /// Returns an empty map with capacity for `keys`. Fails only if memory runs out.
     pub(crate) fn with_room(alloc: Global, keys: usize) -> Result<SettingMap, AllocError>
         ensures empty { IfOk result (λ map. map ≡ []) }
     {
@@ -32,21 +32,21 @@ impl SettingMap {
         Ok(SettingMap { entries })
     }
 
-    /// How many keys there are. It takes no memory.
+    /// Returns the number of keys. Allocates nothing.
     pub fn len(&self) -> usize
         ensures len { result ≡ length self.now }
     {
         self.entries.len()
     }
 
-    /// Whether there are no keys. It takes no memory.
+    /// Returns whether there are no keys. Allocates nothing.
     pub fn is_empty(&self) -> bool
         ensures test { IsTrue result ↔ (self.now ≡ []) }
     {
         self.entries.is_empty()
     }
 
-    /// The key at a place and its values. It takes no memory.
+    /// Returns the key at an index and its values. Allocates nothing.
     pub fn entry(&self, place: usize) -> (&SettingKey, &[Bytes])
         requires within { place < length self.now }
         ensures entry { slice_get self.now place ≡ Some (result.0.now, result.1.now) }
@@ -55,7 +55,7 @@ impl SettingMap {
         (key, values.as_slice())
     }
 
-    /// The values of a key, none where it isn't there. It takes no memory, and walks over the keys.
+    /// Returns the values of a key, or an empty slice if it is absent. Linear in the keys. Allocates nothing.
     pub fn values_of(&self, section: &[u8], key: &[u8]) -> &[Bytes]
         ensures values { result.now ≡ values_at self.now (record { section = section.now; key = key.now }) }
     {
@@ -68,7 +68,7 @@ impl SettingMap {
         &[]
     }
 
-    // Where a key stands, which is entered with no values unless it is there.
+    // Returns the index of a key. An absent key is entered first, with no values.
     fn place(&mut self, alloc: Global, key: SettingKey) -> Result<usize, AllocError>
         ensures entered { OnOk result (self.new ≡ with_key self.old key) }
         ensures place { IfOk result (λ place. place ≡ place_of self.old key) }
@@ -83,7 +83,7 @@ impl SettingMap {
         }
     }
 
-    /// Enters a key, unless it is there. It fails for want of memory alone.
+    /// Enters a key, unless it is present. Fails only if memory runs out.
     pub(crate) fn enter(&mut self, alloc: Global, key: SettingKey) -> Result<(), AllocError>
         ensures map { OnOk result (self.new ≡ changed (λ values. values) self.old key) }
     {
@@ -91,7 +91,7 @@ impl SettingMap {
         Ok(())
     }
 
-    /// Puts a value behind those of a key, which is entered unless it is there. It fails for want of memory alone.
+    /// Appends a value to those of a key, which is entered if absent. Fails only if memory runs out.
     pub(crate) fn add(
         &mut self,
         alloc: Global,
@@ -105,7 +105,7 @@ impl SettingMap {
         Ok(())
     }
 
-    /// Takes the values of a key away, which is entered unless it is there. It fails for want of memory alone.
+    /// Removes the values of a key, which is entered if absent. Fails only if memory runs out.
     pub(crate) fn clear(&mut self, alloc: Global, key: SettingKey) -> Result<(), AllocError>
         ensures map { OnOk result (self.new ≡ changed (λ _. []) self.old key) }
     {
@@ -114,7 +114,7 @@ impl SettingMap {
         Ok(())
     }
 
-    /// Gives a key this value alone; it is entered unless it is there. It fails for want of memory alone.
+    /// Replaces the values of a key by this one; the key is entered if absent. Fails only if memory runs out.
     pub(crate) fn replace(
         &mut self,
         alloc: Global,

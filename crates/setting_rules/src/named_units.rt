@@ -8,14 +8,14 @@ use crate::settings::Settings;
 use std::alloc::{AllocError, Global};
 use unit_name::UnitName;
 
-/// The units that a unit's settings name (systemd.unit(5), "[Unit] Section Options").
+/// Returns the units that a unit's settings name (systemd.unit(5), "[Unit] Section Options").
 ///
-/// The values of each key that sets dependencies are split at whitespace, and each word is expanded and then read as a name;
-/// a template takes the unit's instance, or else its prefix. A word that can't be expanded, or is no name then, is noted. It
-/// refuses for want of memory alone.
+/// The values of each key that sets dependencies are split at whitespace; each word is expanded and then read as a
+/// name, where a template gets the unit's instance, or else its prefix. A word that can't be expanded, or isn't a name
+/// then, is noted. Fails only if memory runs out.
 ///
-/// For each kind a walk over the keys; then the time grows as the bytes of the values and of what they expand to, and as
-/// O(n log n) in the names of a kind.
+/// Walks over the keys once for each kind; then linear in the bytes of the values and of their expansions, and O(n log
+/// n) in the names of a kind.
 pub fn dependencies(
     alloc: Global,
     settings: &Settings,

@@ -1,13 +1,13 @@
-//! The unit that a unit means by a name.
+//! Resolving the names that a unit gives.
 ghost use Rattle.std.specs.Prelude.{◌≡◌, IfOk};
 ghost use Rattle.setting_rules.specs.Words.{argument, for_unit};
 
 use std::alloc::AllocError;
 use unit_name::{Shape, UnitName};
 
-/// The unit that this unit means by a name: a template takes the unit's instance, or else its prefix, and any other name
-/// stays (systemd.unit(5), "Description"). None where the name would have more than 255 bytes. It refuses for want of
-/// memory alone.
+/// Returns the unit that `unit` means by a name: a template gets the unit's instance, or else its prefix; any other
+/// name stays unchanged (systemd.unit(5), "Description"). `None` if the name would have more than 255 bytes. Fails only
+/// if memory runs out.
 pub fn for_unit(unit: &UnitName, name: UnitName) -> Result<Option<UnitName>, AllocError>
     ensures named { IfOk result (λ named. named ≡ for_unit unit.now name) }
 {
@@ -17,7 +17,7 @@ pub fn for_unit(unit: &UnitName, name: UnitName) -> Result<Option<UnitName>, All
     }
 }
 
-// What a template takes as its instance.
+// Returns the instance that a template gets.
 fn argument(unit: &UnitName) -> &[u8]
     ensures argument { result.now ≡ argument unit.now }
 {

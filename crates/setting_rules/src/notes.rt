@@ -7,19 +7,19 @@ use plain_values::{Bytes, TryClone};
 use std::alloc::AllocError;
 use std::fmt;
 
-/// Why a value, or a word of one, counts for nothing.
+/// Why a value, or a word of one, doesn't count.
 #[derive(Clone, Copy, Debug, PartialEq, Eq)]
 pub enum SettingNoteKind {
-    /// K4: it is to be a boolean and is none.
+    /// K4: it should be a boolean and isn't.
     BadBoolean,
-    /// K5: one of its specifiers stands for a part of the unit's name that is no escaped text.
+    /// K5: one of its specifiers needs a part of the unit's name that isn't a valid escaped text.
     BadEscape,
-    /// K6: it is to be a unit's name and is none, or would be one of more than 255 bytes.
+    /// K6: it should be a unit's name and isn't, or the name would have more than 255 bytes.
     BadName,
 }
 
 impl SettingNoteKind {
-    /// The code alone: `K4`, `K5` or `K6`.
+    /// Returns the code alone: `K4`, `K5` or `K6`.
     pub fn code(self) -> &'static str
         ensures code { result.now ≡ code_of self }
     {
@@ -31,7 +31,7 @@ impl SettingNoteKind {
     }
 }
 
-/// Prints the code and the name, as `K4 BadBoolean`.
+/// Prints the code and the name, for example `K4 BadBoolean`.
 impl fmt::Display for SettingNoteKind {
     ghost use Rattle.std.specs.Prelude.{Some};
     ghost use Rattle.setting_rules.specs.Notes.{words_of};
@@ -47,7 +47,7 @@ impl fmt::Display for SettingNoteKind {
     }
 }
 
-/// A value, or a word of one, that counts for nothing.
+/// A value, or a word of one, that doesn't count.
 #[derive(Debug, PartialEq, Eq, Drop)]
 pub struct SettingNote {
     /// The section of the key.
@@ -58,7 +58,7 @@ pub struct SettingNote {
     pub kind: SettingNoteKind,
 }
 
-/// An equal note, whose texts share their bytes.
+/// Copies share the bytes of the texts.
 impl TryClone for SettingNote {
     fn try_clone(&self) -> Result<SettingNote, AllocError> {
         Ok(SettingNote {
@@ -72,7 +72,7 @@ impl TryClone for SettingNote {
 impl SettingNote {
     ghost use Rattle.setting_rules.specs.Settings.{note_on};
 
-    /// A note on a value of a key. It takes no memory.
+    /// Makes a note on a value of a key. Allocates nothing.
     pub(crate) fn on(key: SettingKey, kind: SettingNoteKind) -> SettingNote
         ensures note { result ≡ note_on key kind }
     {

@@ -1,4 +1,4 @@
-//! The values that count, as rows.
+//! The effective values, as rows.
 ghost use Rattle.std.specs.Prelude.{◌≡◌, ◌++◌, ◌∷◌, [], OnOk, if◌then◌else◌};
 ghost use Rattle.setting_rules.specs.Rows.{is_dependency, rows_at, escape_notes_at};
 
@@ -9,7 +9,7 @@ use plain_values::{Bytes, Items, TryClone};
 use std::alloc::{AllocError, Global};
 use unit_name::UnitName;
 
-/// A value of a key, with the specifiers of its unit's name expanded.
+/// An effective value of a key, with the specifiers of its unit's name expanded.
 #[derive(Debug, PartialEq, Eq, Drop)]
 pub struct Row {
     /// The section of the key.
@@ -20,7 +20,7 @@ pub struct Row {
     pub value: Bytes,
 }
 
-/// An equal row, whose texts share their bytes.
+/// Copies share the bytes of the texts.
 impl TryClone for Row {
     fn try_clone(&self) -> Result<Row, AllocError> {
         Ok(Row {
@@ -34,14 +34,14 @@ impl TryClone for Row {
 /// The values of a unit's keys.
 #[derive(Debug, PartialEq, Eq, Drop)]
 pub struct Values {
-    /// A row for each value, in the order of the keys and of each key's values.
+    /// One row for each value, in the order of the keys and of each key's values.
     pub rows: Items<Row>,
     /// What is wrong with other values, in the same order.
     pub notes: Items<SettingNote>,
 }
 
 impl Values {
-    /// No rows. It takes no memory.
+    /// Returns no rows. Allocates nothing.
     pub(crate) fn new(alloc: Global) -> Values
         ensures rows { result.rows ≡ [] }
         ensures notes { result.notes ≡ [] }
@@ -52,7 +52,7 @@ impl Values {
         }
     }
 
-    /// Adds the values of a key, unless it sets dependencies. It fails for want of memory alone.
+    /// Adds the values of a key, unless it sets dependencies. Fails only if memory runs out.
     pub(crate) fn add_key(
         &mut self,
         alloc: Global,

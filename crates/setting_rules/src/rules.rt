@@ -1,28 +1,28 @@
-//! How the values of a key count.
+//! How the values of a key are evaluated.
 ghost use Rattle.std.specs.Prelude.{◌≡◌};
 ghost use Rattle.setting_rules.specs.Rules.{rule_of, unit_rule};
 
 use crate::kinds::DepKind;
 
-/// How the values of a key count (systemd.unit(5); systemd.syntax(7), "Introduction").
+/// How the values of a key are evaluated (systemd.unit(5); systemd.syntax(7), "Introduction").
 #[derive(Clone, Copy, Debug, PartialEq, Eq)]
 pub enum KeyRule {
-    /// The section or the key begins with `X-`: they don't.
+    /// The section or the key begins with `X-`: its values don't count.
     Ignored,
-    /// It sets dependencies: all values that aren't empty count.
+    /// The key sets dependencies: all values that aren't empty count.
     Dependency,
-    /// It is `RefuseManualStart`: the last good boolean counts.
+    /// The key is `RefuseManualStart`: the last valid boolean counts.
     Switch,
-    /// Its name begins with `Condition`: an empty value of any such key empties it.
+    /// The name begins with `Condition`: an empty value of any such key empties this one.
     Condition,
-    /// Its name begins with `Assert`: an empty value of any such key empties it.
+    /// The name begins with `Assert`: an empty value of any such key empties this one.
     Assertion,
-    /// Any other: an empty value empties it.
+    /// Any other key: an empty value empties it.
     Plain,
 }
 
 impl KeyRule {
-    /// How the values of this key of this section count. It takes no memory.
+    /// Returns how the values of this key in this section are evaluated. Allocates nothing.
     #[tactic(auto, unfolding(crate::specs::Rules::rule_of))]
     pub(crate) fn of(section: &[u8], key: &[u8]) -> KeyRule
         ensures rule { result ≡ rule_of section.now key.now }

@@ -1,7 +1,7 @@
-//! What the assignments of a unit come to.
+//! Evaluating the assignments of a unit.
 ghost use Rattle.std.specs.Prelude.{◌≡◌, ◌∷◌, [], ◌++◌, IfOk, OnOk, drop, false, if◌then◌else◌};
 ghost use Rattle.setting_rules.specs.{Effects.{effect, changed_by, resets_family, start_of}, Maps.{changed}};
-ghost use Rattle.setting_rules.specs.Settings.{key_of, is_bad_by, note_on, behind_last, settings_of, boolean_notes};
+ghost use Rattle.setting_rules.specs.Settings.{key_of, is_bad_by, note_on, following_last, settings_of, boolean_notes};
 ghost use Rattle.setting_rules.specs.declared.notes.SettingNoteKind.TheVariants.{BadBoolean};
 
 use crate::booleans::boolean;
@@ -13,25 +13,26 @@ use plain_values::Items;
 use section_reader::Assignment;
 use std::alloc::{AllocError, Global};
 
-/// What the assignments of a unit come to.
+/// The effective settings of a unit.
 #[derive(Drop)]
 pub struct Settings {
-    /// The values of each key that count, in the order of the keys' first assignments that count.
+    /// The effective values of each key, in the order of the keys' first assignments that count.
     pub map: SettingMap,
     /// What is wrong with values, in the order of the assignments.
     pub notes: Items<SettingNote>,
 }
 
-/// What the assignments of a unit come to: those of its fragment, then those of its drop-ins, in one list. It refuses for
-/// want of memory alone.
+/// Evaluates the assignments of a unit, given in one list: those of its fragment, then those of its drop-ins. Fails
+/// only if memory runs out.
 ///
-/// An empty value empties its key (systemd.syntax(7), "Introduction"), and one of a key of `[Unit]` that begins with
-/// `Condition` or with `Assert` empties all keys that begin so (systemd.unit(5), "Conditions and Asserts"). Keys of `[Unit]`
-/// that set dependencies are never emptied, and of `RefuseManualStart` the last good boolean counts; a bad one is noted and
-/// otherwise passed over. Sections and keys that begin with `X-` are passed over (systemd.unit(5), "Unit File Format").
+/// An empty value empties its key (systemd.syntax(7), "Introduction"). An empty value of a key of `[Unit]` that begins
+/// with `Condition` or `Assert` empties all keys with the same beginning (systemd.unit(5), "Conditions and Asserts").
+/// Keys of `[Unit]` that set dependencies are never emptied. For `RefuseManualStart` the last valid boolean counts; an
+/// invalid one is noted and otherwise ignored. Sections and keys that begin with `X-` are ignored (systemd.unit(5),
+/// "Unit File Format").
 ///
-/// Two passes over the assignments with one look-up by hash for each, in a map that doesn't grow; keys and values share their
-/// bytes with them.
+/// Three passes over the assignments, and one hash lookup for each in a map that doesn't grow. Keys and values share
+/// their bytes with the assignments.
 pub fn apply(alloc: Global, assignments: &[Assignment]) -> Result<Settings, AllocError>
     ensures map { IfOk result (λ settings. settings.map ≡ settings_of assignments.now) }
     ensures notes { IfOk result (λ settings. settings.notes ≡ boolean_notes assignments.now) }
@@ -45,7 +46,7 @@ pub fn apply(alloc: Global, assignments: &[Assignment]) -> Result<Settings, Allo
     Ok(settings)
 }
 
-// Where the values of a family count from: behind the last assignment that empties it.
+// The index of each family's first assignment that may count: after the last one that empties the family.
 #[derive(Drop)]
 struct FamilyStarts {
     conditions: usize,
@@ -55,9 +56,9 @@ struct FamilyStarts {
 impl FamilyStarts {
     fn of(assignments: &[Assignment]) -> FamilyStarts
         ensures conditions { drop result.conditions assignments.now
-            ≡ behind_last (resets_family KeyRule.Condition) assignments.now }
+            ≡ following_last (resets_family KeyRule.Condition) assignments.now }
         ensures assertions { drop result.assertions assignments.now
-            ≡ behind_last (resets_family KeyRule.Assertion) assignments.now }
+            ≡ following_last (resets_family KeyRule.Assertion) assignments.now }
     {
         FamilyStarts {
             conditions: family_start(assignments, KeyRule::Condition),
@@ -65,7 +66,7 @@ impl FamilyStarts {
         }
     }
 
-    // Where the values of keys with a rule count from.
+    // Returns the index from which the values of keys with this rule count.
     fn of_rule(&self, rule: KeyRule) -> usize
         ensures start { result ≡ start_of self.now.conditions self.now.assertions rule }
     {
@@ -77,9 +78,9 @@ impl FamilyStarts {
     }
 }
 
-// Where the values of a family count from.
+// Returns the index from which the values of a family count.
 fn family_start(assignments: &[Assignment], family: KeyRule) -> usize
-    ensures start { drop result assignments.now ≡ behind_last (resets_family family) assignments.now }
+    ensures start { drop result assignments.now ≡ following_last (resets_family family) assignments.now }
 {
     let mut start = 0;
     for (index, assignment) in assignments.iter().enumerate() {
@@ -90,7 +91,7 @@ fn family_start(assignments: &[Assignment], family: KeyRule) -> usize
     start
 }
 
-// Whether an assignment empties a family.
+// Returns whether an assignment empties a family.
 fn resets_family(assignment: &Assignment, family: KeyRule) -> bool
     ensures test { result ≡ resets_family family assignment.now }
 {
@@ -99,7 +100,7 @@ fn resets_family(assignment: &Assignment, family: KeyRule) -> bool
 }
 
 impl Settings {
-    // None, with room for so many keys.
+    // Returns no settings, with capacity for `keys` keys.
     fn with_room(alloc: Global, keys: usize) -> Result<Settings, AllocError>
         ensures map { IfOk result (λ settings. settings.map ≡ []) }
         ensures notes { IfOk result (λ settings. settings.notes ≡ []) }
@@ -111,7 +112,8 @@ impl Settings {
         })
     }
 
-    // Takes one more assignment, whose key has this rule. The value of a family counts where it is live.
+    // Evaluates one more assignment, whose key has this rule. A value of a family counts only if `live`: no later one
+    // empties the family.
     fn take(
         &mut self,
         alloc: Global,
@@ -147,7 +149,7 @@ impl Settings {
         Ok(())
     }
 
-    // Puts the value of an assignment behind those of its key.
+    // Appends the value of an assignment to those of its key.
     fn add(&mut self, alloc: Global, assignment: &Assignment) -> Result<(), AllocError>
         ensures map { OnOk result (self.new.map
             ≡ changed (λ values. values ++ assignment.now.value ∷ []) self.old.map (key_of assignment.now)) }
@@ -157,7 +159,7 @@ impl Settings {
         self.map.add(alloc, key, assignment.value.try_clone()?)
     }
 
-    // Takes an assignment of a family: its value counts where it is live and isn't empty.
+    // Evaluates an assignment of a family: its value counts if it is live and not empty.
     fn take_in_family(
         &mut self,
         alloc: Global,
@@ -176,7 +178,7 @@ impl Settings {
         Ok(())
     }
 
-    // Takes an assignment of a switch: a good boolean replaces the one before, a bad one is noted.
+    // Evaluates an assignment of a switch: a valid boolean replaces the one before, an invalid one is noted.
     fn switch(&mut self, alloc: Global, assignment: &Assignment) -> Result<(), AllocError>
         ensures map { OnOk result (self.new.map
             ≡ changed_by (effect KeyRule.Switch false assignment.now.value) self.old.map (key_of assignment.now)) }

@@ -6,8 +6,8 @@ use crate::booleans::boolean;
 use crate::dependency_lists::UNIT;
 use crate::settings::Settings;
 
-/// Whether the unit refuses that a person starts it: the last good boolean of `RefuseManualStart` says so (systemd.unit(5),
-/// "[Unit] Section Options"). It takes no memory, and walks over the keys.
+/// Returns whether the unit refuses a manual start: the last valid boolean of `RefuseManualStart` (systemd.unit(5),
+/// "[Unit] Section Options"). Linear in the keys. Allocates nothing.
 pub fn refuses_manual_start(settings: &Settings) -> bool
     ensures test { result ≡ refuses settings.now.map }
 {

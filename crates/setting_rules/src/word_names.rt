@@ -1,4 +1,4 @@
-//! The units that the words of dependencies name.
+//! The units that words of dependencies name.
 ghost use Rattle.std.specs.Prelude.{◌≡◌, IfOk, Some};
 ghost use Rattle.setting_rules.specs.Dependencies.{named_by, named_by_text};
 
@@ -7,8 +7,8 @@ use crate::notes::SettingNoteKind;
 use std::alloc::{AllocError, Global};
 use unit_name::{ExpandFault, NameFault, UnitName, expand};
 
-/// What a word of a unit's dependencies names, or what is wrong with it. A word without a percent sign is not copied before it
-/// is read. It refuses for want of memory alone.
+/// Returns the unit that a word of a unit's dependencies names, or what is wrong with the word. A word without a
+/// percent sign is read without a copy. Fails only if memory runs out.
 pub(crate) fn named_by(
     alloc: Global,
     word: &[u8],
@@ -26,7 +26,7 @@ pub(crate) fn named_by(
     }
 }
 
-// What an expanded word names, or what is wrong with it.
+// Returns the unit that an expanded word names, or what is wrong with it.
 fn named_by_text(
     alloc: Global,
     text: &[u8],

@@ -5,7 +5,7 @@ ghost use Rattle.setting_rules.specs.Words.{words_of};
 
 use std::alloc::{AllocError, Global};
 
-/// The words of a value, which whitespace separates. They lend the value's bytes.
+/// Returns the words of a value, split at whitespace. They borrow the value's bytes.
 #[tactic(auto, unfolding(crate::specs::Words::words_of))]
 pub(crate) fn words(alloc: Global, value: &[u8]) -> Result<Vec<&[u8]>, AllocError>
     ensures words { IfOk result (λ words. map (λ word. word.now) words.items ≡ words_of value.now) }

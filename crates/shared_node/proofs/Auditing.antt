@@ -1,12 +1,12 @@
--- Going over the seats.
-use Rattle.std.proofs.Common.{◌≡◌, ◌≢◌, ℕ, zero, suc, ◌+◌, ◌<◌, ◌≤◌, List, [], ◌∷◌, length, take, get_or, slice_get, Some, refl, sym, ◌∙◌, ap, subst, arith}
-use Rattle.std.specs.List.{sum_by}
-use Rattle.std.proofs.lemmas.List.Sums.{sum_by_more}
+-- The audit of the seats.
+use Rattle.std.proofs.Common.{[], ◌+◌, ◌<◌, ◌∙◌, ◌∷◌, ◌≡◌, ◌≢◌, ◌≤◌, ap, arith, get_or, length, List, refl, slice_get, Some, subst, suc, sym, take, zero, ℕ}
 use Rattle.std.proofs.Math.Decide.{ℕ_discrete}
+use Rattle.std.proofs.lemmas.List.Sums.{sum_by_more}
+use Rattle.std.specs.List.{sum_by}
 use mathlib.Core.Logic.{dite}
 
 module _ {A : Type 0} where
-  -- the item at a place, both ways
+  -- the item at a place, by both look-ups
   pub at_get : (xs : List A) (i : ℕ) (s t : A) → s ≡ get_or xs i s → slice_get xs i ≡ Some t → s ≡ t
   at_get [] i s t e h = absurd (cc h)
   at_get (x ∷ xs) zero s t e h = cc (e, h)

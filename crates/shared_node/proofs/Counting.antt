@@ -1,12 +1,9 @@
 -- The counts of each seat's takes.
-use Rattle.std.proofs.Common.{◌≡◌, ◌≢◌, ℕ, ◌+◌, ◌<◌, ◌==◌, cond, List, [], ◌∷◌, ◌++◌, length, slice_index, slice_set, refl, sym, ◌∙◌, ap, arith, eq-eqb}
-use Rattle.std.proofs.lemmas.List.{get_or-set_other, get_or-set_same, length-set}
-use Rattle.std.proofs.lemmas.Bool.{ne_eqb}
+use Rattle.std.proofs.Common.{[], ◌++◌, ◌+◌, ◌<◌, ◌==◌, ◌∙◌, ◌∷◌, ◌≡◌, ◌≢◌, ap, arith, cond, eq-eqb, get_or-set_other, get_or-set_same, length, length-set, List, refl, slice_index, slice_set, sym, ℕ}
 use Rattle.std.proofs.Math.Decide.{ℕ_discrete}
+use Rattle.std.proofs.lemmas.Bool.{ne_eqb}
 use mathlib.Core.Logic.{dite}
-use Rattle.node_histories.specs.declared.events.HistoryEvent.{HistoryEvent}
-use Rattle.node_histories.specs.Histories.{takes_of, is_take_of}
-use Rattle.node_histories.specs.HistoryLaws.{takes_of-snoc}
+use Rattle.shared_node.proofs.Prelude.{HistoryEvent, is_take_of, takes_of, takes_of-snoc}
 
 pub counted : (counts : List ℕ) (h : List HistoryEvent) (x : HistoryEvent) (seat : ℕ) → ((s : ℕ) → is_take_of s x ≡ (seat == s)) → seat < length counts → ((s : ℕ) → s < length counts → slice_index counts s ≡ takes_of s h)
     → (s : ℕ) → s < length (slice_set counts seat (slice_index counts seat + 1)) → slice_index (slice_set counts seat (slice_index counts seat + 1)) s ≡ takes_of s (h ++ x ∷ [])

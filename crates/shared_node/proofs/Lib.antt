@@ -1,3 +1,4 @@
+pub mod Prelude
 pub mod Seeing
 pub mod Latest
 pub mod Counting

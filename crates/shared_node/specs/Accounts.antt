@@ -1,13 +1,12 @@
--- What an account stands for: the takes, and for how many seats it counts.
+-- What contracts see of an account: the takes, and the number of seats that it counts for.
 -- Source: this project's own.
-use Rattle.std.specs.Prelude.{◌≡◌, ℕ, ◌==◌, List, [], ◌∷◌, ◌++◌}
-use Rattle.node_histories.specs.declared.events.HistoryEvent.{HistoryEvent}
-use Rattle.node_histories.specs.Histories.{is_take_of}
+use Rattle.std.proofs.Common.{[], ◌++◌, ◌==◌, ◌∷◌, ◌≡◌, List, ℕ}
+use Rattle.shared_node.specs.Prelude.{HistoryEvent, is_take_of}
 
 pub record AccountNow : Type 0 where
   pub takes : List HistoryEvent
   pub seats : ℕ
 
--- the second history is the first with one take more, which is this seat's
+-- the second history is the first with one more take, by this seat
 abbrev pub IsTakenAfter : List HistoryEvent → ℕ → List HistoryEvent → Type 0
 IsTakenAfter before seat h = (x : HistoryEvent) × (h ≡ before ++ x ∷ []) × ((s : ℕ) → is_take_of s x ≡ (seat == s))

@@ -1,10 +1,10 @@
--- What a blank stands for.
+-- What contracts see of a blank.
 -- Source: this project's own.
-use Rattle.std.specs.Prelude.{ℕ}
 use Rattle.logbook.specs.Pages.{Book}
-use Rattle.replica_store.specs.Replicas.{Replicated}
+use Rattle.std.proofs.Common.{ℕ}
+use Rattle.shared_node.specs.Prelude.{Replicated}
 
--- the book of the node that it will be, the replica that it was made from, and the number of its seats
+-- the history log of the later node, the replica that the blank was made from, and the number of seats
 pub record BlankNow : Type 0 where
   pub book : Book
   pub opening : Replicated

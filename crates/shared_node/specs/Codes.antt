@@ -1,16 +1,10 @@
--- Codes of what a node's parts stand for.
+-- Codes of what contracts see of a node's parts.
 -- Source: this project's own.
-use Rattle.std.specs.Prelude.{ℕ, List, refl}
-use Rattle.std.specs.Coded.{Coded, code_by, coded×, coded_ℕ}
 use Rattle.logbook.specs.Pages.{Book, book_coded}
-use Rattle.replica_store.specs.Replicas.{Replicated, coded_replicated}
-use Rattle.node_histories.specs.declared.events.HistoryEvent.{HistoryEvent}
-use Rattle.node_histories.specs.Codes.{coded_history}
-use Rattle.shared_node.specs.Seats.{SeatNow}
-use Rattle.shared_node.specs.Posts.{PostNow}
-use Rattle.shared_node.specs.Accounts.{AccountNow}
-use Rattle.shared_node.specs.Keepers.{KeeperNow}
-use Rattle.shared_node.specs.Blanks.{BlankNow}
+use Rattle.std.proofs.Common.{List, refl, ℕ}
+use Rattle.std.specs.Coded.{code_by, Coded, coded_ℕ, coded×}
+use Rattle.shared_node.specs.Prelude.{coded_history, coded_replicated, HistoryEvent, Replicated}
+use Rattle.shared_node.specs.{Accounts.AccountNow, Blanks.BlankNow, Keepers.KeeperNow, Posts.PostNow, Seats.SeatNow}
 
 abbrev pub coded_seat : Coded SeatNow
 coded_seat = code_by (List HistoryEvent × (ℕ × ℕ)) (coded× coded_history (coded× coded_ℕ coded_ℕ)) (λ s. (s.seen, (s.calls, s.number))) (λ p. record { seen = p.0; calls = p.1.0; number = p.1.1 }) (λ _. refl)

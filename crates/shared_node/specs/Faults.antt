@@ -1,18 +1,9 @@
 -- What a refusal of a node leaves.
 -- Source: this project's own.
-use Rattle.std.specs.Prelude.{◌≡◌, ◌≢◌, ℕ, ◌+◌, ◌<◌, ◌≤◌, ◌⊎◌, None, Some, List, [], ◌∷◌, ◌++◌}
-use Rattle.load_places.specs.Places.{PlaceParts}
-use Rattle.edit_sums.specs.declared.contents.Content.{Content}
-use Rattle.edit_sums.specs.Sums.{EntryMap}
-use Rattle.replica_store.specs.Replicas.{Replicated}
-use Rattle.node_histories.specs.declared.events.HistoryEvent.{HistoryEvent}
-use Rattle.node_histories.specs.declared.events.HistoryEvent.TheVariants.{Edited, Absorbed}
-use Rattle.node_histories.specs.Histories.{IsLegal, takes_in}
-use Rattle.shared_node.specs.declared.faults.NodeFault.{NodeFault}
-use Rattle.shared_node.specs.declared.faults.NodeFault.TheVariants.{NoSeat, Pending, TakesSpent, Disagree, VersionsSpent, Memory}
-use Rattle.shared_node.specs.declared.faults.CloseCause.{CloseCause}
+use Rattle.std.proofs.Common.{[], ◌++◌, ◌+◌, ◌<◌, ◌∷◌, ◌≡◌, ◌≢◌, ◌≤◌, ◌⊎◌, List, None, Some, ℕ}
+use Rattle.shared_node.specs.Prelude.{Absorbed, Content, Edited, EntryMap, HistoryEvent, IsLegal, PlaceParts, Replicated, takes_in}
+use Rattle.shared_node.specs.{declared.faults.CloseCause.CloseCause, declared.faults.NodeFault.NodeFault, declared.faults.NodeFault.TheVariants.Disagree, declared.faults.NodeFault.TheVariants.Memory, declared.faults.NodeFault.TheVariants.NoSeat, declared.faults.NodeFault.TheVariants.Pending, declared.faults.NodeFault.TheVariants.TakesSpent, declared.faults.NodeFault.TheVariants.VersionsSpent, Keepers.KeeperNow, Seats.SeatNow}
 use Rattle.shared_node.specs.declared.faults.CloseCause.TheVariants as causes
-use Rattle.shared_node.specs.Seats.{SeatNow}
 
 abbrev pub max : ℕ
 max = 18446744073709551615
@@ -22,7 +13,7 @@ max = 18446744073709551615
 abbrev pub AtFault : {N : Type 0} → Replicated → NodeFault N → SeatNow → SeatNow → Type 0
 AtFault start NoSeat s t = ⊥
 AtFault start (Pending version) s t = (t.seen ≡ s.seen) × (t.calls ≡ s.calls + 1) × (t.number ≡ s.number)
-AtFault start (TakesSpent told) s t = (t ≡ s) × IsLegal start told × ((s.calls ≡ max) ⊎ (max ≤ takes_in told + 1))
+AtFault start (TakesSpent token) s t = (t ≡ s) × IsLegal start token × ((s.calls ≡ max) ⊎ (max ≤ takes_in token + 1))
 AtFault start (Disagree seen held) s t = (t ≡ s) × (seen ≡ takes_in s.seen) × (held < seen)
 AtFault start VersionsSpent s t = t ≡ s
 AtFault start Memory s t = t ≡ s
@@ -31,7 +22,7 @@ AtFault start Memory s t = t ≡ s
 abbrev pub AtCheck : {N : Type 0} → Replicated → NodeFault N → SeatNow → Type 0
 AtCheck start NoSeat s = ⊥
 AtCheck start (Pending version) s = ⊥
-AtCheck start (TakesSpent told) s = IsLegal start told × ((s.calls ≡ max) ⊎ (max ≤ takes_in told + 1))
+AtCheck start (TakesSpent token) s = IsLegal start token × ((s.calls ≡ max) ⊎ (max ≤ takes_in token + 1))
 AtCheck start (Disagree seen held) s = (seen ≡ takes_in s.seen) × (held < seen)
 AtCheck start VersionsSpent s = ⊥
 AtCheck start Memory s = ⊥
@@ -40,7 +31,7 @@ AtCheck start Memory s = ⊥
 abbrev pub IsEarly : {N : Type 0} → NodeFault N → Type 0
 IsEarly NoSeat = ⊥
 IsEarly (Pending version) = ⊥
-IsEarly (TakesSpent told) = Unit {0}
+IsEarly (TakesSpent token) = Unit {0}
 IsEarly (Disagree seen held) = Unit {0}
 IsEarly VersionsSpent = Unit {0}
 IsEarly Memory = ⊥
@@ -50,7 +41,7 @@ abbrev pub IsEditFault : {N : Type 0} → NodeFault N → Type 0
 IsEditFault NoSeat = ⊥
 IsEditFault (Pending None) = ⊥
 IsEditFault (Pending (Some version)) = Unit {0}
-IsEditFault (TakesSpent told) = Unit {0}
+IsEditFault (TakesSpent token) = Unit {0}
 IsEditFault (Disagree seen held) = Unit {0}
 IsEditFault VersionsSpent = Unit {0}
 IsEditFault Memory = Unit {0}
@@ -60,7 +51,7 @@ abbrev pub IsPieceFault : {N : Type 0} → NodeFault N → Type 0
 IsPieceFault NoSeat = ⊥
 IsPieceFault (Pending None) = Unit {0}
 IsPieceFault (Pending (Some version)) = ⊥
-IsPieceFault (TakesSpent told) = Unit {0}
+IsPieceFault (TakesSpent token) = Unit {0}
 IsPieceFault (Disagree seen held) = Unit {0}
 IsPieceFault VersionsSpent = ⊥
 IsPieceFault Memory = Unit {0}
@@ -69,7 +60,7 @@ IsPieceFault Memory = Unit {0}
 abbrev pub IsSeatFault : {N : Type 0} → NodeFault N → Type 0
 IsSeatFault NoSeat = Unit {0}
 IsSeatFault (Pending version) = ⊥
-IsSeatFault (TakesSpent told) = ⊥
+IsSeatFault (TakesSpent token) = ⊥
 IsSeatFault (Disagree seen held) = ⊥
 IsSeatFault VersionsSpent = ⊥
 IsSeatFault Memory = ⊥
@@ -79,7 +70,7 @@ abbrev pub AcceptsEdit : {N : Type 0} → NodeFault N → ℕ → PlaceParts →
 AcceptsEdit NoSeat seat place content old new = ⊥
 AcceptsEdit (Pending None) seat place content old new = ⊥
 AcceptsEdit (Pending (Some version)) seat place content old new = new ≡ old ++ Edited seat (record { place = place; version = version; content = content }) ∷ []
-AcceptsEdit (TakesSpent told) seat place content old new = new ≡ old
+AcceptsEdit (TakesSpent token) seat place content old new = new ≡ old
 AcceptsEdit (Disagree seen held) seat place content old new = new ≡ old
 AcceptsEdit VersionsSpent seat place content old new = new ≡ old
 AcceptsEdit Memory seat place content old new = new ≡ old
@@ -89,7 +80,7 @@ abbrev pub AcceptsPiece : {N : Type 0} → NodeFault N → ℕ → EntryMap → 
 AcceptsPiece NoSeat seat piece old new = ⊥
 AcceptsPiece (Pending None) seat piece old new = new ≡ old ++ Absorbed seat piece ∷ []
 AcceptsPiece (Pending (Some version)) seat piece old new = ⊥
-AcceptsPiece (TakesSpent told) seat piece old new = new ≡ old
+AcceptsPiece (TakesSpent token) seat piece old new = new ≡ old
 AcceptsPiece (Disagree seen held) seat piece old new = new ≡ old
 AcceptsPiece VersionsSpent seat piece old new = ⊥
 AcceptsPiece Memory seat piece old new = new ≡ old
@@ -105,3 +96,9 @@ abbrev pub AtCause : ℕ → ℕ → CloseCause → Type 0
 AtCause given here (causes.SeatsOut absent) = (0 < absent) × (given ≡ here + absent)
 AtCause given here (causes.Disagree seat node) = seat ≢ node
 AtCause given here causes.Memory = Unit {0}
+
+-- what is shown where a node isn't closed: what was shown; for want of memory that, or all that was accepted
+abbrev pub ShowsStill : CloseCause → KeeperNow → List HistoryEvent → Type 0
+ShowsStill (causes.SeatsOut absent) old shown = shown ≡ old.shown
+ShowsStill (causes.Disagree seat node) old shown = shown ≡ old.shown
+ShowsStill causes.Memory old shown = (shown ≡ old.shown) ⊎ (shown ≡ old.accepted)

@@ -1,9 +1,9 @@
--- What a keeper stands for.
+-- What contracts see of a keeper.
 -- Source: this project's own.
-use Rattle.std.specs.Prelude.{ℕ, List}
-use Rattle.node_histories.specs.declared.events.HistoryEvent.{HistoryEvent}
+use Rattle.std.proofs.Common.{List, ℕ}
+use Rattle.shared_node.specs.Prelude.{HistoryEvent}
 
--- the history of all that it accepted, the one that is published, and how many seats it gave
+-- the history that it accepted, the published one, and how many seats it gave out
 pub record KeeperNow : Type 0 where
   pub accepted : List HistoryEvent
   pub shown : List HistoryEvent

@@ -1,4 +1,5 @@
-pub mod Sights
+pub mod Prelude
+pub mod ReaderViews
 pub mod Posts
 pub mod Accounts
 pub mod Seats

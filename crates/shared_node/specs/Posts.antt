@@ -1,7 +1,7 @@
--- What the publishing side of a node stands for: the history that is shown, and the one that is due.
+-- What contracts see of a node's publishing side: the published history, and the one that is due.
 -- Source: this project's own.
-use Rattle.std.specs.Prelude.{List}
-use Rattle.node_histories.specs.declared.events.HistoryEvent.{HistoryEvent}
+use Rattle.std.proofs.Common.{List}
+use Rattle.shared_node.specs.Prelude.{HistoryEvent}
 
 pub record PostNow : Type 0 where
   pub shown : List HistoryEvent

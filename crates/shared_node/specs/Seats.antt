@@ -1,9 +1,8 @@
--- What a seat stands for.
+-- What contracts see of a seat.
 -- Source: this project's own.
-use Rattle.std.specs.Prelude.{◌≡◌, ℕ, ◌+◌, List, slice_get, Some}
+use Rattle.std.proofs.Common.{◌+◌, ◌≡◌, List, slice_get, Some, ℕ}
 use mathlib.Core.List.{IsPrefix}
-use Rattle.node_histories.specs.declared.events.HistoryEvent.{HistoryEvent}
-use Rattle.node_histories.specs.Histories.{takes_of}
+use Rattle.shared_node.specs.Prelude.{HistoryEvent, takes_of}
 
 -- what it has seen of the node's history, how many takes it made, and its number at the node
 pub record SeatNow : Type 0 where
@@ -11,11 +10,11 @@ pub record SeatNow : Type 0 where
   pub calls : ℕ
   pub number : ℕ
 
--- one take more is counted at the seat
+-- the seat counts one more take
 abbrev pub CountsOneMore : SeatNow → SeatNow → Type 0
 CountsOneMore old new = (new.calls ≡ old.calls + 1) × (new.number ≡ old.number)
 
--- the history begins with what the seat has seen, and has just as many takes of it as it made
+-- the history begins with what the seat has seen, and has exactly as many takes of it as it made
 abbrev pub Agrees : List HistoryEvent → SeatNow → Type 0
 Agrees h s = IsPrefix s.seen h × (takes_of s.number h ≡ s.calls)
 

@@ -1,7 +1,7 @@
 //! How a keeper compares its counts with those of seats.
-ghost use Rattle.std.specs.{Prelude.{◌≡◌, ◌+◌, length, IfOk, IfErr}, List.{sum_by}};
+ghost use Rattle.std.specs.{Prelude.{◌≡◌, ◌+◌, length, IfOk, IfErr, MatchResult}, List.{sum_by}};
 ghost use Rattle.node_histories.specs.Histories.{replica_of, takes_in};
-ghost use Rattle.shared_node.specs.{Seats.{AllAgree}, Faults.{AtCause, IsDisagreement}};
+ghost use Rattle.shared_node.specs.{Seats.{AllAgree}, Faults.{AtCause, IsDisagreement, ShowsStill}};
 
 use crate::account::Account;
 use crate::faults::CloseCause;
@@ -24,7 +24,7 @@ impl<N: NodeName> Keeper<N> {
             return Err(CloseCause::SeatsOut(self.given - here));
         }
         let others = takes_of_others(&self.account, seats)?;
-        let takes = self.account.front().takes();
+        let takes = self.account.prefix().takes();
         if others == 0 {
             Ok(takes)
         } else {
@@ -33,7 +33,7 @@ impl<N: NodeName> Keeper<N> {
     }
 
     // Where these seats are all that were given, and made the takes, publishes a take that is pending, and copies the
-    // replica that is then published.
+    // replica that is then published. A refusal accepts nothing and gives no seat.
     pub(crate) fn settle<R: Wait>(
         &mut self,
         rt: &R,
@@ -43,6 +43,11 @@ impl<N: NodeName> Keeper<N> {
         ensures sum { IfOk result (λ _. takes_in self.new.shown ≡ sum_by (λ s. s.calls) seats.now.items) }
         ensures replica { IfOk result (λ replica. replica ≡ replica_of self.new.shown) }
         ensures cause { IfErr result (λ cause. AtCause self.old.given (length seats.now.items) cause) }
+        ensures accepted { self.new.accepted ≡ self.old.accepted }
+        ensures given { self.new.given ≡ self.old.given }
+        ensures shown { MatchResult result
+            (λ _. self.new.shown ≡ self.old.accepted)
+            (λ cause. ShowsStill cause self.old self.new.shown) }
     {
         self.audit(seats)?;
         match self.flushed_replica(rt) {
@@ -62,7 +67,7 @@ fn takes_of_others<N: NodeName>(
     ensures agree { IfOk result (λ _. AllAgree account.now.takes seats.now.items) }
     ensures cause { IfErr result IsDisagreement }
 {
-    let mut others = account.front().takes();
+    let mut others = account.prefix().takes();
     for seat in seats {
         account.compare(seat)?;
         let calls = seat.calls();

@@ -1,36 +1,36 @@
-//! What a node is opened over.
+//! What a node opens over.
 ghost use Rattle.std.specs.Prelude.{◌≡◌, ℕ, ◌<◌, ◌≤◌, ◌∷◌, [], length, drop, slice_index, IfOk, IfErr};
 ghost use Rattle.left_right.specs.Sides.{view};
 ghost use Rattle.node_histories.specs.declared.events.HistoryEvent.TheVariants.{Opening};
-ghost use Rattle.shared_node.specs.{Sights.{latest, sight_of}, BlankFaults.{AtBlankFault}};
+ghost use Rattle.shared_node.specs.{ReaderViews.{latest, reader_view_of}, BlankFaults.{AtBlankFault}};
 
 use crate::post::publish;
-use crate::sight::PageWriter;
+use crate::reader_view::CopyWriter;
 use left_right::writer::Writer;
-use node_histories::{Head, History, Name, Page};
+use node_histories::{Head, History, Name, PublishedCopy};
 use replica_store::Replica;
 use std::alloc::{AllocError, Global};
 use std::marker::Model;
 use std::sync::Wait;
 use thiserror::Error;
 
-/// A node has 1 to so many seats.
+/// The most seats of a node; a node has at least 1.
 pub const MOST_SEATS: usize = 64;
 
-/// All that a node needs, under no name yet. Contracts see the book of the node that it will be, the replica that it
-/// was made from, and the number of its seats. It isn't `Drop`: `Node::open` takes it.
+/// All parts of a node that has no name yet. Contracts see the history log of the later node, the replica that the
+/// blank was made from, and the number of seats. Not `Drop`: `Node::open` takes it.
 pub struct Blank {
     pub(crate) head: Head,
     pub(crate) seen: History,
-    pub(crate) writer: PageWriter,
+    pub(crate) writer: CopyWriter,
     pub(crate) counts: Vec<u64>,
 }
 
 impl Model for Blank {
     ghost use Rattle.std.specs.Prelude.{◌≡◌, ℕ, ◌<◌, ◌∷◌, [], length, drop, slice_index};
-    ghost use Rattle.left_right.specs.Sides.{view as sight};
+    ghost use Rattle.left_right.specs.Sides.{view as reader_view};
     ghost use Rattle.node_histories.specs.{declared.events.HistoryEvent.TheVariants.{Opening}, Books.{head_of}, Histories.{opening_of}};
-    ghost use Rattle.shared_node.specs.{Blanks.{BlankNow}, Codes.{coded_blank}, Sights.{latest, sight_of}};
+    ghost use Rattle.shared_node.specs.{Blanks.{BlankNow}, Codes.{coded_blank}, ReaderViews.{latest, reader_view_of}};
 
     ghost Value = { BlankNow };
 
@@ -45,38 +45,38 @@ impl Model for Blank {
         × (b.writer.desk.shown.value.seen ≡ b.seen)
         × (latest (λ p. p.seen) b.writer.desk.shown.value.seen (drop b.writer.behind b.writer.log.items)
         ≡ b.writer.desk.shown.value.seen)
-        × (sight b.writer.desk.place
-        ≡ sight_of b.writer.desk.shown.value.seen.book b.writer.desk.shown.value.seen.log) };
+        × (reader_view b.writer.desk.place
+        ≡ reader_view_of b.writer.desk.shown.value.seen.book b.writer.desk.shown.value.seen.log) };
 }
 
 /// Why there is no blank.
 #[derive(Debug, Drop, Error)]
 pub enum BlankFault {
-    /// A1: the seats aren't 1 to 64.
+    /// A1: the number of seats isn't 1 to 64.
     #[error("A1 Seats")]
     Seats,
-    /// Memory was refused. The replica comes back.
+    /// Memory ran out. Returns the replica.
     #[error("out of memory")]
     Memory(Replica),
 }
 
-// The two copies, the first of them published.
+// The two copies. The first is the published one.
 fn shown_pair<R: Wait>(
     rt: &R,
     alloc: Global,
     seen: &History,
     replica: &Replica,
     seats: usize,
-) -> Result<PageWriter, AllocError>
+) -> Result<CopyWriter, AllocError>
     requires seats { (0 < seats) × (seats ≤ 64) }
     requires opened { seen.now.log ≡ Opening replica.now ∷ [] }
     ensures shown { IfOk result (λ w. w.desk.shown.value.seen ≡ seen.now) }
     ensures due { IfOk result (λ w. latest (λ p. p.seen) w.desk.shown.value.seen (drop w.behind w.log.items)
         ≡ w.desk.shown.value.seen) }
-    ensures sight { IfOk result (λ w. view w.desk.place
-        ≡ sight_of w.desk.shown.value.seen.book w.desk.shown.value.seen.log) }
+    ensures reader_view { IfOk result (λ w. view w.desk.place
+        ≡ reader_view_of w.desk.shown.value.seen.book w.desk.shown.value.seen.log) }
 {
-    let first = Page::opening(replica.try_clone()?, seen)?;
+    let first = PublishedCopy::opening(replica.try_clone()?, seen)?;
     let second = first.try_clone()?;
     let writer = Writer::new(alloc, first, second, seats)?;
     let (writer, done) = publish(writer, rt);
@@ -97,7 +97,7 @@ fn zeros(alloc: Global, seats: usize) -> Result<Vec<u64>, AllocError>
     Vec::from_elem(alloc, 0u64, seats)
 }
 
-// All that a node of this replica needs. The replica is copied, without its contents.
+// All parts of a node of this replica. Copies the replica, without its contents.
 fn blank_of<R: Wait>(rt: &R, replica: &Replica, seats: usize) -> Result<Blank, AllocError>
     requires seats { (0 < seats) × (seats ≤ 64) }
     ensures opening { IfOk result (λ blank. blank.opening ≡ replica.now) }
@@ -116,12 +116,11 @@ fn blank_of<R: Wait>(rt: &R, replica: &Replica, seats: usize) -> Result<Blank, A
 }
 
 impl Blank {
-    /// All that a node over this replica needs, with so many seats. It may wait. One copy of the replica, which
-    /// copies no
-    /// contents.
+    /// Makes all parts of a node over this replica, with this many seats. May wait. Costs one copy of the replica,
+    /// which copies no contents.
     ///
-    /// It is refused as `Seats` exactly where the seats aren't 1 to 64, and else for want of memory alone; then the
-    /// replica comes back.
+    /// `Seats` exactly if the number of seats isn't 1 to 64. Otherwise fails only if memory runs out, and then returns
+    /// the replica.
     pub fn new<R: Wait>(rt: &R, replica: Replica, seats: usize) -> Result<Blank, BlankFault>
         ensures opening { IfOk result (λ blank. blank.opening ≡ replica) }
         ensures seats { IfOk result (λ blank. (blank.seats ≡ seats) × (0 < seats) × (seats ≤ 64)) }

@@ -1,4 +1,4 @@
-//! How a node's faults are written.
+//! How a node's faults are printed.
 use crate::faults::NodeFault;
 use node_histories::NodeName;
 use std::fmt;

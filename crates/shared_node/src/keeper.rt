@@ -1,12 +1,12 @@
 //! The keeper of a node, as it lies under the lock.
-ghost use Rattle.std.specs.Prelude.{◌≡◌, ◌+◌, ◌<◌, ◌∷◌, [], IfOk, IfSome, IfNone, MatchResult};
+ghost use Rattle.std.specs.Prelude.{◌≡◌, ◌+◌, ◌<◌, ◌⊎◌, ◌∷◌, [], IfOk, IfSome, IfNone, MatchResult};
 ghost use Rattle.node_histories.specs.{declared.events.HistoryEvent.TheVariants.{Opening}, Histories.{IsLegal, opening_of, replica_of}};
 
 use crate::account::Account;
 use crate::blank::Blank;
 use crate::post::Post;
 use crate::seat::Seat;
-use node_histories::{Front, Head, NodeName, Page};
+use node_histories::{Head, HistoryPrefix, NodeName, PublishedCopy};
 use replica_store::Replica;
 use std::alloc::AllocError;
 use std::marker::Model;
@@ -55,7 +55,7 @@ impl<N: NodeName> Keeper<N> {
         let counter = writer.published().counter();
         Keeper {
             head,
-            account: Account::new(Front::of(0, &seen), counter, counts),
+            account: Account::new(HistoryPrefix::of(0, &seen), counter, counts),
             post: Post::new(writer),
             given: 0,
         }
@@ -91,7 +91,7 @@ impl<N: NodeName> Keeper<N> {
         self.given += 1;
         Some(Seat {
             reader,
-            front: self.post.shown(),
+            prefix: self.post.shown(),
             calls: 0,
             number,
         })
@@ -101,14 +101,16 @@ impl<N: NodeName> Keeper<N> {
     pub(crate) fn replica(&self) -> Result<Replica, AllocError>
         ensures replica { IfOk result (λ replica. replica ≡ replica_of self.now.shown) }
     {
-        self.post.page().replica().try_clone()
+        self.post.published_copy().replica().try_clone()
     }
 
     // Publishes a take that is pending, and copies the replica that is then published.
     pub(crate) fn flushed_replica<R: Wait>(&mut self, rt: &R) -> Result<Replica, AllocError>
         ensures accepted { self.new.accepted ≡ self.old.accepted }
         ensures given { self.new.given ≡ self.old.given }
-        ensures shown { IfOk result (λ _. self.new.shown ≡ self.old.accepted) }
+        ensures shown { MatchResult result
+            (λ _. self.new.shown ≡ self.old.accepted)
+            (λ _. (self.new.shown ≡ self.old.shown) ⊎ (self.new.shown ≡ self.old.accepted)) }
         ensures replica { IfOk result (λ replica. replica ≡ replica_of self.old.accepted) }
     {
         self.flush(rt)?;
@@ -116,7 +118,7 @@ impl<N: NodeName> Keeper<N> {
     }
 
     // Ends the node, and gives what was published last.
-    pub(crate) fn close<R: Wait>(self, rt: &R) -> Page
+    pub(crate) fn close<R: Wait>(self, rt: &R) -> PublishedCopy
         ensures log { result.seen.log ≡ self.shown }
         ensures book { result.seen.book ≡ N.book }
         ensures opening { opening_of result.seen.log ≡ N.opening }

@@ -7,8 +7,8 @@ ghost use Rattle.node_histories.specs.Histories.{all_edits, store_of};
 use crate::seat::View;
 use node_histories::NodeName;
 
-/// Views lend one store where the edits of their histories are the same, openings included, whatever their nodes. So
-/// what is loaded, planned or refused from the one is so from the other.
+/// Views borrow the same store if their histories have the same edits, openings included, even if they are of different
+/// nodes. So whatever is loaded, planned or refused from one is the same from the other.
 pub fn views_of_same_edits<N: NodeName, M: NodeName>(one: &View<N>, other: &View<M>)
     ensures same { ((e : Edit) → IsAmong e (all_edits one.now.seen) → IsAmong e (all_edits other.now.seen))
         → ((e : Edit) → IsAmong e (all_edits other.now.seen) → IsAmong e (all_edits one.now.seen))

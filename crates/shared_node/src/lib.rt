@@ -1,12 +1,13 @@
-//! Running nodes: a replica that threads share, and whose readers take no lock. What each seat sees, what it was
-//! answered, and the counts at the end are said of the node's history (`node_histories`).
+//! A node's replica is shared by threads, and its readers take no lock. Contracts describe what each seat sees, what it
+//! was answered, and the counts at the end by the node's history (`node_histories`).
 //!
 //! Promise: a view is a sum of a history; an answered edit stands in the history; what a refused take leaves; the
 //! count at close is exact; equal histories, equal answers; readers take no lock.
 //!
-//! A `Node` keeps a replica behind a lock, and publishes each version of it as one of two copies, which readers
-//! enter without a lock, a wait or memory. Threads hold `Seat`s: a seat edits and absorbs under the lock, and views
-//! what is published. A history has all takes, one after another, each a seat's edit or a piece that it absorbed.
+//! A `Node` has its replica behind a lock, and publishes each version of it as one of two copies. Readers enter a copy
+//! without a lock, without waiting and without allocating. Threads hold `Seat`s: a seat edits and absorbs under the
+//! lock, and views what is published. The history has all takes in order, each a seat's edit or a piece that a seat
+//! absorbed.
 #![tactic(auto)]
 
 mod account;
@@ -18,9 +19,9 @@ mod keeper;
 mod laws;
 mod node;
 mod post;
+mod reader_view;
 mod seat;
 mod serving;
-mod sight;
 mod takes;
 
 pub use blank::{Blank, BlankFault, MOST_SEATS};

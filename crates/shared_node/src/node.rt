@@ -19,12 +19,12 @@ use node_histories::{History, NodeName};
 use replica_store::Replica;
 use std::sync::{Mutex, MutexGuard, Wait};
 
-/// A node: a replica that threads share by its seats. It isn't `Drop`: `close` ends it, or `end` where seats are lost.
+/// A node: a replica that threads share through its seats. Not `Drop`: `close` ends it, or `end` if seats are lost.
 pub struct Node<N: NodeName> {
     keeper: Mutex<Keeper<N>>,
 }
 
-/// What is left of a node: its replica, how many takes it had, and a token of its history.
+/// What is left of a closed node: its replica, how many takes it had, and a token of its history.
 #[derive(Drop)]
 pub struct Closed {
     pub replica: Replica,
@@ -32,7 +32,7 @@ pub struct Closed {
     pub seen: History,
 }
 
-/// Why a node wasn't closed. The node and the seats come back.
+/// Why a node wasn't closed. Returns the node and the seats.
 pub struct CloseFault<N: NodeName> {
     pub node: Node<N>,
     pub seats: Vec<Seat<N>>,
@@ -40,7 +40,7 @@ pub struct CloseFault<N: NodeName> {
 }
 
 impl<N: NodeName> CloseFault<N> {
-    /// Ends the node that wasn't closed, and lets its seats go. A take that is pending is lost. It may wait.
+    /// Ends the node that wasn't closed, and drops its seats. A pending take is lost. May wait.
     pub fn end<R: Wait>(self, rt: &R) {
         let CloseFault {
             node,
@@ -58,7 +58,7 @@ fn node_of<N: NodeName>(keeper: Keeper<N>) -> Node<N> {
     }
 }
 
-// What is left of a node whose keeper shows this replica.
+// What is left of a node whose keeper has published this replica.
 fn wind_up<N: NodeName, R: Wait>(keeper: Keeper<N>, rt: &R, replica: Replica) -> Closed
     ensures replica { result.replica ≡ replica }
     ensures log { result.seen.log ≡ keeper.shown }
@@ -66,16 +66,16 @@ fn wind_up<N: NodeName, R: Wait>(keeper: Keeper<N>, rt: &R, replica: Replica) ->
     ensures legal { IsLegal N.opening result.seen.log }
     ensures book { result.seen.book ≡ N.book }
 {
-    let page = keeper.close(rt);
+    let published_copy = keeper.close(rt);
     Closed {
         replica,
-        takes: page.takes(),
-        seen: page.seen.again(),
+        takes: published_copy.takes(),
+        seen: published_copy.seen.again(),
     }
 }
 
 impl<N: NodeName> Node<N> {
-    /// Opens the node that N names, whose blank it has to be. It takes no memory. Its history has no takes.
+    /// Opens the node that N names, whose blank this must be. The history has no takes yet. Allocates nothing.
     pub fn open(blank: Blank) -> Node<N>
         requires book { blank.book ≡ N.book }
         requires opening { blank.opening ≡ N.opening }
@@ -84,9 +84,9 @@ impl<N: NodeName> Node<N> {
         node_of(Keeper::open(blank))
     }
 
-    /// A seat that has made no take, and has seen at least what the node opened over. It may wait.
+    /// A new seat, which has made no take and has seen at least what the node opened over. May wait.
     ///
-    /// It is refused as `NoSeat` where all seats are out, or there is no place for a reader.
+    /// `NoSeat` if all seats are given out, or if there is no slot for another reader.
     pub fn seat<R: Wait>(&self, rt: &R) -> Result<Seat<N>, NodeFault<N>>
         ensures calls { IfOk result (λ s. s.calls ≡ 0) }
         ensures within { IfOk result (λ s. s.number < N.seats) }
@@ -102,13 +102,12 @@ impl<N: NodeName> Node<N> {
         }
     }
 
-    /// Takes an edit for this seat, under the next version, and publishes it. It may wait: for the lock, and for views
-    /// that are held. It costs what is written and one copy of the replica, which copies no contents.
+    /// Takes an edit for this seat under the next version, and publishes it. May wait for the lock, and for views that
+    /// are held. Costs what is written and one copy of the replica, which copies no contents.
     ///
-    /// This take is the last of the answer's history, which goes on from what the seat had seen. A refusal is `TakesSpent`,
-    /// `Disagree` or `VersionsSpent`, in this order, before anything is published; `Memory`, where nothing was
-    /// accepted;
-    /// or `Pending`, where the edit was accepted and isn't published yet.
+    /// The returned token's history begins with what the seat had seen and ends with this take. `TakesSpent`,
+    /// `Disagree` or `VersionsSpent`, in this order, come before anything is published. `Memory`: nothing was accepted.
+    /// `Pending`: the edit was accepted, but isn't published yet.
     pub fn edit<R: Wait>(
         &self,
         rt: &R,
@@ -119,7 +118,7 @@ impl<N: NodeName> Node<N> {
         ensures taken { IfOk result (λ r.
             EndsWith seat.old.seen r.1 (Edited seat.old.number
             (record { place = place; version = r.0; content = content }))) }
-        ensures told { IfOk result (λ r. IsLegal N.opening r.1 × (seat.new.seen ≡ r.1)) }
+        ensures token { IfOk result (λ r. IsLegal N.opening r.1 × (seat.new.seen ≡ r.1)) }
         ensures counted { IfOk result (λ _. CountsOneMore seat.old seat.new) }
         ensures fault { IfErr result (λ f. AtFault N.opening f seat.old seat.new) }
         ensures kind { IfErr result (λ f. IsEditFault f) }
@@ -130,11 +129,11 @@ impl<N: NodeName> Node<N> {
         result
     }
 
-    /// Takes a piece for this seat, publishes it, and answers how many places changed. It may wait, as `edit` does. It
-    /// costs what the piece changes and one copy of the replica, which copies no contents.
+    /// Takes a piece for this seat, publishes it, and returns how many places changed. May wait, as `edit` does. Costs
+    /// what the piece changes and one copy of the replica, which copies no contents.
     ///
-    /// This take is the last of the answer's history, which goes on from what the seat had seen. It is refused as `edit` is,
-    /// but never as `VersionsSpent`.
+    /// The returned token's history begins with what the seat had seen and ends with this take. Fails as `edit` does,
+    /// but never with `VersionsSpent`.
     pub fn absorb<R: Wait>(
         &self,
         rt: &R,
@@ -142,7 +141,7 @@ impl<N: NodeName> Node<N> {
         piece: Piece,
     ) -> Result<(u64, Told<N>), NodeFault<N>>
         ensures taken { IfOk result (λ r. EndsChanging seat.old.seen r.1 (Absorbed seat.old.number piece) r.0) }
-        ensures told { IfOk result (λ r. IsLegal N.opening r.1 × (seat.new.seen ≡ r.1)) }
+        ensures token { IfOk result (λ r. IsLegal N.opening r.1 × (seat.new.seen ≡ r.1)) }
         ensures counted { IfOk result (λ _. CountsOneMore seat.old seat.new) }
         ensures fault { IfErr result (λ f. AtFault N.opening f seat.old seat.new) }
         ensures kind { IfErr result (λ f. IsPieceFault f) }
@@ -153,13 +152,12 @@ impl<N: NodeName> Node<N> {
         result
     }
 
-    /// Ends the node, and gives its replica and how many takes it had. It may wait. One copy of the replica, which
-    /// copies
-    /// no contents. The history that is left begins with what each of these seats has seen, and has just as many takes
-    /// of each as it made, and no others.
+    /// Ends the node, and returns its replica and how many takes it had. May wait. Costs one copy of the replica, which
+    /// copies no contents. The history that is left begins with what each of these seats has seen. It has exactly as
+    /// many takes of each seat as that seat made, and no others.
     ///
-    /// It is refused as `SeatsOut` where seats that were given are absent, then as `Disagree` where the counts of these
-    /// seats aren't the node's, then as `Memory` for want of it, a pending take among it. Node and seats come back.
+    /// `SeatsOut` if seats that were given out are missing; else `Disagree` if the counts of these seats aren't the
+    /// node's; else `Memory` if memory runs out, also for a pending take. Each returns the node and the seats.
     pub fn close<R: Wait>(self, rt: &R, seats: Vec<Seat<N>>) -> Result<Closed, CloseFault<N>>
         ensures legal { IfOk result (λ d. IsLegal N.opening d.seen.log) }
         ensures book { IfOk result (λ d. d.seen.book ≡ N.book) }
@@ -180,8 +178,8 @@ impl<N: NodeName> Node<N> {
         }
     }
 
-    /// Ends the node, whatever seats it gave: the way out where a seat is lost, so that `close` can't be answered. A take that
-    /// is pending is lost. It may wait.
+    /// Ends the node, whatever seats it gave out. This is the way out if a seat is lost, so that `close` can't succeed.
+    /// A pending take is lost. May wait.
     pub fn end<R: Wait>(self, rt: &R) {
         let Node { keeper } = self;
         drop(keeper.into_inner().close(rt));

@@ -3,28 +3,28 @@ ghost use Rattle.std.specs.Prelude.{◌≡◌, drop, MatchResult, IfOk, OnOk, No
 ghost use mathlib.Core.List.{IsPrefix};
 ghost use Rattle.left_right.specs.Sides.{view};
 ghost use Rattle.node_histories.specs.Histories.{IsLegal, opening_of, takes_in};
-ghost use Rattle.shared_node.specs.Sights.{latest, newest, sight_of};
+ghost use Rattle.shared_node.specs.ReaderViews.{latest, newest, reader_view_of};
 
-use crate::sight::{PageReader, PageWriter, Same, Sees, Takes};
+use crate::reader_view::{CopyReader, CopyWriter, Same, Sees, Takes};
 use core::mem::replace_with;
-use node_histories::{Front, NodeName, Page};
+use node_histories::{HistoryPrefix, NodeName, PublishedCopy};
 use std::alloc::AllocError;
 use std::marker::{Model, PhantomData};
 use std::sync::Wait;
 
-// The two published copies, and a page that is accepted but not handed over yet.
+// The two published copies, and a copy that is accepted but not in the writer's log yet.
 pub(crate) struct Post<N: NodeName> {
-    writer: PageWriter,
-    pending: Option<Page>,
+    writer: CopyWriter,
+    pending: Option<PublishedCopy>,
     of: PhantomData<N>,
 }
 
 impl<N: NodeName> Model for Post<N> {
     ghost use Rattle.std.specs.Prelude.{◌≡◌, drop};
     ghost use mathlib.Core.List.{IsPrefix};
-    ghost use Rattle.left_right.specs.Sides.{view as sight};
+    ghost use Rattle.left_right.specs.Sides.{view as reader_view};
     ghost use Rattle.node_histories.specs.Histories.{opening_of};
-    ghost use Rattle.shared_node.specs.{Posts.{PostNow}, Codes.{coded_post}, Sights.{newest, sight_of}};
+    ghost use Rattle.shared_node.specs.{Posts.{PostNow}, Codes.{coded_post}, ReaderViews.{newest, reader_view_of}};
 
     ghost Value = { PostNow };
 
@@ -37,7 +37,7 @@ impl<N: NodeName> Model for Post<N> {
     } };
 
     ghost invariant = { λ p.
-        (sight p.writer.desk.place ≡ sight_of N.book p.writer.desk.shown.value.seen.log)
+        (reader_view p.writer.desk.place ≡ reader_view_of N.book p.writer.desk.shown.value.seen.log)
         × (p.writer.desk.shown.value.seen.book ≡ N.book)
         × ((newest (λ q. q.seen) p.writer.desk.shown.value.seen
         (drop p.writer.behind p.writer.log.items) p.pending).book ≡ N.book)
@@ -48,10 +48,10 @@ impl<N: NodeName> Model for Post<N> {
         (drop p.writer.behind p.writer.log.items) p.pending).log };
 }
 
-/// A token of a history that was published, which other seats of the node can learn. Contracts see it as its events.
+/// A token of a published history, which other seats of the node can learn. Contracts see it as the history's events.
 #[derive(Drop)]
 pub struct Told<N: NodeName> {
-    front: Front<N>,
+    prefix: HistoryPrefix<N>,
 }
 
 impl<N: NodeName> Model for Told<N> {
@@ -62,28 +62,28 @@ impl<N: NodeName> Model for Told<N> {
 
     ghost coded = { coded_history };
 
-    ghost view = { λ t. t.front };
+    ghost view = { λ t. t.prefix };
 }
 
 impl<N: NodeName> Told<N> {
-    // What it tells.
-    pub(crate) fn front(&self) -> &Front<N>
-        ensures front { result.now ≡ self.now }
+    // The prefix of the history.
+    pub(crate) fn prefix(&self) -> &HistoryPrefix<N>
+        ensures prefix { result.now ≡ self.now }
     {
-        &self.front
+        &self.prefix
     }
 
-    /// How many takes the history has. It takes no memory.
+    /// How many takes the history has. Allocates nothing.
     pub fn takes(&self) -> u64
         ensures takes { result ≡ takes_in self.now }
         ensures legal { IsLegal N.opening self.now }
     {
-        self.front.takes()
+        self.prefix.takes()
     }
 }
 
-// Publishes what the writer's log has, all at once.
-pub(crate) fn publish<R: Wait>(writer: PageWriter, rt: &R) -> (PageWriter, Result<(), AllocError>)
+// Publishes all that is in the writer's log at once.
+pub(crate) fn publish<R: Wait>(writer: CopyWriter, rt: &R) -> (CopyWriter, Result<(), AllocError>)
     requires book { (latest (λ p. p.seen) writer.desk.shown.value.seen
         (drop writer.behind writer.log.items)).book ≡ writer.desk.shown.value.seen.book }
     requires goes_on { IsPrefix writer.desk.shown.value.seen.log (latest
@@ -96,16 +96,16 @@ pub(crate) fn publish<R: Wait>(writer: PageWriter, rt: &R) -> (PageWriter, Resul
         (λ _. (result.0.desk.shown.value.seen ≡ writer.desk.shown.value.seen)
         × (latest (λ p. p.seen) result.0.desk.shown.value.seen (drop result.0.behind result.0.log.items)
         ≡ latest (λ p. p.seen) writer.desk.shown.value.seen (drop writer.behind writer.log.items))) }
-    ensures sight { MatchResult result.1
+    ensures reader_view { MatchResult result.1
         (λ _. view result.0.desk.place
-        ≡ sight_of result.0.desk.shown.value.seen.book result.0.desk.shown.value.seen.log)
+        ≡ reader_view_of result.0.desk.shown.value.seen.book result.0.desk.shown.value.seen.log)
         (λ _. view result.0.desk.place ≡ view writer.desk.place) }
 {
     writer.publish_as::<Sees, R>(rt)
 }
 
-// Appends the page that is pending, if there is one, to the writer's log. It stays where there is no memory.
-fn hand(writer: &mut PageWriter, pending: &mut Option<Page>) -> Result<(), AllocError>
+// Appends the pending copy, if there is one, to the writer's log. The copy stays pending if memory runs out.
+fn hand(writer: &mut CopyWriter, pending: &mut Option<PublishedCopy>) -> Result<(), AllocError>
     ensures desk { writer.new.desk ≡ writer.old.desk }
     ensures due { newest (λ p. p.seen) writer.new.desk.shown.value.seen
         (drop writer.new.behind writer.new.log.items) pending.new
@@ -113,27 +113,27 @@ fn hand(writer: &mut PageWriter, pending: &mut Option<Page>) -> Result<(), Alloc
         (drop writer.old.behind writer.old.log.items) pending.old }
     ensures handed { OnOk result (pending.new ≡ None) }
 {
-    let Some(page) = pending.take() else {
+    let Some(published_copy) = pending.take() else {
         return Ok(());
     };
-    match writer.append(page) {
+    match writer.append(published_copy) {
         Ok(()) => Ok(()),
-        Err(page) => {
-            *pending = Some(page);
+        Err(published_copy) => {
+            *pending = Some(published_copy);
             Err(AllocError)
         }
     }
 }
 
 impl<N: NodeName> Post<N> {
-    // Nothing is due.
-    pub(crate) fn new(writer: PageWriter) -> Post<N>
+    // A publishing side with nothing to publish.
+    pub(crate) fn new(writer: CopyWriter) -> Post<N>
         requires book { writer.desk.shown.value.seen.book ≡ N.book }
         requires due { latest (λ p. p.seen) writer.desk.shown.value.seen (drop writer.behind writer.log.items)
             ≡ writer.desk.shown.value.seen }
         requires opening { opening_of writer.desk.shown.value.seen.log ≡ N.opening }
-        requires sight { view writer.desk.place
-            ≡ sight_of writer.desk.shown.value.seen.book writer.desk.shown.value.seen.log }
+        requires reader_view { view writer.desk.place
+            ≡ reader_view_of writer.desk.shown.value.seen.book writer.desk.shown.value.seen.log }
         ensures shown { result.shown ≡ writer.desk.shown.value.seen.log }
         ensures due { result.due ≡ writer.desk.shown.value.seen.log }
     {
@@ -144,7 +144,7 @@ impl<N: NodeName> Post<N> {
         }
     }
 
-    // Publishes what is due. At `Err` nothing was published.
+    // Publishes what is due. On `Err` nothing was published.
     pub(crate) fn send<R: Wait>(&mut self, rt: &R) -> Result<(), AllocError>
         ensures due { self.new.due ≡ self.old.due }
         ensures shown { MatchResult result
@@ -155,19 +155,19 @@ impl<N: NodeName> Post<N> {
         replace_with(&mut self.writer, rt, publish)
     }
 
-    // The page comes next.
-    pub(crate) fn put(&mut self, page: Page)
-        requires book { page.seen.book ≡ N.book }
-        requires opening { opening_of page.seen.log ≡ N.opening }
-        requires goes_on { IsPrefix self.old.due page.seen.log }
-        ensures due { self.new.due ≡ page.seen.log }
+    // Makes this copy the next to publish.
+    pub(crate) fn put(&mut self, published_copy: PublishedCopy)
+        requires book { published_copy.seen.book ≡ N.book }
+        requires opening { opening_of published_copy.seen.log ≡ N.opening }
+        requires goes_on { IsPrefix self.old.due published_copy.seen.log }
+        ensures due { self.new.due ≡ published_copy.seen.log }
         ensures shown { self.new.shown ≡ self.old.shown }
     {
-        self.pending = Some(page);
+        self.pending = Some(published_copy);
     }
 
-    // The page that is shown.
-    pub(crate) fn page(&self) -> &Page
+    // The published copy.
+    pub(crate) fn published_copy(&self) -> &PublishedCopy
         ensures log { result.now.seen.log ≡ self.now.shown }
         ensures book { result.now.seen.book ≡ N.book }
         ensures opening { opening_of result.now.seen.log ≡ N.opening }
@@ -175,28 +175,28 @@ impl<N: NodeName> Post<N> {
         self.writer.published()
     }
 
-    // The history that is shown.
-    pub(crate) fn shown(&self) -> Front<N>
+    // The published history.
+    pub(crate) fn shown(&self) -> HistoryPrefix<N>
         ensures shown { result ≡ self.now.shown }
         ensures legal { IsLegal N.opening result }
     {
-        self.page().front()
+        self.published_copy().prefix()
     }
 
-    // A token of the history that is shown.
-    pub(crate) fn tell(&self) -> Told<N>
+    // A token of the published history.
+    pub(crate) fn issue(&self) -> Told<N>
         ensures shown { result ≡ self.now.shown }
         ensures legal { IsLegal N.opening result }
     {
         Told {
-            front: self.shown(),
+            prefix: self.shown(),
         }
     }
 
-    // A reader that has seen what is shown.
-    pub(crate) fn reader(&mut self) -> Result<PageReader, AllocError>
+    // A reader that has seen what is published.
+    pub(crate) fn reader(&mut self) -> Result<CopyReader, AllocError>
         ensures same { self.new ≡ self.old }
-        ensures sight { IfOk result (λ r. view r.place ≡ sight_of N.book self.old.shown) }
+        ensures reader_view { IfOk result (λ r. view r.place ≡ reader_view_of N.book self.old.shown) }
     {
         let mut reader = self.writer.factory().reader()?;
         let note = self.writer.tell::<Same>();
@@ -204,8 +204,8 @@ impl<N: NodeName> Post<N> {
         Ok(reader)
     }
 
-    // Waits for the readers, and gives what was published last.
-    pub(crate) fn close<R: Wait>(self, rt: &R) -> Box<Page>
+    // Waits for the readers, and returns the copy that was published last.
+    pub(crate) fn close<R: Wait>(self, rt: &R) -> Box<PublishedCopy>
         ensures log { result.value.seen.log ≡ self.shown }
         ensures book { result.value.seen.book ≡ N.book }
         ensures opening { opening_of result.value.seen.log ≡ N.opening }

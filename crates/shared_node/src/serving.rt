@@ -1,4 +1,4 @@
-//! A seat that does what an inbox says.
+//! A service: one seat executes the messages of an inbox.
 ghost use Rattle.std.specs.Prelude.{◌≡◌, ◌+◌};
 ghost use mathlib.Core.List.{IsPrefix};
 ghost use Rattle.shared_node.specs.Steps.{calls_in, step_at};
@@ -14,18 +14,19 @@ use node_histories::NodeName;
 use std::sync::Wait;
 use worker_rounds::{Gate, pass_gate};
 
-/// What an inbox may ask of a node.
+/// A request to a node.
 #[derive(Drop)]
 pub enum Message {
-    /// An edit, as `Node::edit`.
+    /// An edit, as by `Node::edit`.
     Edit(Place, Content),
-    /// A piece, as `Node::absorb`.
+    /// A piece, as by `Node::absorb`.
     Absorb(Piece),
-    /// The end of the service.
+    /// Ends the service.
     End,
 }
 
-/// How many messages were answered, how many were accepted while their publish was refused, and how many were refused.
+/// How many messages were answered, how many were accepted but not published for lack of memory, and how many were
+/// refused.
 #[derive(Clone, Copy, Debug, PartialEq, Eq)]
 pub struct Served {
     pub answered: usize,
@@ -33,7 +34,7 @@ pub struct Served {
     pub refused: usize,
 }
 
-// How one message went.
+// The result of one message.
 #[derive(Clone, Copy)]
 enum Step {
     Answered,
@@ -41,7 +42,7 @@ enum Step {
     Refused,
 }
 
-// How a take went.
+// The result of a take.
 fn step_of<N: NodeName, T: Drop>(taken: Result<T, NodeFault<N>>) -> Step
     ensures { result ≡ step_at taken }
 {
@@ -52,7 +53,7 @@ fn step_of<N: NodeName, T: Drop>(taken: Result<T, NodeFault<N>>) -> Step
     }
 }
 
-// Does what one message says, once the gate lets it; nothing at the end.
+// Executes one message when the gate lets it. None for the end of the service.
 fn do_message<N: NodeName, R: Wait, G: Gate>(
     rt: &R,
     node: &Node<N>,
@@ -78,11 +79,10 @@ fn do_message<N: NodeName, R: Wait, G: Gate>(
     }
 }
 
-/// Does what the inbox says, one message after another: each edit and each piece as `Node::edit` and `Node::absorb` do.
-/// Before such a message the gate is asked with its number, from 0, until it answers true, at most
-/// `worker_rounds::TURNS`
-/// times. It ends at `Message::End`, where the inbox is disconnected, or after `usize::MAX` messages. It may wait: for
-/// messages, and as `Node::edit` does.
+/// Executes the messages of the inbox, one after another: each edit as `Node::edit` does, each piece as `Node::absorb`
+/// does. Before each such message it asks the gate with the message's number, from 0, until the gate answers true, at
+/// most `worker_rounds::TURNS` times. Ends at `Message::End`, when the inbox is disconnected, or after `usize::MAX`
+/// messages. May wait for messages, and as `Node::edit` does.
 pub fn serve<N: NodeName, R: Wait, G: Gate>(
     rt: &R,
     node: &Node<N>,

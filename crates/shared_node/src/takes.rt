@@ -16,31 +16,31 @@ use delta_pieces::Piece;
 use edit_sums::Content;
 use join_law::Version;
 use load_places::Place;
-use node_histories::{NodeName, Page};
+use node_histories::{NodeName, PublishedCopy};
 use std::alloc::AllocError;
 use std::sync::Wait;
 
 impl<N: NodeName> Keeper<N> {
-    // Sees that the seat may take. Nothing changes.
+    // Checks that the seat may take. Changes nothing.
     fn may_take(&self, seat: &Seat<N>) -> Result<(), NodeFault<N>>
         ensures begun { IfOk result (λ _. IsPrefix seat.now.seen self.now.accepted) }
         ensures room { IfOk result (λ _. takes_in self.now.accepted < 2 ^ 64 - 1) }
         ensures calls { IfOk result (λ _. seat.now.calls < 2 ^ 64 - 1) }
         ensures fault { IfErr result (λ f. AtCheck N.opening f seat.now) }
     {
-        let held = self.account.front().takes();
+        let held = self.account.prefix().takes();
         if held == u64::MAX || seat.calls() == u64::MAX {
-            return Err(NodeFault::TakesSpent(self.post.tell()));
+            return Err(NodeFault::TakesSpent(self.post.issue()));
         }
         let seen = seat.takes();
         if held < seen {
             return Err(NodeFault::Disagree(seen, held));
         }
-        seat.front.begins(self.account.front());
+        seat.prefix.begins(self.account.prefix());
         Ok(())
     }
 
-    // Sees that the seat may take an edit. Nothing changes.
+    // Checks that the seat may take an edit. Changes nothing.
     fn may_edit(&self, seat: &Seat<N>) -> Result<(), NodeFault<N>>
         ensures begun { IfOk result (λ _. IsPrefix seat.now.seen self.now.accepted) }
         ensures room { IfOk result (λ _. takes_in self.now.accepted < 2 ^ 64 - 1) }
@@ -56,21 +56,21 @@ impl<N: NodeName> Keeper<N> {
         Ok(())
     }
 
-    // Accepts a page that has one take more, of this seat, and publishes nothing.
-    fn accept(&mut self, seat: usize, page: Page)
+    // Accepts a copy with one more take, of this seat. Publishes nothing.
+    fn accept(&mut self, seat: usize, published_copy: PublishedCopy)
         requires seat { seat < N.seats }
         requires flushed { self.old.shown ≡ self.old.accepted }
-        requires page { (page.seen.book ≡ N.book) × (opening_of page.seen.log ≡ N.opening) }
+        requires published_copy { (published_copy.seen.book ≡ N.book) × (opening_of published_copy.seen.log ≡ N.opening) }
         requires room { takes_in self.old.accepted < 2 ^ 64 - 1 }
-        requires taken { IsTakenAfter self.old.accepted seat page.seen.log }
+        requires taken { IsTakenAfter self.old.accepted seat published_copy.seen.log }
         ensures given { self.new.given ≡ self.old.given }
-        ensures accepted { self.new.accepted ≡ page.seen.log }
+        ensures accepted { self.new.accepted ≡ published_copy.seen.log }
     {
-        self.account.add(seat, &page);
-        self.post.put(page);
+        self.account.add(seat, &published_copy);
+        self.post.put(published_copy);
     }
 
-    // Publishes a take that is pending, and accepts an edit after it.
+    // Publishes a pending take, and accepts an edit after it.
     fn accept_edit<R: Wait>(
         &mut self,
         rt: &R,
@@ -88,13 +88,18 @@ impl<N: NodeName> Keeper<N> {
             (λ _. self.new.accepted ≡ self.old.accepted) }
     {
         self.flush(rt)?;
-        let page = self.post.page();
-        let (version, page) = page.with_edit::<N>(&self.head, seat as u64, place, content)?;
-        self.accept(seat, page);
+        let published_copy = self.post.published_copy();
+        let (version, published_copy) = published_copy.with_edit::<N>(
+            &self.head,
+            seat as u64,
+            place,
+            content,
+        )?;
+        self.accept(seat, published_copy);
         Ok(version)
     }
 
-    // Publishes a take that is pending, and accepts a piece after it; answers how many places changed.
+    // Publishes a pending take, and accepts a piece after it. Returns how many places changed.
     fn accept_piece<R: Wait>(
         &mut self,
         rt: &R,
@@ -111,31 +116,31 @@ impl<N: NodeName> Keeper<N> {
             ≡ changed_places (store_of self.old.accepted) (store_of self.new.accepted)) }
     {
         self.flush(rt)?;
-        let (changed, page) = self
+        let (changed, published_copy) = self
             .post
-            .page()
+            .published_copy()
             .with_piece::<N>(&self.head, seat as u64, piece)?;
-        self.accept(seat, page);
+        self.accept(seat, published_copy);
         Ok(changed)
     }
 
-    // Counts the take that was accepted, and publishes it.
+    // Counts the accepted take, and publishes it.
     fn finish<R: Wait>(&mut self, rt: &R, seat: &mut Seat<N>) -> Option<Told<N>>
         requires calls { seat.old.calls < 2 ^ 64 - 1 }
         ensures given { self.new.given ≡ self.old.given }
         ensures accepted { self.new.accepted ≡ self.old.accepted }
         ensures counted { CountsOneMore seat.old seat.new }
-        ensures shown { MatchOption result (seat.new.seen ≡ seat.old.seen) (λ told.
-            (told ≡ self.old.accepted) × (seat.new.seen ≡ told) × (self.new.shown ≡ told) × IsLegal N.opening told) }
+        ensures shown { MatchOption result (seat.new.seen ≡ seat.old.seen) (λ token.
+            (token ≡ self.old.accepted) × (seat.new.seen ≡ token) × (self.new.shown ≡ token) × IsLegal N.opening token) }
     {
         seat.calls += 1;
         self.flush(rt).ok()?;
-        let told = self.post.tell();
-        seat.front = told.front().again();
-        Some(told)
+        let token = self.post.issue();
+        seat.prefix = token.prefix().again();
+        Some(token)
     }
 
-    // Takes an edit for this seat, and publishes it, after a take that is pending.
+    // Publishes a pending take, then takes an edit for this seat and publishes it.
     pub(crate) fn edit<R: Wait>(
         &mut self,
         rt: &R,
@@ -147,7 +152,7 @@ impl<N: NodeName> Keeper<N> {
         ensures taken { IfOk result (λ r.
             EndsWith seat.old.seen r.1 (Edited seat.old.number
             (record { place = place; version = r.0; content = content }))) }
-        ensures told { IfOk result (λ r. IsLegal N.opening r.1 × (seat.new.seen ≡ r.1)) }
+        ensures token { IfOk result (λ r. IsLegal N.opening r.1 × (seat.new.seen ≡ r.1)) }
         ensures counted { IfOk result (λ _. CountsOneMore seat.old seat.new) }
         ensures shown { IfOk result (λ r. (self.new.shown ≡ r.1) × (self.new.accepted ≡ r.1)) }
         ensures fault { IfErr result (λ f. AtFault N.opening f seat.old seat.new) }
@@ -161,7 +166,7 @@ impl<N: NodeName> Keeper<N> {
             return Err(NodeFault::Memory);
         };
         match self.finish(rt, seat) {
-            Some(told) => Ok((version, told)),
+            Some(token) => Ok((version, token)),
             None => {
                 let version = Some(version);
                 Err(NodeFault::Pending { version })
@@ -169,7 +174,7 @@ impl<N: NodeName> Keeper<N> {
         }
     }
 
-    // Takes a piece for this seat, and publishes it, after a take that is pending; answers how many places changed.
+    // Publishes a pending take, then takes a piece for this seat and publishes it. Returns how many places changed.
     pub(crate) fn absorb<R: Wait>(
         &mut self,
         rt: &R,
@@ -178,7 +183,7 @@ impl<N: NodeName> Keeper<N> {
     ) -> Result<(u64, Told<N>), NodeFault<N>>
         ensures given { self.new.given ≡ self.old.given }
         ensures taken { IfOk result (λ r. EndsChanging seat.old.seen r.1 (Absorbed seat.old.number piece) r.0) }
-        ensures told { IfOk result (λ r. IsLegal N.opening r.1 × (seat.new.seen ≡ r.1)) }
+        ensures token { IfOk result (λ r. IsLegal N.opening r.1 × (seat.new.seen ≡ r.1)) }
         ensures counted { IfOk result (λ _. CountsOneMore seat.old seat.new) }
         ensures shown { IfOk result (λ r. (self.new.shown ≡ r.1) × (self.new.accepted ≡ r.1)) }
         ensures fault { IfErr result (λ f. AtFault N.opening f seat.old seat.new) }
@@ -191,7 +196,7 @@ impl<N: NodeName> Keeper<N> {
             return Err(NodeFault::Memory);
         };
         match self.finish(rt, seat) {
-            Some(told) => Ok((changed, told)),
+            Some(token) => Ok((changed, token)),
             None => Err(NodeFault::Pending { version: None }),
         }
     }

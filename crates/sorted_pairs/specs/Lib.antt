@@ -1,3 +1,4 @@
+pub mod Prelude
 pub mod Places
 pub mod PlaceLaws
 pub mod SearchLaws

@@ -1,17 +1,17 @@
--- Places of a key among pairs in the order of their keys.
+-- Positions of a key among pairs sorted by key.
 -- Source: this project's own.
-use Rattle.std.specs.Prelude.{◌≡◌, ◌≢◌, ℕ, zero, suc, List, [], ◌∷◌}
+use Rattle.std.proofs.Common.{[], ◌∷◌, ◌≡◌, ◌≢◌, List, suc, zero, ℕ}
 use Rattle.std.specs.declared.cmp.Ordering.{Ordering}
-use Rattle.std.specs.declared.cmp.Ordering.TheVariants.{Less, Equal, Greater}
+use Rattle.std.specs.declared.cmp.Ordering.TheVariants.{Equal, Greater, Less}
 
 module _ {K V : Type 0} (R : K → K → Ordering) (k : K) where
-  -- the key stands at place i, after lesser ones
+  -- the key is at index i, after lesser keys
   abbrev pub IsAt : List (K × V) → ℕ → Type 0
   IsAt [] i = ⊥
   IsAt (e ∷ es) zero = R k e.0 ≡ Equal
   IsAt (e ∷ es) (suc i) = (R k e.0 ≡ Greater) × IsAt es i
 
-  -- the key would stand at place i, between lesser ones and a greater one
+  -- the key is absent, and belongs at index i, between lesser keys and a greater one
   abbrev pub IsGap : List (K × V) → ℕ → Type 0
   IsGap [] zero = Unit {0}
   IsGap [] (suc i) = ⊥
@@ -23,7 +23,7 @@ module _ {K V : Type 0} (R : K → K → Ordering) (k : K) where
   AreBelow [] = Unit {0}
   AreBelow (e ∷ es) = (R e.0 k ≡ Less) × AreBelow es
 
-  -- the first of these, if there is one, is not below the key
+  -- the first of these, if any, is not below the key
   abbrev pub IsNotBelow : List (K × V) → Type 0
   IsNotBelow [] = Unit {0}
   IsNotBelow (e ∷ es) = R e.0 k ≢ Less

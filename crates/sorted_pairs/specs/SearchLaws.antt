@@ -1,14 +1,13 @@
--- What a binary search among sorted pairs finds.
-use Rattle.std.proofs.Common.{◌≡◌, ℕ, zero, suc, ◌<◌, ◌≤◌, List, [], ◌∷◌, ◌++◌, length, get_or, Result, Ok, Err, IfOk, IfErr, IsTrue, sym, subst, arith}
+-- Results of a binary search among sorted pairs.
+use Rattle.std.proofs.Common.{[], ◌++◌, ◌<◌, ◌∷◌, ◌≡◌, ◌≤◌, arith, Err, get_or, IfErr, IfOk, IsTrue, length, List, Ok, Result, subst, suc, sym, zero, ℕ}
 use Rattle.std.proofs.lemmas.Bool.{and_parts}
-use Rattle.std.specs.List.{AllWithin}
-use Rattle.std.specs.List.Sorted.{IsSearchInRange, IsBinarySearchResult}
 use Rattle.std.specs.Cmp.{IsTotalOrder}
+use Rattle.std.specs.FinMap.Entries.{below_all, is_sorted}
+use Rattle.std.specs.List.{AllWithin}
+use Rattle.std.specs.List.Sorted.{IsBinarySearchResult, IsSearchInRange}
 use Rattle.std.specs.declared.cmp.Ordering.{Ordering}
-use Rattle.std.specs.declared.cmp.Ordering.TheVariants.{Less, Equal, Greater}
-use Rattle.std.specs.FinMap.Entries.{is_sorted, below_all}
-use Rattle.list_laws.specs.Orderings.{is_less, turned}
-use Rattle.list_laws.specs.Searches.{below_at, above_lesser, comparisons_rise}
+use Rattle.std.specs.declared.cmp.Ordering.TheVariants.{Equal, Greater, Less}
+use Rattle.sorted_pairs.specs.Prelude.{above_lesser, below_at, comparisons_ascend, is_less, turned}
 use Rattle.sorted_pairs.specs.Places.{IsAt, IsGap}
 
 module _ {K V : Type 0} (R : K → K → Ordering) (o : IsTotalOrder R) (k : K) where
@@ -33,23 +32,23 @@ module _ {K V : Type 0} (R : K → K → Ordering) (o : IsTotalOrder R) (k : K) 
 
   pub search_finds : (es : List (K × V)) (r : Result ℕ ℕ) → IsTrue (is_sorted R es) → IsSearchInRange r (length es) → IsBinarySearchResult (λ (e : K × V). R e.0 k) es r → IfOk r (IsAt R k es) × IfErr r (IsGap R k es)
   search_finds es (Ok i) s range found = (at_from es i s range found, tt)
-  search_finds es (Err i) s range parted = let p = parted (comparisons_rise R o k es s) in (tt, gap_from es i range p.0 p.1)
+  search_finds es (Err i) s range parted = let p = parted (comparisons_ascend R o k es s) in (tt, gap_from es i range p.0 p.1)
 
   at_last : (es : List (K × V)) (l : K × V) → IsTrue (is_sorted R (es ++ l ∷ [])) → R l.0 k ≡ Equal → IsAt R k (es ++ l ∷ []) (length es)
   at_last [] l s h = turned R o l.0 k Equal h
   at_last (e ∷ es) l s h = (above_lesser R o k e.0 l.0 (below_last e.0 es l (and_parts _ _ s).0) h, at_last es l (and_parts _ _ s).1 h)
 
-  gap_behind : (es : List (K × V)) (l : K × V) → IsTrue (is_sorted R (es ++ l ∷ [])) → R l.0 k ≡ Less → IsGap R k (es ++ l ∷ []) (length (es ++ l ∷ []))
-  gap_behind [] l s h = (turned R o l.0 k Less h, tt)
-  gap_behind (e ∷ es) l s h = (
+  gap_after : (es : List (K × V)) (l : K × V) → IsTrue (is_sorted R (es ++ l ∷ [])) → R l.0 k ≡ Less → IsGap R k (es ++ l ∷ []) (length (es ++ l ∷ []))
+  gap_after [] l s h = (turned R o l.0 k Less h, tt)
+  gap_after (e ∷ es) l s h = (
     turned R o e.0 k Less (o.trans e.0 l.0 k (below_last e.0 es l (and_parts _ _ s).0) h),
-    gap_behind es l (and_parts _ _ s).1 h,
+    gap_after es l (and_parts _ _ s).1 h,
   )
 
   -- the last pair has the key
   pub last_has : (es before : List (K × V)) (l : K × V) → es ≡ before ++ l ∷ [] → IsTrue (is_sorted R es) → R l.0 k ≡ Equal → IsAt R k es (length before)
   last_has es before l e s h = subst (λ (x : List (K × V)). IsAt R k x (length before)) (sym e) (at_last before l (subst (λ (x : List (K × V)). IsTrue (is_sorted R x)) e s) h)
 
-  -- the key would stand behind the last pair
-  pub behind_last : (es before : List (K × V)) (l : K × V) → es ≡ before ++ l ∷ [] → IsTrue (is_sorted R es) → R l.0 k ≡ Less → IsGap R k es (length es)
-  behind_last es before l e s h = subst (λ (x : List (K × V)). IsGap R k x (length x)) (sym e) (gap_behind before l (subst (λ (x : List (K × V)). IsTrue (is_sorted R x)) e s) h)
+  -- the key belongs after the last pair
+  pub after_last : (es before : List (K × V)) (l : K × V) → es ≡ before ++ l ∷ [] → IsTrue (is_sorted R es) → R l.0 k ≡ Less → IsGap R k es (length es)
+  after_last es before l e s h = subst (λ (x : List (K × V)). IsGap R k x (length x)) (sym e) (gap_after before l (subst (λ (x : List (K × V)). IsTrue (is_sorted R x)) e s) h)

@@ -1,11 +1,11 @@
-//! One pass over sorted pairs: those that are passed, and those that are not.
+//! One pass over sorted pairs, which are held in two parts: those already passed, and those still ahead.
 ghost use Rattle.std.specs.{Prelude.{◌≡◌, ◌+◌, ◌<◌, ◌≤◌, ◌++◌, [], take, drop, vec_len, vec_capacity}, VecDeque.{deque_len}};
 ghost use Rattle.sorted_pairs.specs.Places.{AreBelow, IsNotBelow};
 
 use std::collections::VecDeque;
 
-/// Passes the pairs whose keys are below the given one. No pair is lost, and none is moved past
-/// another. Linear in the pairs that are passed.
+/// Moves the pairs whose keys are below `key` to `passed`. No pair is lost or reordered. Linear in the pairs that it
+/// moves.
 pub fn pass_below<K: Ord + Drop, V: Drop>(
     passed: &mut Vec<(K, V)>,
     rest: &mut VecDeque<(K, V)>,
@@ -27,7 +27,7 @@ pub fn pass_below<K: Ord + Drop, V: Drop>(
     }
 }
 
-/// Passes all pairs that are left. Linear in them.
+/// Moves all remaining pairs to `passed`. Linear in them.
 pub fn pass_all<K: Drop, V: Drop>(passed: &mut Vec<(K, V)>, rest: &mut VecDeque<(K, V)>)
     requires room { vec_len passed.old + deque_len rest.old ≤ vec_capacity passed.old }
     ensures pairs { passed.new.items ≡ passed.old.items ++ rest.old.items }
@@ -38,7 +38,7 @@ pub fn pass_all<K: Drop, V: Drop>(passed: &mut Vec<(K, V)>, rest: &mut VecDeque<
     }
 }
 
-// Passes the first pair that is left.
+// Moves the first remaining pair.
 fn pass_one<K: Drop, V: Drop>(passed: &mut Vec<(K, V)>, rest: &mut VecDeque<(K, V)>)
     requires room { vec_len passed.old + deque_len rest.old ≤ vec_capacity passed.old }
     requires some { 0 < deque_len rest.old }

@@ -1,11 +1,11 @@
-//! Places of keys.
+//! Positions of keys among sorted pairs.
 ghost use Rattle.std.specs.{Prelude.{◌≡◌, ◌≤◌, ◌<◌, length, IsTrue, IfOk, IfErr}, FinMap.{is_sorted}};
 ghost use Rattle.sorted_pairs.specs.Places.{IsAt, IsGap};
 
 use std::cmp::Ordering;
 
-/// Where a key stands among sorted pairs, or as an error where it would stand. O(log n); at the last pair or behind
-/// it, a comparison alone.
+/// Returns the index of a key among sorted pairs, or as an error the index at which it would be inserted. O(log n); for
+/// a key at or after the last pair, a single comparison.
 pub fn seek<K: Ord, V>(pairs: &[(K, V)], key: &K) -> Result<usize, usize>
     requires sorted { IsTrue (is_sorted K.cmp pairs.now) }
     ensures found { IfOk result (IsAt K.cmp key.now pairs.now) }

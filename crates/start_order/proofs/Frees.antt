@@ -1,38 +1,34 @@
--- The least of nodes that can start, and what is left when it is taken.
-use Rattle.std.proofs.Common.{◌≡◌, ℕ, ◌<◌, ◌≤◌, ◌↔◌, inl, inr, false, List, [], ◌∷◌, ◌++◌, Option, Some, None, length, get_or, drop, min, refl, sym, ◌∙◌, subst, arith}
-use Rattle.std.specs.List.{All, AllByRecursion, slice_get}
-use Rattle.std.specs.List.Sorted.{IsStrictlySortedBy}
-use Rattle.std.specs.Option.{MatchOption}
-use Rattle.std.specs.Ordering.{nat_cmp, is_gt}
-use Rattle.std.specs.BTreeMap.Range.{IsLeBy}
-use Rattle.std.specs.declared.cmp.Ordering.{Ordering}
-use Rattle.std.specs.declared.cmp.Ordering.TheVariants.{Less, Greater}
-use Rattle.std.specs.Cmp.{nat_cmp_is}
+-- The least of the nodes that can start, and what is left when it is removed.
+use Rattle.std.proofs.Common.{[], ◌++◌, ◌<◌, ◌↔◌, ◌∙◌, ◌∷◌, ◌≡◌, ◌≤◌, All, arith, drop, false, get_or, inl, inr, length, List, MatchOption, min, None, Option, refl, slice_get, Some, subst, sym, ℕ}
 use Rattle.std.proofs.lemmas.Bool.{cases_lt}
-use Rattle.list_laws.specs.Members.{IsAmong, IsAmong-append_cases, IsAmong-append_left, IsAmong-append_right}
-use Rattle.index_rows.specs.ListLaws.{All-among, cmp_below}
-use Rattle.index_rows.specs.Spreads.{lesser_of}
-use Rattle.start_order.specs.Counts.{IsLeastIn}
+use Rattle.std.specs.BTreeMap.Range.{IsLeBy}
+use Rattle.std.specs.Cmp.{nat_cmp_is}
+use Rattle.std.specs.List.{AllByRecursion}
+use Rattle.std.specs.Ordering.{is_gt, nat_cmp}
+use Rattle.std.specs.declared.cmp.Ordering.{Ordering}
+use Rattle.std.specs.declared.cmp.Ordering.TheVariants.{Greater, Less}
+use Rattle.start_order.proofs.Prelude.{All-among, cmp_below, IsAmong, IsAmong-append_cases, IsAmong-append_left, IsAmong-append_right, IsLeastIn, lesser_of}
+use Rattle.std.specs.List.Sorted.{IsStrictlySortedBy}
 
 above_all : (x v : ℕ) (xs : List ℕ) → AllByRecursion (λ y. nat_cmp x y ≡ Less) xs → IsAmong v xs → x < v
 above_all x v [] a h = absurd h
 above_all x v (y ∷ ys) a (inl e) = subst (λ w. x < w) e (cmp_below x y a.0)
 above_all x v (y ∷ ys) a (inr h) = above_all x v ys a.1 h
 
--- the first of nodes that rise is the least
-pub front_least : (items : List ℕ) (x : ℕ) → x ≡ get_or items 0 x → 0 < length items → IsStrictlySortedBy nat_cmp items → IsLeastIn items x
+-- the first of nodes in ascending order is the least
+pub prefix_least : (items : List ℕ) (x : ℕ) → x ≡ get_or items 0 x → 0 < length items → IsStrictlySortedBy nat_cmp items → IsLeastIn items x
 unfolding IsStrictlySortedBy
-front_least [] x e l s = absurd (omega arith)
-front_least (y ∷ ys) x e l s = (
+prefix_least [] x e l s = absurd (omega arith)
+prefix_least (y ∷ ys) x e l s = (
   inl (sym e),
   λ v h. elim h [ inl f ↦ omega (arith, e, f) | inr a ↦ (let b = above_all y v ys s.0 a in omega (arith, e, b)) ],
 )
 
--- without it they rise still
-pub rest_rises : (old new : List ℕ) → new ≡ drop 1 old → IsStrictlySortedBy nat_cmp old → IsStrictlySortedBy nat_cmp new
+-- without it they are still in ascending order
+pub rest_ascends : (old new : List ℕ) → new ≡ drop 1 old → IsStrictlySortedBy nat_cmp old → IsStrictlySortedBy nat_cmp new
 unfolding IsStrictlySortedBy
-rest_rises [] new e s = subst (IsStrictlySortedBy nat_cmp) (sym e) s
-rest_rises (x ∷ xs) new e s = subst (IsStrictlySortedBy nat_cmp) (sym e) s.1
+rest_ascends [] new e s = subst (IsStrictlySortedBy nat_cmp) (sym e) s
+rest_ascends (x ∷ xs) new e s = subst (IsStrictlySortedBy nat_cmp) (sym e) s.1
 
 -- and the others are left
 pub rest_left : (old new : List ℕ) (node : ℕ) → new ≡ drop 1 old → IsStrictlySortedBy nat_cmp old → IsLeastIn old node → (v : ℕ) → IsAmong v new ↔ (IsAmong v old × ¬ (node ≡ v))
@@ -47,7 +43,7 @@ rest_left (x ∷ xs) new node e s l v =
       λ h. subst P (sym e) (elim h.0 [ inl f ↦ absurd (h.1 (sym same ∙ f)) | inr a ↦ a ]),
     )
 
--- a node that isn't there leaves all
+-- removing a node that isn't there leaves all
 pub all_left : (old : List ℕ) (node : ℕ) → ¬ IsAmong node old → (v : ℕ) → IsAmong v old ↔ (IsAmong v old × ¬ (node ≡ v))
 all_left old node out v = (λ h. (h, λ e. out (let P : ℕ → Type 0 = λ w. IsAmong w old in subst P (sym e) h)), λ h. h.0)
 
@@ -69,7 +65,7 @@ key_least keys k e all = (there keys e, λ v h. not_greater k v (All-among (IsLe
     there [] f = cc
     there (x ∷ xs) f = inl (let g : Some x ≡ Some k = f in cc (g))
 
--- what is left where the least key was taken
+-- what is left when the least key was removed
 pub popped : (old new : List ℕ) (r : Option ℕ) (node : ℕ) → IsLeastIn old node → MatchOption r ((v : ℕ) → ¬ IsAmong v old) (λ k. IsAmong k old × ((v : ℕ) → IsAmong v old → k ≤ v))
     → MatchOption r ((v : ℕ) → ¬ IsAmong v new) (λ k. (v : ℕ) → IsAmong v new ↔ (IsAmong v old × ¬ (k ≡ v))) → (v : ℕ) → IsAmong v new ↔ (IsAmong v old × ¬ (node ≡ v))
 popped old new None node l none rest = absurd (none node l.0)
@@ -98,7 +94,7 @@ module _ (first later : List ℕ) where
         (IsAmong-append_right y first later q.0, λ v h. elim (IsAmong-append_cases v first later h) [ inl a ↦ (let b = p.1 v a in omega (arith, b, l)) | inr a ↦ q.1 v a ]))
   ]
 
--- the least, as it was found
+-- the least node, as it was found
 pub found : (first later whole : List ℕ) (a b r : Option ℕ) → first ++ later ≡ whole → r ≡ lesser_of a b → MatchOption a ((v : ℕ) → ¬ IsAmong v first) (IsLeastIn first) → MatchOption b ((v : ℕ) → ¬ IsAmong v later) (IsLeastIn later)
     → MatchOption r ((v : ℕ) → ¬ IsAmong v whole) (IsLeastIn whole)
 found first later whole a b r e f p q =

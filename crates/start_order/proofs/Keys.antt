@@ -1,23 +1,21 @@
--- Keys that are put in and taken out.
-use Rattle.std.proofs.Common.{◌≡◌, ℕ, ◌<◌, ◌≤◌, ◌⊎◌, inl, inr, List, [], ◌∷◌, length, refl, sym, subst, arith, ◌↔◌, Option, Some, None}
-use Rattle.std.specs.List.{All}
-use Rattle.std.specs.BTreeSet.{insert_key}
+-- Keys that are inserted and removed.
+use Rattle.std.proofs.Common.{[], ◌<◌, ◌↔◌, ◌∷◌, ◌≡◌, ◌≤◌, ◌⊎◌, All, arith, inl, inr, IsSome, length, List, MatchOption, None, Option, refl, Some, subst, sym, ℕ}
 use Rattle.std.specs.BTreeMap.Range.{IsLtBy}
+use Rattle.std.specs.BTreeSet.{insert_key}
 use Rattle.std.specs.FinMap.{nat_cmp-IsAntisymmetric}
+use Rattle.std.specs.Option.{IfNone}
 use Rattle.std.specs.Ordering.{nat_cmp}
-use Rattle.std.specs.Option.{IfSome, IfNone, IsSome, MatchOption}
-use Rattle.list_laws.specs.Insertions.{put_kept, put_sound, put_there}
-use Rattle.list_laws.specs.Members.{IsAmong}
-use Rattle.index_rows.specs.ListLaws.{All-among, cmp_below}
+use Rattle.std.specs.Prelude.{IfSome}
+use Rattle.start_order.proofs.Prelude.{All-among, cmp_below, IsAmong, put_kept, put_sound, put_there}
 
--- a key put in
+-- a key is inserted
 pub IsAmong-insert_key : (ks : List ℕ) (k v : ℕ) → IsAmong v (insert_key nat_cmp ks k) ↔ (IsAmong v ks ⊎ (k ≡ v))
 IsAmong-insert_key ks k v = (
   put_sound nat_cmp k ks v,
   λ h. elim h [ inl n ↦ put_kept nat_cmp k ks v n | inr e ↦ subst (λ w. IsAmong w (insert_key nat_cmp ks k)) e (put_there nat_cmp nat_cmp-IsAntisymmetric k ks) ],
 )
 
--- the least key taken
+-- the least key is removed
 taken : (k : ℕ) (old new : List ℕ) → old ≡ k ∷ new → All (IsLtBy nat_cmp k) new → IsAmong k old × ((v : ℕ) → IsAmong v old → k ≤ v)
 taken k old new e above =
     let P : List ℕ → Type 0 = λ l. IsAmong k l × ((v : ℕ) → IsAmong v l → k ≤ v) in

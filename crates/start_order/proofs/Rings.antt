@@ -1,45 +1,37 @@
--- The walk from the least stuck node, and the ring to which it comes.
-use Rattle.std.proofs.Common.{◌≡◌, ℕ, ◌+◌, ◌<◌, ◌≤◌, ◌↔◌, inl, inr, Bool, true, List, [], ◌∷◌, ◌++◌, length, get_or, take, drop, reverse, set, refl, ap, sym, ◌∙◌, subst, arith, append-nil, append_assoc}
+-- The walk from the least stuck node, and the ring that it ends in.
+use Rattle.std.proofs.Common.{[], ◌++◌, ◌+◌, ◌<◌, ◌↔◌, ◌∙◌, ◌∷◌, ◌≡◌, ◌≤◌, ap, append-nil, append_assoc, arith, Bool, drop, get_or, inl, inr, length, List, refl, reverse, set, subst, sym, take, true, ℕ}
+use Rattle.std.proofs.lemmas.List.{drop_more, get_or_default, reverse-append, take-append-drop}
 use Rattle.std.specs.Ordering.{nat_cmp}
-use Rattle.std.proofs.lemmas.List.{reverse-append, take-append-drop, drop_more, get_or_default}
-use Rattle.list_laws.specs.Members.{IsAmong, IsAmong-append_cases, IsAmong-append_left, IsAmong-append_right, contains_from_among}
-use Rattle.name_closure.specs.Chains.{IsReached}
-use Rattle.name_closure.specs.ClosureLaws.{reached_closed}
-use Rattle.index_rows.specs.Rows.{Marked}
-use Rattle.index_rows.specs.MarkLaws.{Marked-set, Marked-set_same, Marked-set_other}
-use Rattle.index_rows.specs.ListLaws.{IsAmong-push, IsAmong-push_cases, below_cmp}
-use Rattle.index_rows.specs.Least.{IsLeast}
-use Rattle.start_order.specs.StartOrder.{IsBlocker, IsBlockedAlong, IsCycle}
-use Rattle.start_order.specs.Walks.{AreDistinct, LeadsBack, LeadsTo, IsWalk}
+use Rattle.start_order.proofs.Prelude.{AreDistinct, below_cmp, contains_from_among, IsAmong, IsAmong-append_cases, IsAmong-append_left, IsAmong-append_right, IsAmong-push, IsAmong-push_cases, IsBlockedAlong, IsBlocker, IsCycle, IsLeast, IsMember, IsMember-set, IsMember-set_other, IsMember-set_same, IsReached, IsWalk, LeadsBack, LeadsTo, reached_closed}
 
--- marks that agree with a list still do after one more of both
-pub agree_push : (marks : List Bool) (list : List ℕ) (u : ℕ) → u < length marks → ((v : ℕ) → Marked marks v ↔ IsAmong v list) → (v : ℕ) → Marked (set marks u true) v ↔ IsAmong v (list ++ u ∷ [])
-agree_push marks list u lt h v = (
-  λ m. elim (Marked-set marks u v lt m) [
+-- a set that agrees with a list still does when a node is added to both
+pub agree_push : (bits : List Bool) (list : List ℕ) (u : ℕ) → u < length bits → ((v : ℕ) → IsMember bits v ↔ IsAmong v list) → (v : ℕ) → IsMember (set bits u true) v ↔ IsAmong v (list ++ u ∷ [])
+agree_push bits list u lt h v = (
+  λ m. elim (IsMember-set bits u v lt m) [
     | inl k ↦ IsAmong-append_left v list (u ∷ []) ((h v).0 k)
     | inr e ↦ (let P : ℕ → Type 0 = λ w. IsAmong w (list ++ u ∷ []) in subst P e (IsAmong-push u list))
   ],
   λ k. elim (IsAmong-push_cases u v list k) [
-    | inl a ↦ Marked-set_other marks u v ((h v).1 a)
-    | inr e ↦ (let P : ℕ → Type 0 = λ w. Marked (set marks u true) w in subst P e (Marked-set_same marks u lt))
+    | inl a ↦ IsMember-set_other bits u v ((h v).1 a)
+    | inr e ↦ (let P : ℕ → Type 0 = λ w. IsMember (set bits u true) w in subst P e (IsMember-set_same bits u lt))
   ],
 )
 
--- ---- lists of which no two are alike
+-- ---- lists of distinct members
 
 distinct_push : (xs : List ℕ) (x : ℕ) → AreDistinct xs → ¬ IsAmong x xs → AreDistinct (xs ++ x ∷ [])
 distinct_push [] x d out = (λ h. h, tt)
 distinct_push (y ∷ ys) x d out = (λ h. elim (IsAmong-push_cases x y ys h) [ inl a ↦ d.0 a | inr e ↦ out (inl (sym e)) ], distinct_push ys x d.1 (λ h. out (inr h)))
 
-distinct_behind : (xs ys : List ℕ) → AreDistinct (xs ++ ys) → AreDistinct ys
-distinct_behind [] ys d = d
-distinct_behind (x ∷ xs) ys d = distinct_behind xs ys d.1
+distinct_after : (xs ys : List ℕ) → AreDistinct (xs ++ ys) → AreDistinct ys
+distinct_after [] ys d = d
+distinct_after (x ∷ xs) ys d = distinct_after xs ys d.1
 
--- the two parts change places
-distinct_turned : (xs ys : List ℕ) → AreDistinct (xs ++ ys) → AreDistinct (ys ++ xs)
-distinct_turned [] ys d = subst AreDistinct (sym (append-nil ys)) d
-distinct_turned (x ∷ xs) ys d =
-    let more : AreDistinct ((ys ++ x ∷ []) ++ xs) = distinct_turned xs (ys ++ x ∷ []) (subst AreDistinct (append_assoc xs ys (x ∷ [])) (distinct_push (xs ++ ys) x d.1 d.0)) in
+-- the two parts are swapped
+distinct_transposed : (xs ys : List ℕ) → AreDistinct (xs ++ ys) → AreDistinct (ys ++ xs)
+distinct_transposed [] ys d = subst AreDistinct (sym (append-nil ys)) d
+distinct_transposed (x ∷ xs) ys d =
+    let more : AreDistinct ((ys ++ x ∷ []) ++ xs) = distinct_transposed xs (ys ++ x ∷ []) (subst AreDistinct (append_assoc xs ys (x ∷ [])) (distinct_push (xs ++ ys) x d.1 d.0)) in
     subst AreDistinct (append_assoc ys (x ∷ []) xs) more
 
 reverse-cons : (x : ℕ) (xs : List ℕ) → reverse (x ∷ xs) ≡ reverse xs ++ x ∷ []
@@ -97,37 +89,37 @@ module _ (stuck : ℕ → Type 0) (before : ℕ → ℕ → Type 0) where
   along_more a [] x qs z p q = (p, q)
   along_more a (y ∷ ps) x qs z p q = (p.0, along_more y ps x qs z p.1 q)
 
-  along_front : (a : ℕ) (ps : List ℕ) (x : ℕ) (qs : List ℕ) (z : ℕ) → IsBlockedAlong nat_cmp stuck before a (ps ++ x ∷ qs) z → IsBlockedAlong nat_cmp stuck before a ps x × IsBlockedAlong nat_cmp stuck before x qs z
-  along_front a [] x qs z h = h
-  along_front a (y ∷ ps) x qs z h = let r = along_front y ps x qs z h.1 in ((h.0, r.0), r.1)
+  along_prefix : (a : ℕ) (ps : List ℕ) (x : ℕ) (qs : List ℕ) (z : ℕ) → IsBlockedAlong nat_cmp stuck before a (ps ++ x ∷ qs) z → IsBlockedAlong nat_cmp stuck before a ps x × IsBlockedAlong nat_cmp stuck before x qs z
+  along_prefix a [] x qs z h = h
+  along_prefix a (y ∷ ps) x qs z h = let r = along_prefix y ps x qs z h.1 in ((h.0, r.0), r.1)
 
-  -- one goes round from any place
-  goes_round_turned : (ps qs : List ℕ) → GoesRound (ps ++ qs) → GoesRound (qs ++ ps)
-  goes_round_turned [] qs h = subst GoesRound (sym (append-nil qs)) h
-  goes_round_turned (y ∷ ps) [] h = subst GoesRound (append-nil (y ∷ ps)) h
-  goes_round_turned (y ∷ ps) (x ∷ qs) h = let r = along_front y ps x qs y h in along_more x qs y ps x r.1 r.0
+  -- a ring can be rotated to any place
+  goes_round_transposed : (ps qs : List ℕ) → GoesRound (ps ++ qs) → GoesRound (qs ++ ps)
+  goes_round_transposed [] qs h = subst GoesRound (sym (append-nil qs)) h
+  goes_round_transposed (y ∷ ps) [] h = subst GoesRound (append-nil (y ∷ ps)) h
+  goes_round_transposed (y ∷ ps) (x ∷ qs) h = let r = along_prefix y ps x qs y h in along_more x qs y ps x r.1 r.0
 
-  -- what leads back over a list is blocked along the list turned round
+  -- what leads back over a list is blocked along the reversed list
   along_reverse : (u : ℕ) (ws : List ℕ) (v : ℕ) → LeadsBack stuck before u ws v → IsBlockedAlong nat_cmp stuck before v (reverse ws) u
   along_reverse u [] v h = h
   along_reverse u (w ∷ ws) v h =
       let P : List ℕ → Type 0 = λ l. IsBlockedAlong nat_cmp stuck before v l u in
       subst P (sym (reverse-cons w ws)) (along_more v (reverse ws) w [] u (along_reverse w ws v h.1) h.0)
 
-  leads_back_behind : (u : ℕ) (front : List ℕ) (x : ℕ) (ws : List ℕ) (v : ℕ) → LeadsBack stuck before u (front ++ x ∷ ws) v → LeadsBack stuck before x ws v
-  leads_back_behind u [] x ws v h = h.1
-  leads_back_behind u (y ∷ front) x ws v h = leads_back_behind y front x ws v h.1
+  leads_back_after : (u : ℕ) (prefix : List ℕ) (x : ℕ) (ws : List ℕ) (v : ℕ) → LeadsBack stuck before u (prefix ++ x ∷ ws) v → LeadsBack stuck before x ws v
+  leads_back_after u [] x ws v h = h.1
+  leads_back_after u (y ∷ prefix) x ws v h = leads_back_after y prefix x ws v h.1
 
-  leads_to_behind : (front : List ℕ) (x : ℕ) (ws : List ℕ) (v : ℕ) → LeadsTo stuck before (front ++ x ∷ ws) v → LeadsBack stuck before x ws v
-  leads_to_behind [] x ws v h = h
-  leads_to_behind (y ∷ front) x ws v h = leads_back_behind y front x ws v h
+  leads_to_after : (prefix : List ℕ) (x : ℕ) (ws : List ℕ) (v : ℕ) → LeadsTo stuck before (prefix ++ x ∷ ws) v → LeadsBack stuck before x ws v
+  leads_to_after [] x ws v h = h
+  leads_to_after (y ∷ prefix) x ws v h = leads_back_after y prefix x ws v h
 
-  -- from where the walk met the node to which it has come, it goes round
-  closes : (front : List ℕ) (next : ℕ) (loop : List ℕ) → LeadsTo stuck before (front ++ next ∷ loop) next → GoesRound (reverse (next ∷ loop))
-  closes front next loop h =
-      subst GoesRound (sym (reverse-cons next loop)) (goes_round_turned (next ∷ []) (reverse loop) (along_reverse next loop next (leads_to_behind front next loop next h)))
+  -- from the node that the walk met twice, the walk is a ring
+  closes : (prefix : List ℕ) (next : ℕ) (loop : List ℕ) → LeadsTo stuck before (prefix ++ next ∷ loop) next → GoesRound (reverse (next ∷ loop))
+  closes prefix next loop h =
+      subst GoesRound (sym (reverse-cons next loop)) (goes_round_transposed (next ∷ []) (reverse loop) (along_reverse next loop next (leads_to_after prefix next loop next h)))
 
-  -- a ring that is turned to its least node is the cycle
+  -- a ring that is rotated to its least node is the cycle
   ring_is_cycle : (ring : List ℕ) → GoesRound ring → AreDistinct ring → ((u : ℕ) → IsAmong u ring → Met u) → ((x : ℕ) (xs : List ℕ) → ring ≡ x ∷ xs → (u : ℕ) → IsAmong u xs → x ≤ u) → IsCycle nat_cmp stuck before ring
   ring_is_cycle [] g d m l = g
   ring_is_cycle (x ∷ xs) g d m l = record {
@@ -139,37 +131,37 @@ module _ (stuck : ℕ → Type 0) (before : ℕ → ℕ → Type 0) where
       apart : (a b : ℕ) → a ≤ b → ¬ (a ≡ b) → a < b
       apart a b le ne = omega arith
 
-  -- the list from a place on, turned round and then turned to the place of its least
+  -- the list from a position on, reversed, and then rotated to the position of its least node
   pub cycle_of_walk : (met : List ℕ) (next at first : ℕ) (ring : List ℕ) → IsWalk stuck before met next → at < length met → get_or met at 0 ≡ next
       → ring ≡ reverse (drop at met) → first < length ring → ((k : ℕ) → k < length ring → get_or ring first 0 ≤ get_or ring k 0)
       → IsCycle nat_cmp stuck before (drop first ring ++ take first ring)
-  cycle_of_walk met next at first ring w lt is e in' least = ring_is_cycle turned (goes_round_turned (take first ring) (drop first ring) (subst GoesRound (sym whole) round)) distinct met_all first_least
+  cycle_of_walk met next at first ring w lt is e in' least = ring_is_cycle transposed (goes_round_transposed (take first ring) (drop first ring) (subst GoesRound (sym whole) round)) distinct met_all first_least
     where
-      turned : List ℕ
-      turned = drop first ring ++ take first ring
+      transposed : List ℕ
+      transposed = drop first ring ++ take first ring
 
       loop : List ℕ
       loop = drop (at + 1) met
 
-      behind : drop at met ≡ next ∷ loop
-      behind = drop_more met at 0 lt ∙ ap (λ x. x ∷ drop (at + 1) met) is
+      after : drop at met ≡ next ∷ loop
+      after = drop_more met at 0 lt ∙ ap (λ x. x ∷ drop (at + 1) met) is
 
       walked : met ≡ take at met ++ next ∷ loop
-      walked = sym (take-append-drop at met) ∙ ap (λ l. take at met ++ l) behind
+      walked = sym (take-append-drop at met) ∙ ap (λ l. take at met ++ l) after
 
       whole : take first ring ++ drop first ring ≡ ring
       whole = take-append-drop first ring
 
       ring_is : ring ≡ reverse (next ∷ loop)
-      ring_is = e ∙ ap reverse behind
+      ring_is = e ∙ ap reverse after
 
       round : GoesRound ring
       round = subst GoesRound (sym ring_is) (closes (take at met) next loop (let P : List ℕ → Type 0 = λ l. LeadsTo stuck before l next in subst P walked w.led))
 
       distinct : AreDistinct (drop first ring ++ take first ring)
       distinct =
-          distinct_turned (take first ring) (drop first ring)
-          (subst AreDistinct (sym whole) (subst AreDistinct (sym ring_is) (distinct_reverse (next ∷ loop) (distinct_behind (take at met) (next ∷ loop) (subst AreDistinct walked w.distinct)))))
+          distinct_transposed (take first ring) (drop first ring)
+          (subst AreDistinct (sym whole) (subst AreDistinct (sym ring_is) (distinct_reverse (next ∷ loop) (distinct_after (take at met) (next ∷ loop) (subst AreDistinct walked w.distinct)))))
 
       in_ring : (u : ℕ) → IsAmong u (drop first ring ++ take first ring) → IsAmong u ring
       in_ring u h =

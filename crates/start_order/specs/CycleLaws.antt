@@ -1,21 +1,18 @@
 -- There is one cycle.
-use Rattle.std.proofs.Common.{◌≡◌, ℕ, zero, suc, ◌≤◌, ◌⊎◌, inl, inr, List, [], ◌∷◌, ◌++◌, refl, ap, sym, ◌∙◌, subst, arith, append_assoc}
+use Rattle.std.proofs.Common.{[], ◌++◌, ◌∙◌, ◌∷◌, ◌≡◌, ◌≤◌, ◌⊎◌, ap, append_assoc, arith, inl, inr, List, refl, subst, suc, sym, zero, ℕ}
+use Rattle.std.proofs.lemmas.Cmp.{tied_itself}
 use Rattle.std.specs.Cmp.{IsTotalOrder}
 use Rattle.std.specs.FinMap.{IsAntisymmetric}
 use Rattle.std.specs.declared.cmp.Ordering.{Ordering}
 use Rattle.std.specs.declared.cmp.Ordering.TheVariants.{Less}
-use Rattle.std.proofs.lemmas.Cmp.{tied_itself}
-use Rattle.list_laws.specs.Members.{IsAmong, IsAmong-append_cases}
-use Rattle.name_closure.specs.Chains.{IsChain, IsReached}
-use Rattle.index_rows.specs.Least.{IsLeast}
-use Rattle.start_order.specs.StartOrder.{IsBlocker, IsBlockedAlong, IsRing, IsCycle}
-use Rattle.start_order.specs.OrderLaws.{one_least, same_unless_less, least_along}
+use Rattle.start_order.specs.Prelude.{IsAmong, IsAmong-append_cases, IsChain, IsLeast, IsReached}
+use Rattle.start_order.specs.{OrderLaws.least_along, OrderLaws.one_least, OrderLaws.same_unless_less, StartOrder.IsBlockedAlong, StartOrder.IsBlocker, StartOrder.IsCycle, StartOrder.IsRing}
 
 module _ {N : Type 0} (order : N → N → Ordering) (stuck : N → Type 0) (before : N → N → Type 0) where
-  abbrev steps : N → N → Type 0
-  steps u v = IsBlocker order stuck before v u
+  abbrev successors : N → N → Type 0
+  successors u v = IsBlocker order stuck before v u
 
-  -- a step from a node of the list, or from its end, stays in the list or at its beginning
+  -- a node is on the list with `first` before it
   abbrev IsOn : N → List N → N → Type 0
   IsOn first rest u = IsAmong u (first ∷ rest)
 
@@ -32,7 +29,7 @@ module _ {N : Type 0} (order : N → N → Ordering) (stuck : N → Type 0) (bef
     one_blocker : (u v w : N) → IsBlocker order stuck before u w → IsBlocker order stuck before v w → u ≡ v
     one_blocker u v w = one_least order total exact (λ x. stuck x × before x w) u v
 
-    -- the blocker of a node on a ring is on it
+    -- the blocker of a node on a ring is on the ring
     stays_along : (a : N) (xs : List N) (b z w : N) → IsBlockedAlong order stuck before a xs b → (z ≡ b) ⊎ IsAmong z xs → IsBlocker order stuck before w z → IsAmong w (a ∷ xs)
     stays_along a [] b z w ch (inl e) l = let P : N → Type 0 = IsBlocker order stuck before w in inl (one_blocker a w b ch (subst P e l))
     stays_along a [] b z w ch (inr h) l = absurd h
@@ -44,13 +41,13 @@ module _ {N : Type 0} (order : N → N → Ordering) (stuck : N → Type 0) (bef
     stays x xs z w ch (inl e) l = stays_along x xs x z w ch (inl (sym e)) l
     stays x xs z w ch (inr h) l = stays_along x xs x z w ch (inr h) l
 
-    -- a chain of steps that begins on a ring ends on it
-    chain_stays : (x : N) (xs : List N) (s : N → Type 0) → ((z : N) → s z → IsAmong z (x ∷ xs)) → IsBlockedAlong order stuck before x xs x → (k : ℕ) (w : N) → IsChain s steps k w → IsAmong w (x ∷ xs)
+    -- a chain that begins on a ring ends on it
+    chain_stays : (x : N) (xs : List N) (s : N → Type 0) → ((z : N) → s z → IsAmong z (x ∷ xs)) → IsBlockedAlong order stuck before x xs x → (k : ℕ) (w : N) → IsChain s successors k w → IsAmong w (x ∷ xs)
     chain_stays x xs s on ch zero w c = on w c
     chain_stays x xs s on ch (suc k) w c = stays x xs c.0 w ch (chain_stays x xs s on ch k c.0 c.1.0) c.1.1
 
-    -- two chains of so many steps from the least stuck node end alike
-    one_end : (k : ℕ) (u v : N) → IsChain (IsLeast order stuck) steps k u → IsChain (IsLeast order stuck) steps k v → u ≡ v
+    -- two chains of the same length from the least stuck node have the same end
+    one_end : (k : ℕ) (u v : N) → IsChain (IsLeast order stuck) successors k u → IsChain (IsLeast order stuck) successors k v → u ≡ v
     one_end zero u v c d = one_least order total exact stuck u v c d
     one_end (suc k) u v c d =
         let same : c.0 ≡ d.0 = one_end k c.0 d.0 c.1.0 d.1.0 in
@@ -63,18 +60,18 @@ module _ {N : Type 0} (order : N → N → Ordering) (stuck : N → Type 0) (bef
     equal_or_less (suc (suc j)) zero l = absurd (omega arith)
     equal_or_less (suc j) (suc k) l = elim (equal_or_less j k (omega arith)) [ inl e ↦ inl (ap suc e) | inr m ↦ inr (omega arith) ]
 
-    -- the longer of two chains from the least stuck node is on each ring on which the shorter one is
-    longer_on : (x : N) (xs : List N) → IsBlockedAlong order stuck before x xs x → (j : ℕ) (u : N) → IsChain (IsLeast order stuck) steps j u → IsAmong u (x ∷ xs)
-        → (k : ℕ) → j ≤ k → (v : N) → IsChain (IsLeast order stuck) steps k v → IsAmong v (x ∷ xs)
+    -- the longer of two chains from the least stuck node ends on each ring on which the shorter one ends
+    longer_on : (x : N) (xs : List N) → IsBlockedAlong order stuck before x xs x → (j : ℕ) (u : N) → IsChain (IsLeast order stuck) successors j u → IsAmong u (x ∷ xs)
+        → (k : ℕ) → j ≤ k → (v : N) → IsChain (IsLeast order stuck) successors k v → IsAmong v (x ∷ xs)
     longer_on x xs ch zero u c on zero l v d = let P : N → Type 0 = λ w. IsAmong w (x ∷ xs) in subst P (one_end zero u v c d) on
     longer_on x xs ch (suc j) u c on zero l v d = absurd (omega arith)
     longer_on x xs ch j u c on (suc k) l v d = elim (equal_or_less j k l) [
-      | inl e ↦ (let P : N → Type 0 = λ w. IsAmong w (x ∷ xs) in let Q : ℕ → Type 0 = λ i. IsChain (IsLeast order stuck) steps i u in subst P (one_end (suc k) u v (subst Q e c) d) on)
+      | inl e ↦ (let P : N → Type 0 = λ w. IsAmong w (x ∷ xs) in let Q : ℕ → Type 0 = λ i. IsChain (IsLeast order stuck) successors i u in subst P (one_end (suc k) u v (subst Q e c) d) on)
       | inr m ↦ stays x xs d.0 v ch (longer_on x xs ch j u c on k m d.0 d.1.0) d.1.1
     ]
 
-    -- going from a node on a ring to blockers one comes to its beginning
-    comes_home : (a : N) (xs : List N) (b z : N) → IsBlockedAlong order stuck before a xs b → IsAmong z xs → IsReached (λ w. w ≡ z) steps a
+    -- following blockers from a node on a ring leads to its beginning
+    comes_home : (a : N) (xs : List N) (b z : N) → IsBlockedAlong order stuck before a xs b → IsAmong z xs → IsReached (λ w. w ≡ z) successors a
     comes_home a [] b z ch h = absurd h
     comes_home a (x ∷ xs) b z ch (inl e) = record { steps = 1; chain = (x, (e, ch.0)) }
     comes_home a (x ∷ xs) b z ch (inr h) = let r = comes_home x xs b z ch.1 h in record { steps = suc r.steps; chain = (x, (r.chain, ch.0)) }
@@ -86,7 +83,7 @@ module _ {N : Type 0} (order : N → N → Ordering) (stuck : N → Type 0) (bef
     not_before_first x xs u r (inl e) h = let P : N → Type 0 = λ w. order w x ≡ Less in less_itself x (subst P (sym e) h)
     not_before_first x xs u r (inr a) h = less_itself x (total.trans x u x (r.least u a) h)
 
-    -- where y is on the ring of x, they are one
+    -- where y is on the ring of x, they are equal
     same_first_on : (x y : N) (xs ys : List N) → IsRing order stuck before x xs → IsRing order stuck before y ys → IsAmong y (x ∷ xs) → x ≡ y
     same_first_on x y xs ys p q (inl e) = e
     same_first_on x y xs ys p q (inr h) =
@@ -105,9 +102,9 @@ module _ {N : Type 0} (order : N → N → Ordering) (stuck : N → Type 0) (bef
       | inr l ↦ sym (same_first_on y x ys xs q p (longer_on y ys q.round q.met.steps y q.met.chain (inl refl) p.met.steps l x p.met.chain))
     ]
 
-    -- ---- rings that begin alike are one: going back from the end each step is the same
+    -- ---- rings with the same beginning are equal: going back from the end, each step is the same
 
-    -- the list turned round: from b each is the blocker of the one before, and a of the last
+    -- the reversed list: from b on, each is the blocker of the one before it, and a is the last one's
     abbrev IsBack : N → List N → N → Type 0
     IsBack b [] a = IsBlocker order stuck before a b
     IsBack b (z ∷ zs) a = IsBlocker order stuck before z b × IsBack z zs a
@@ -168,7 +165,7 @@ module _ {N : Type 0} (order : N → N → Ordering) (stuck : N → Type 0) (bef
         let rest : xs ≡ ys = same_rest x xs ys p (subst P (sym first) q) in
         ap (λ z. z ∷ xs) first ∙ ap (λ zs. y ∷ zs) rest
 
--- a cycle of a set is one of each set with the same members
+-- a cycle of a set is a cycle of each set with the same members
 module _ {N : Type 0} (order : N → N → Ordering) (s t : N → Type 0) (before : N → N → Type 0) (to : (v : N) → s v → t v) (from : (v : N) → t v → s v) where
   blocker_along : (v u : N) → IsBlocker order s before v u → IsBlocker order t before v u
   blocker_along v u = least_along order (λ w. s w × before w u) (λ w. t w × before w u) (λ w h. (to w h.0, h.1)) (λ w h. (from w h.0, h.1)) v

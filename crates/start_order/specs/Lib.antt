@@ -1,3 +1,4 @@
+pub mod Prelude
 pub mod StartOrder
 pub mod Precedes
 pub mod OrderLaws

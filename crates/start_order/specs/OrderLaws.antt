@@ -1,17 +1,14 @@
--- There is one least node, and one start list; what is stuck stays out of it.
-use Rattle.std.proofs.Common.{◌≡◌, inl, inr, List, [], ◌∷◌, ◌++◌, refl, ap, sym, ◌∙◌, subst, append_assoc, append-nil}
+-- There is one least node, and one start list; stuck nodes aren't in it.
+use Rattle.std.proofs.Common.{[], ◌++◌, ◌∙◌, ◌∷◌, ◌≡◌, ap, append-nil, append_assoc, inl, inr, List, refl, subst, sym}
 use Rattle.std.specs.Cmp.{IsTotalOrder}
 use Rattle.std.specs.FinMap.{IsAntisymmetric}
 use Rattle.std.specs.declared.cmp.Ordering.{Ordering}
-use Rattle.std.specs.declared.cmp.Ordering.TheVariants.{Less, Equal, Greater}
-use Rattle.list_laws.specs.Members.{IsAmong, IsAmong-append_cases}
-use Rattle.list_laws.specs.Orderings.{turned}
-use Rattle.name_closure.specs.ListedLaws.{Listed}
-use Rattle.index_rows.specs.Least.{IsLeast}
-use Rattle.start_order.specs.StartOrder.{CanStart, IsKnot, IsStuck, IsStartList}
+use Rattle.std.specs.declared.cmp.Ordering.TheVariants.{Equal, Greater, Less}
+use Rattle.start_order.specs.Prelude.{IsAmong, IsAmong-append_cases, IsLeast, Listed, turned}
+use Rattle.start_order.specs.StartOrder.{CanStart, IsKnot, IsStartList, IsStuck}
 
 module _ {N : Type 0} (order : N → N → Ordering) (total : IsTotalOrder order) (exact : IsAntisymmetric order) where
-  -- two of which neither is less are one
+  -- two nodes, neither of which is less, are equal
   pub same_unless_less : (u v : N) → ¬ (order u v ≡ Less) → ¬ (order v u ≡ Less) → u ≡ v
   same_unless_less u v a b = by (order u v) refl
     where
@@ -23,7 +20,7 @@ module _ {N : Type 0} (order : N → N → Ordering) (total : IsTotalOrder order
   pub one_least : (set : N → Type 0) (u v : N) → IsLeast order set u → IsLeast order set v → u ≡ v
   one_least set u v p q = same_unless_less u v (q.least u p.member) (p.least v q.member)
 
--- the least of a set is the least of each set with the same members
+-- the least member is the same for sets with the same members
 pub least_along : {N : Type 0} (order : N → N → Ordering) (s t : N → Type 0) → ((v : N) → s v → t v) → ((v : N) → t v → s v) → (u : N) → IsLeast order s u → IsLeast order t u
 least_along order s t to from u l = record { member = to u l.member; least = λ v m. l.least v (from v m) }
 
@@ -41,15 +38,15 @@ module _ {N : Type 0} (chosen : N → Type 0) (before : N → N → Type 0) wher
   module _ (order : N → N → Ordering) where
     -- ---- no member of a knot is in a start list
     module _ (list knot : List N) (p : IsStartList order chosen before list) (k : IsKnot chosen before knot) where
-      knot_out : (front rest : List N) → list ≡ front ++ rest → ((u : N) → IsAmong u knot → ¬ IsAmong u front) → (u : N) → IsAmong u knot → ¬ IsAmong u list
-      knot_out front [] e out u m h = out u m (let P : List N → Type 0 = IsAmong u in subst P (e ∙ append-nil front) h)
-      knot_out front (x ∷ rest) e out w o a = knot_out (front ++ x ∷ []) rest (e ∙ sym (append_assoc front (x ∷ []) rest)) more w o a
+      knot_out : (prefix rest : List N) → list ≡ prefix ++ rest → ((u : N) → IsAmong u knot → ¬ IsAmong u prefix) → (u : N) → IsAmong u knot → ¬ IsAmong u list
+      knot_out prefix [] e out u m h = out u m (let P : List N → Type 0 = IsAmong u in subst P (e ∙ append-nil prefix) h)
+      knot_out prefix (x ∷ rest) e out w o a = knot_out (prefix ++ x ∷ []) rest (e ∙ sym (append_assoc prefix (x ∷ []) rest)) more w o a
         where
-          starts : CanStart chosen before (Listed front) x
-          starts = (p.each_least front x rest e).member
+          starts : CanStart chosen before (Listed prefix) x
+          starts = (p.each_least prefix x rest e).member
 
-          more : (u : N) → IsAmong u knot → ¬ IsAmong u (front ++ x ∷ [])
-          more u m h = elim (IsAmong-append_cases u front (x ∷ []) h) [
+          more : (u : N) → IsAmong u knot → ¬ IsAmong u (prefix ++ x ∷ [])
+          more u m h = elim (IsAmong-append_cases u prefix (x ∷ []) h) [
             | inl a ↦ out u m a
             | inr a ↦ elim a [
               | inl same ↦ (let b = k.blocked u m in
@@ -64,19 +61,19 @@ module _ {N : Type 0} (chosen : N → Type 0) (before : N → N → Type 0) wher
 
     -- ---- there is one start list
     module _ (total : IsTotalOrder order) (exact : IsAntisymmetric order) (l m : List N) (p : IsStartList order chosen before l) (q : IsStartList order chosen before m) where
-      ends : (a b : List N) → IsStartList order chosen before a → IsStartList order chosen before b → (front : List N) (y : N) (ys : List N) → a ≡ front ++ [] → ¬ (b ≡ front ++ y ∷ ys)
-      ends a b s t front y ys e f =
+      ends : (a b : List N) → IsStartList order chosen before a → IsStartList order chosen before b → (prefix : List N) (y : N) (ys : List N) → a ≡ prefix ++ [] → ¬ (b ≡ prefix ++ y ∷ ys)
+      ends a b s t prefix y ys e f =
           let P : List N → Type 0 = λ k. CanStart chosen before (Listed k) y in
-          s.whole y (subst P (sym (e ∙ append-nil front)) (t.each_least front y ys f).member)
+          s.whole y (subst P (sym (e ∙ append-nil prefix)) (t.each_least prefix y ys f).member)
 
-      same_rests : (front xs ys : List N) → l ≡ front ++ xs → m ≡ front ++ ys → xs ≡ ys
-      same_rests front [] [] e f = refl
-      same_rests front [] (y ∷ ys) e f = absurd (ends l m p q front y ys e f)
-      same_rests front (x ∷ xs) [] e f = absurd (ends m l q p front x xs f e)
-      same_rests front (x ∷ xs) (y ∷ ys) e f =
-          let same : x ≡ y = one_least order total exact (CanStart chosen before (Listed front)) x y (p.each_least front x xs e) (q.each_least front y ys f) in
-          let other : m ≡ front ++ x ∷ ys = f ∙ ap (λ z. front ++ z ∷ ys) (sym same) in
-          let rests : xs ≡ ys = same_rests (front ++ x ∷ []) xs ys (e ∙ sym (append_assoc front (x ∷ []) xs)) (other ∙ sym (append_assoc front (x ∷ []) ys)) in
+      same_rests : (prefix xs ys : List N) → l ≡ prefix ++ xs → m ≡ prefix ++ ys → xs ≡ ys
+      same_rests prefix [] [] e f = refl
+      same_rests prefix [] (y ∷ ys) e f = absurd (ends l m p q prefix y ys e f)
+      same_rests prefix (x ∷ xs) [] e f = absurd (ends m l q p prefix x xs f e)
+      same_rests prefix (x ∷ xs) (y ∷ ys) e f =
+          let same : x ≡ y = one_least order total exact (CanStart chosen before (Listed prefix)) x y (p.each_least prefix x xs e) (q.each_least prefix y ys f) in
+          let other : m ≡ prefix ++ x ∷ ys = f ∙ ap (λ z. prefix ++ z ∷ ys) (sym same) in
+          let rests : xs ≡ ys = same_rests (prefix ++ x ∷ []) xs ys (e ∙ sym (append_assoc prefix (x ∷ []) xs)) (other ∙ sym (append_assoc prefix (x ∷ []) ys)) in
           ap (λ z. z ∷ xs) same ∙ ap (λ zs. y ∷ zs) rests
 
       pub one_start_list : l ≡ m

@@ -1,10 +1,9 @@
--- Which node is before which, by rows: the row of a node has those before it.
-use Rattle.std.specs.Prelude.{ℕ, List}
-use Rattle.std.specs.declared.vec.Vec.{Vec}
+-- Which node is before which, by adjacency lists: the list of a node has those before it.
+use Rattle.std.proofs.Common.{List, ℕ}
 use Rattle.std.specs.declared.alloc.Global.{Global}
-use Rattle.list_laws.specs.Members.{IsAmong}
-use Rattle.index_rows.specs.Rows.{row}
+use Rattle.std.specs.declared.vec.Vec.{Vec}
+use Rattle.start_order.specs.Prelude.{IsAmong, neighbors}
 
--- v stands in the row of u
+-- v is in the list of u
 abbrev pub Precedes : List (Vec ℕ Global) → ℕ → ℕ → Type 0
-Precedes rows v u = IsAmong v (row rows u)
+Precedes adjacency v u = IsAmong v (neighbors adjacency u)

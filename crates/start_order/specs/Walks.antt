@@ -1,23 +1,21 @@
 -- The walk from the least stuck node, from each node to its blocker. Only private clauses cite these.
-use Rattle.std.specs.Prelude.{◌≡◌, ◌⊎◌, ℕ, List, [], ◌∷◌}
+use Rattle.std.proofs.Common.{[], ◌∷◌, ◌≡◌, ◌⊎◌, List, ℕ}
 use Rattle.std.specs.Ordering.{nat_cmp}
-use Rattle.list_laws.specs.Members.{IsAmong}
-use Rattle.name_closure.specs.Chains.{IsReached}
-use Rattle.index_rows.specs.Least.{IsLeast}
+use Rattle.start_order.specs.Prelude.{IsAmong, IsLeast, IsReached}
 use Rattle.start_order.specs.StartOrder.{IsBlocker}
 
--- no two of the list are alike
+-- no two members of the list are equal
 abbrev pub AreDistinct : List ℕ → Type 0
 AreDistinct [] = Unit {0}
 AreDistinct (x ∷ xs) = ¬ IsAmong x xs × AreDistinct xs
 
 module _ (stuck : ℕ → Type 0) (before : ℕ → ℕ → Type 0) where
-  -- from u over the list to v each is the blocker of the one before it
+  -- from u over the list to v, each is the blocker of the one before it
   abbrev pub LeadsBack : ℕ → List ℕ → ℕ → Type 0
   LeadsBack u [] v = IsBlocker nat_cmp stuck before v u
   LeadsBack u (w ∷ ws) v = IsBlocker nat_cmp stuck before w u × LeadsBack w ws v
 
-  -- so far the nodes of the list were met, in their order, and the walk has come to `next`
+  -- the walk met the nodes of the list, in this order, and is now at `next`
   abbrev pub LeadsTo : List ℕ → ℕ → Type 0
   LeadsTo [] next = Unit {0}
   LeadsTo (t ∷ ts) next = LeadsBack t ts next

@@ -1,15 +1,15 @@
-//! What each node waits for, as counts.
+//! How many predecessors each node still waits for.
 ghost use Rattle.std.specs.Prelude.{◌≡◌, ◌<◌, ◌≤◌, ℕ, slice_index, length, All, IfOk, OnOk};
-ghost use Rattle.index_rows.specs.Rows.{AllBelow, times, row as row_of};
+ghost use Rattle.index_rows.specs.Adjacency.{AllBelow, times, neighbors as neighbors_of};
 ghost use Rattle.start_order.specs.Counts.{waiting as waiting_of, IsLowered};
 
 use crate::free::Free;
-use index_rows::row;
+use index_rows::neighbors;
 use std::alloc::{AllocError, Global};
 
-// How many chosen nodes of `nodes` don't stand.
+// The number of chosen nodes in `nodes` that aren't started yet.
 fn waiting(chosen: &[bool], standing: &[bool], nodes: &[usize]) -> usize
-    requires marks { length standing.now ≡ length chosen.now }
+    requires bits { length standing.now ≡ length chosen.now }
     requires nodes { All (λ v. v < length chosen.now) nodes.now }
     ensures { result ≡ waiting_of chosen.now standing.now nodes.now }
 {
@@ -22,7 +22,7 @@ fn waiting(chosen: &[bool], standing: &[bool], nodes: &[usize]) -> usize
     count
 }
 
-// For each node, how many chosen nodes before it don't stand.
+// For each node, the number of chosen nodes before it that aren't started yet.
 pub(crate) fn counts_of(
     alloc: Global,
     chosen: &[bool],
@@ -30,20 +30,20 @@ pub(crate) fn counts_of(
     before: &[Vec<usize>],
 ) -> Result<Vec<usize>, AllocError>
     requires units { length before.now ≡ length chosen.now }
-    requires marks { length standing.now ≡ length chosen.now }
-    requires rows { AllBelow (length chosen.now) before.now }
+    requires bits { length standing.now ≡ length chosen.now }
+    requires adjacency { AllBelow (length chosen.now) before.now }
     ensures units { IfOk result (λ counts. length counts.items ≡ length chosen.now) }
     ensures counts { IfOk result (λ counts. (v : ℕ) → v < length chosen.now
-        → slice_index counts.items v ≡ waiting_of chosen.now standing.now (row_of before.now v)) }
+        → slice_index counts.items v ≡ waiting_of chosen.now standing.now (neighbors_of before.now v)) }
 {
     let mut counts = Vec::new(alloc);
     for node in 0..before.len() {
-        counts.push(waiting(chosen, standing, row(before, node)))?;
+        counts.push(waiting(chosen, standing, neighbors(before, node)))?;
     }
     Ok(counts)
 }
 
-// Lowers the counts at the nodes of `nodes`, and adds the chosen ones whose counts fall to 0.
+// Decrements the counts of the nodes in `nodes`, and adds the chosen ones whose counts become 0 to `free`.
 pub(crate) fn lower(
     chosen: &[bool],
     counts: &mut Vec<usize>,

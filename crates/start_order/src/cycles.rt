@@ -1,24 +1,25 @@
-//! The cycle to which one comes from the least stuck node.
+//! The cycle that is found by following the least stuck node back.
 ghost use Rattle.std.specs.{Prelude.{◌≡◌, ◌<◌, ◌≤◌, ℕ, slice_index, length, IfOk}, Ordering.{nat_cmp}};
 ghost use Rattle.list_laws.specs.Members.{IsAmong};
-ghost use Rattle.index_rows.specs.{Rows.{Marked, AllBelow}, Least.{IsLeast}};
+ghost use Rattle.index_rows.specs.{Adjacency.{IsMember, AllBelow}, Least.{IsLeast}};
 ghost use Rattle.start_order.specs.{StartOrder.{IsBlocker, IsCycle}, Precedes.{Precedes}, Walks.{IsWalk}};
 
-use index_rows::{least_marked, no_marks, row};
+use index_rows::{empty_bits, least_member, neighbors};
 use std::alloc::{AllocError, Global};
 
 // The least stuck node before a stuck one.
 fn blocker(stuck: &[bool], before: &[Vec<usize>], node: usize) -> usize
     requires units { length before.now ≡ length stuck.now }
-    requires rows { AllBelow (length stuck.now) before.now }
+    requires adjacency { AllBelow (length stuck.now) before.now }
     requires node { node < length stuck.now }
-    requires blocked { (v : ℕ) × (Marked stuck.now v × Precedes before.now v node) }
-    ensures { IsBlocker nat_cmp (Marked stuck.now) (Precedes before.now) result node }
+    requires blocked { (v : ℕ) × (IsMember stuck.now v × Precedes before.now v node) }
+    ensures { IsBlocker nat_cmp (IsMember stuck.now) (Precedes before.now) result node }
 {
-    least_marked(row(before, node), stuck).unwrap()
+    least_member(neighbors(before, node), stuck).unwrap()
 }
 
-// The walk from the least stuck node up to a node that it met already: what it met, and that node.
+// Walks from the least stuck node, from each node to the least stuck node before it, until it meets a node again.
+// Returns the nodes that it met, and the one that it met twice.
 fn walk(
     alloc: Global,
     stuck: &[bool],
@@ -26,13 +27,13 @@ fn walk(
     start: usize,
 ) -> Result<(Vec<usize>, usize), AllocError>
     requires units { length before.now ≡ length stuck.now }
-    requires rows { AllBelow (length stuck.now) before.now }
-    requires start { IsLeast nat_cmp (Marked stuck.now) start }
-    requires blocked { (u : ℕ) → Marked stuck.now u → (v : ℕ) × (Marked stuck.now v × Precedes before.now v u) }
-    ensures walk { IfOk result (λ r. IsWalk (Marked stuck.now) (Precedes before.now) r.0.items r.1) }
+    requires adjacency { AllBelow (length stuck.now) before.now }
+    requires start { IsLeast nat_cmp (IsMember stuck.now) start }
+    requires blocked { (u : ℕ) → IsMember stuck.now u → (v : ℕ) × (IsMember stuck.now v × Precedes before.now v u) }
+    ensures walk { IfOk result (λ r. IsWalk (IsMember stuck.now) (Precedes before.now) r.0.items r.1) }
     ensures met { IfOk result (λ r. IsAmong r.1 r.0.items) }
 {
-    let mut seen = no_marks(alloc, stuck.len())?;
+    let mut seen = empty_bits(alloc, stuck.len())?;
     let mut met = Vec::new(alloc);
     let mut next = start;
     while !seen[next] {
@@ -43,7 +44,7 @@ fn walk(
     Ok((met, next))
 }
 
-// Where `node`, which is in the list, stands first.
+// The first position of `node` in the list. It must be there.
 fn position_of(list: &[usize], node: usize) -> usize
     requires { IsAmong node list.now }
     ensures within { result < length list.now }
@@ -57,7 +58,7 @@ fn position_of(list: &[usize], node: usize) -> usize
     list.len()
 }
 
-// Where the least number of a list stands.
+// The position of the least number in a list.
 fn least_at(list: &[usize]) -> usize
     requires { 0 < length list.now }
     ensures within { result < length list.now }
@@ -72,7 +73,7 @@ fn least_at(list: &[usize]) -> usize
     at
 }
 
-// The cycle to which one comes from `start`, the least stuck node.
+// The cycle that the walk from `start`, the least stuck node, ends in.
 pub(crate) fn cycle_from(
     alloc: Global,
     stuck: &[bool],
@@ -80,10 +81,10 @@ pub(crate) fn cycle_from(
     start: usize,
 ) -> Result<Vec<usize>, AllocError>
     requires units { length before.now ≡ length stuck.now }
-    requires rows { AllBelow (length stuck.now) before.now }
-    requires start { IsLeast nat_cmp (Marked stuck.now) start }
-    requires blocked { (u : ℕ) → Marked stuck.now u → (v : ℕ) × (Marked stuck.now v × Precedes before.now v u) }
-    ensures { IfOk result (λ cycle. IsCycle nat_cmp (Marked stuck.now) (Precedes before.now) cycle.items) }
+    requires adjacency { AllBelow (length stuck.now) before.now }
+    requires start { IsLeast nat_cmp (IsMember stuck.now) start }
+    requires blocked { (u : ℕ) → IsMember stuck.now u → (v : ℕ) × (IsMember stuck.now v × Precedes before.now v u) }
+    ensures { IfOk result (λ cycle. IsCycle nat_cmp (IsMember stuck.now) (Precedes before.now) cycle.items) }
 {
     let (met, next) = walk(alloc, stuck, before, start)?;
     let (_, round) = met.split_at(position_of(&met, next));

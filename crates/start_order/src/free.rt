@@ -2,16 +2,16 @@
 ghost use Rattle.std.specs.Prelude.{◌≡◌, ◌≤◌, ◌<◌, ◌↔◌, ◌⊎◌, ℕ, slice_index, length, IfOk, OnOk, IsTrue, MatchOption};
 ghost use Rattle.std.specs.{List.Sorted.{IsStrictlySortedBy}, Ordering.{nat_cmp}};
 ghost use Rattle.list_laws.specs.Members.{IsAmong};
-ghost use Rattle.index_rows.specs.Rows.{Marked};
+ghost use Rattle.index_rows.specs.Adjacency.{IsMember};
 ghost use Rattle.start_order.specs.Counts.{IsLeastIn};
 
-use index_rows::{lesser, marked_nodes};
+use index_rows::{lesser, members_of};
 use std::alloc::{AllocError, Global};
 use std::collections::{BTreeSet, VecDeque};
 use std::marker::Model;
 
-/// Nodes that can start: those that could from the first, which rise, and those that came later. So only the latter have
-/// to be kept in a tree.
+/// Nodes that can start: those that could from the beginning, in ascending order, and those that were added later. Only
+/// the latter need a tree.
 #[derive(Drop)]
 pub struct Free {
     first: VecDeque<usize>,
@@ -29,11 +29,11 @@ impl Model for Free {
 }
 
 impl Free {
-    /// The marked nodes. O(n).
-    pub fn of(alloc: Global, marks: &[bool]) -> Result<Free, AllocError>
-        ensures free { IfOk result (λ free. (v : ℕ) → IsAmong v free ↔ Marked marks.now v) }
+    /// Returns the members of a set. O(n).
+    pub fn of(alloc: Global, bits: &[bool]) -> Result<Free, AllocError>
+        ensures free { IfOk result (λ free. (v : ℕ) → IsAmong v free ↔ IsMember bits.now v) }
     {
-        let first = VecDeque::from(marked_nodes(alloc, marks)?);
+        let first = VecDeque::from(members_of(alloc, bits)?);
         let later = BTreeSet::new(alloc);
         Ok(Free { first, later })
     }
@@ -46,21 +46,21 @@ impl Free {
         Ok(())
     }
 
-    /// Takes the least node. O(log n).
+    /// Removes the least node and returns it. O(log n).
     pub fn take_least(&mut self) -> Option<usize>
         ensures least { MatchOption result ((v : ℕ) → ¬ IsAmong v self.old) (IsLeastIn self.old) }
         ensures rest { MatchOption result ((v : ℕ) → ¬ IsAmong v self.new)
             (λ u. (v : ℕ) → IsAmong v self.new ↔ (IsAmong v self.old × ¬ (u ≡ v))) }
     {
-        let least = lesser(front_of(&self.first), first_of(&self.later))?;
-        drop_front(&mut self.first, least);
+        let least = lesser(prefix_of(&self.first), first_of(&self.later))?;
+        drop_prefix(&mut self.first, least);
         drop_first(&mut self.later, least);
         Some(least)
     }
 }
 
-// The least of nodes that rise.
-fn front_of(nodes: &VecDeque<usize>) -> Option<usize>
+// The least of nodes in ascending order.
+fn prefix_of(nodes: &VecDeque<usize>) -> Option<usize>
     requires { IsStrictlySortedBy nat_cmp nodes.now.items }
     ensures { MatchOption result ((v : ℕ) → ¬ IsAmong v nodes.now.items) (IsLeastIn nodes.now.items) }
 {
@@ -70,7 +70,7 @@ fn front_of(nodes: &VecDeque<usize>) -> Option<usize>
     }
 }
 
-// The least of nodes in a tree.
+// The least node of a tree.
 fn first_of(nodes: &BTreeSet<usize>) -> Option<usize>
     ensures { MatchOption result ((v : ℕ) → ¬ IsAmong v nodes.now.keys) (IsLeastIn nodes.now.keys) }
 {
@@ -80,21 +80,21 @@ fn first_of(nodes: &BTreeSet<usize>) -> Option<usize>
     }
 }
 
-// Takes a node out of nodes that rise, of which none is less.
-fn drop_front(nodes: &mut VecDeque<usize>, node: usize)
-    requires rising { IsStrictlySortedBy nat_cmp nodes.old.items }
+// Removes a node from nodes in ascending order, none of which is less than it.
+fn drop_prefix(nodes: &mut VecDeque<usize>, node: usize)
+    requires ascending { IsStrictlySortedBy nat_cmp nodes.old.items }
     requires least { (v : ℕ) → IsAmong v nodes.old.items → node ≤ v }
-    ensures rising { IsStrictlySortedBy nat_cmp nodes.new.items }
+    ensures ascending { IsStrictlySortedBy nat_cmp nodes.new.items }
     ensures rest { (v : ℕ) → IsAmong v nodes.new.items ↔ (IsAmong v nodes.old.items × ¬ (node ≡ v)) }
 {
-    if let Some(front) = front_of(nodes) {
-        if front == node {
+    if let Some(prefix) = prefix_of(nodes) {
+        if prefix == node {
             nodes.pop_front();
         }
     }
 }
 
-// Takes a node out of a tree in which none is less.
+// Removes a node from a tree in which none is less.
 fn drop_first(nodes: &mut BTreeSet<usize>, node: usize)
     requires least { (v : ℕ) → IsAmong v nodes.old.keys → node ≤ v }
     ensures rest { (v : ℕ) → IsAmong v nodes.new.keys ↔ (IsAmong v nodes.old.keys × ¬ (node ≡ v)) }
@@ -106,19 +106,19 @@ fn drop_first(nodes: &mut BTreeSet<usize>, node: usize)
     }
 }
 
-// Marks at the chosen nodes whose counts are 0.
+// The set of the chosen nodes whose counts are 0.
 pub(crate) fn ready(
     alloc: Global,
     chosen: &[bool],
     counts: &[usize],
 ) -> Result<Vec<bool>, AllocError>
     requires { length counts.now ≡ length chosen.now }
-    ensures { IfOk result (λ marks. (v : ℕ) → Marked marks.items v
-        ↔ (Marked chosen.now v × (slice_index counts.now v ≡ 0))) }
+    ensures { IfOk result (λ bits. (v : ℕ) → IsMember bits.items v
+        ↔ (IsMember chosen.now v × (slice_index counts.now v ≡ 0))) }
 {
-    let mut marks = Vec::new(alloc);
+    let mut bits = Vec::new(alloc);
     for (node, is_chosen) in chosen.iter().enumerate() {
-        marks.push(*is_chosen && counts[node] == 0)?;
+        bits.push(*is_chosen && counts[node] == 0)?;
     }
-    Ok(marks)
+    Ok(bits)
 }

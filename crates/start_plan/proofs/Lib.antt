@@ -1,3 +1,4 @@
+pub mod Prelude
 pub mod Answering
 pub mod Casing
-pub mod Marking
+pub mod BitSets

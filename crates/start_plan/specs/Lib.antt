@@ -1,6 +1,7 @@
-pub mod Marks
+pub mod Prelude
+pub mod Bits
 pub mod Outcomes
 pub mod PlanLaws
 pub mod Requests
-pub mod Tellings
-pub mod Numbered
+pub mod ReturnedRefusals
+pub mod Indexed

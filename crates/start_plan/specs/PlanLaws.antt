@@ -1,54 +1,35 @@
--- Laws of plans: a request has one answer, which the load alone determines, and a plan keeps what it promises.
-use Rattle.std.proofs.Common.{◌≡◌, ◌≢◌, ◌⊎◌, ◌∷◌, [], inl, inr, List, Option, Some, None, map, refl, ap, sym, ◌∙◌}
-use mathlib.Core.Path.{fun_ext}
-use Rattle.std.specs.List.{flat_map, list_any}
+-- Laws of plans: a request has one answer, which the load alone determines, and a plan keeps its promises.
+use Rattle.std.proofs.Common.{[], ◌∙◌, ◌∷◌, ◌≡◌, ◌≢◌, ◌⊎◌, ap, inl, inr, List, map, None, Option, refl, Some, sym}
 use Rattle.std.specs.Cmp.Lexicographic.{nat_list_cmp_total}
-use Rattle.name_closure.specs.ListedLaws.{named_by}
-use Rattle.path_maps.specs.Views.{View}
-use Rattle.unit_name.specs.Names.{Name, name_cmp}
-use Rattle.unit_name.specs.NameLaws.{name_cmp-IsAntisymmetric}
-use Rattle.setting_rules.specs.declared.kinds.DepKind.{DepKind}
+use Rattle.std.specs.List.{flat_map, list_any}
+use mathlib.Core.Path.{fun_ext}
+use Rattle.start_plan.specs.Prelude.{AreEdges, Case, conflict, cycle, DepKind, EdgeMap, edges_come_from_names, HostViewMap, is_same, IsEdge, IsLoad, KeepsPromises, LoadMap, manual_start, Name, name_cmp, name_cmp-IsAntisymmetric, named_by, names_in, need_fault, one_list_of_edges, one_refusal, one_start, one_stop, plan_keeps, plan_unrefused, requisite, SparesItself, Status, status_in, target_fault, unit_in, Why}
+use Rattle.start_plan.specs.{declared.requests.Plan.Plan, declared.requests.Refusal.Refusal, declared.requests.Refusal.TheVariants.Bad, declared.requests.Refusal.TheVariants.Conflict, declared.requests.Refusal.TheVariants.Cycle, declared.requests.Refusal.TheVariants.ManualStart, declared.requests.Refusal.TheVariants.Masked, declared.requests.Refusal.TheVariants.Memory, declared.requests.Refusal.TheVariants.NotFound, declared.requests.Refusal.TheVariants.Requisite, declared.requests.Refusal.TheVariants.Template, declared.requests.Request.Request, Outcomes.IsFault, Outcomes.IsPlanned, Outcomes.IsRefusalOf, Outcomes.IsRefused, Requests.AsksTemplate, Requests.case_of, Requests.is_loaded, Requests.is_manual, Requests.main_of, Requests.needing, Requests.tying}
 use Rattle.setting_rules.specs.declared.kinds.DepKind.TheVariants as kind
-use Rattle.fragment_choice.specs.Choices.{is_same}
-use Rattle.unit_loads.specs.declared.units.Status.{Status}
 use Rattle.unit_loads.specs.declared.units.Status.TheVariants as status
-use Rattle.parallel_load.specs.Loads.{IsLoad, LoadMap, unit_in}
-use Rattle.inverse_deps.specs.EdgeLaws.{edges_come_from_names, one_list_of_edges}
-use Rattle.inverse_deps.specs.Edges.{AreEdges, EdgeMap, IsEdge, names_in}
-use Rattle.unit_graph.specs.Graphs.{status_in}
-use Rattle.plan_choice.specs.AnswerLaws.{KeepsPromises, one_refusal, one_start, one_stop, plan_keeps, plan_unrefused}
-use Rattle.plan_choice.specs.Answers.{Refusal as Why}
-use Rattle.plan_choice.specs.Answers.Refusal.{target_fault, need_fault, manual_start, requisite, conflict, cycle}
-use Rattle.plan_choice.specs.Case.{Case}
-use Rattle.plan_choice.specs.SetLaws.{SparesItself}
-use Rattle.start_plan.specs.declared.requests.Plan.{Plan}
-use Rattle.start_plan.specs.declared.requests.Refusal.{Refusal}
-use Rattle.start_plan.specs.declared.requests.Refusal.TheVariants.{Template, NotFound, Masked, Bad, ManualStart, Requisite, Conflict, Cycle, Memory}
-use Rattle.start_plan.specs.declared.requests.Request.{Request}
-use Rattle.start_plan.specs.Outcomes.{IsFault, IsPlanned, IsRefused, IsRefusalOf}
-use Rattle.start_plan.specs.Requests.{AsksTemplate, case_of, is_loaded, is_manual, main_of, needing, tying}
 
--- There is one plan at most.
+-- There is at most one plan.
 abbrev pub OnePlan : Type 0
 OnePlan = (load : LoadMap) (edges : EdgeMap) (request : Request) (p q : Plan) → IsPlanned load edges request p → IsPlanned load edges request q → p ≡ q
 
--- There is one refusal at most, but for want of memory.
+-- There is at most one refusal, unless memory runs out.
 abbrev pub OneRefusal : Type 0
 OneRefusal = (load : LoadMap) (edges : EdgeMap) (request : Request) (r s : Refusal) → IsRefusalOf load edges request r → IsRefusalOf load edges request s
     → r ≢ Memory → s ≢ Memory → r ≡ s
 
--- And not both.
+-- There are never both.
 abbrev pub PlanOrRefusal : Type 0
 PlanOrRefusal = (load : LoadMap) (edges : EdgeMap) (request : Request) (p : Plan) (r : Refusal) → IsPlanned load edges request p → IsRefusalOf load edges request r → ¬ (r ≢ Memory)
 
--- The load and the request alone determine what is to be answered: any lists of its edges give one case.
+-- The load and the request alone determine the answer: any lists of the load's edges give one case.
 abbrev pub OneCase : Type 0
 OneCase = (load : LoadMap) (request : Request) (a b : EdgeMap) → AreEdges load a → AreEdges load b → case_of load a request ≡ case_of load b request
 
--- In a load of a store what a plan chooses has the target, is closed under need, is all loaded, has its requisites running
--- and is free of conflicts, and each unit starts after all started units that are to start before it.
+-- In a load of a store, the units that a plan chooses include the target and all that they need. They are all loaded,
+-- their requisites are running and they don't conflict; and each unit starts after all started units that are to start
+-- before it.
 abbrev pub PlansKeepPromises : Type 0
-PlansKeepPromises = (s : View) (extra : List Name) (load : LoadMap) (edges : EdgeMap) (request : Request) (p : Plan) → IsLoad s extra load → AreEdges load edges
+PlansKeepPromises = (s : HostViewMap) (extra : List Name) (load : LoadMap) (edges : EdgeMap) (request : Request) (p : Plan) → IsLoad s extra load → AreEdges load edges
     → IsPlanned load edges request p → KeepsPromises name_cmp (case_of load edges request) p.start
 
 plan_with : List Name → List Name → Plan
@@ -74,56 +55,56 @@ by_status u (Some status.NotFound) = NotFound u
 by_status u (Some status.Masked) = Masked u
 by_status u (Some (status.Bad cause)) = Bad u
 
--- the refusal that tells a cause
-told_as : LoadMap → Why Name → Refusal
-told_as load (target_fault u) = by_status u (status_in load u)
-told_as load (need_fault u) = by_status u (status_in load u)
-told_as load manual_start = ManualStart
-told_as load (requisite u v) = Requisite u v
-told_as load (conflict u v) = Conflict u v
-told_as load (cycle units) = Cycle units
+-- the refusal for a cause
+returned_as : LoadMap → Why Name → Refusal
+returned_as load (target_fault u) = by_status u (status_in load u)
+returned_as load (need_fault u) = by_status u (status_in load u)
+returned_as load manual_start = ManualStart
+returned_as load (requisite u v) = Requisite u v
+returned_as load (conflict u v) = Conflict u v
+returned_as load (cycle units) = Cycle units
 
--- a refusal that isn't of memory tells a template, or the cause that stands
-record TellsCause (load : LoadMap) (edges : EdgeMap) (request : Request) (r : Refusal) : Type 0 where
+-- a refusal other than `Memory` is for a template, or for the cause that holds
+record ReturnsCause (load : LoadMap) (edges : EdgeMap) (request : Request) (r : Refusal) : Type 0 where
   why : Why Name
   refused : IsRefused load edges request why
-  told : r ≡ told_as load why
+  returned : r ≡ returned_as load why
 
 module _ (load : LoadMap) (edges : EdgeMap) (request : Request) where
-  tells_fault : (u : Name) (r : Refusal) (o : Option Status) → IsFault load edges request u → status_in load u ≡ o → r ≡ by_status u o → TellsCause load edges request r
-  unfolding told_as
-  tells_fault u r o (inl f) e t = record { why = target_fault u; refused = f; told = t ∙ ap (by_status u) (sym e) }
-  tells_fault u r o (inr f) e t = record { why = need_fault u; refused = f; told = t ∙ ap (by_status u) (sym e) }
+  returns_fault : (u : Name) (r : Refusal) (o : Option Status) → IsFault load edges request u → status_in load u ≡ o → r ≡ by_status u o → ReturnsCause load edges request r
+  unfolding returned_as
+  returns_fault u r o (inl f) e t = record { why = target_fault u; refused = f; returned = t ∙ ap (by_status u) (sym e) }
+  returns_fault u r o (inr f) e t = record { why = need_fault u; refused = f; returned = t ∙ ap (by_status u) (sym e) }
 
-  tells : (r : Refusal) → IsRefusalOf load edges request r → r ≢ Memory → ((r ≡ Template) × AsksTemplate request) ⊎ TellsCause load edges request r
-  unfolding told_as by_status
-  tells Template h n = inl (refl, h)
-  tells (NotFound u) h n = inr (tells_fault u (NotFound u) (Some status.NotFound) h.0 h.1 refl)
-  tells (Masked u) h n = inr (tells_fault u (Masked u) (Some status.Masked) h.0 h.1 refl)
-  tells (Bad u) h n = inr (tells_fault u (Bad u) (Some (status.Bad h.1.0)) h.0 h.1.1 refl)
-  tells ManualStart h n = inr (record { why = manual_start; refused = h; told = refl })
-  tells (Requisite u v) h n = inr (record { why = requisite u v; refused = h; told = refl })
-  tells (Conflict u v) h n = inr (record { why = conflict u v; refused = h; told = refl })
-  tells (Cycle units) h n = inr (record { why = cycle units; refused = h; told = refl })
-  tells Memory h n = absurd (n refl)
+  returns : (r : Refusal) → IsRefusalOf load edges request r → r ≢ Memory → ((r ≡ Template) × AsksTemplate request) ⊎ ReturnsCause load edges request r
+  unfolding returned_as by_status
+  returns Template h n = inl (refl, h)
+  returns (NotFound u) h n = inr (returns_fault u (NotFound u) (Some status.NotFound) h.0 h.1 refl)
+  returns (Masked u) h n = inr (returns_fault u (Masked u) (Some status.Masked) h.0 h.1 refl)
+  returns (Bad u) h n = inr (returns_fault u (Bad u) (Some (status.Bad h.1.0)) h.0 h.1.1 refl)
+  returns ManualStart h n = inr (record { why = manual_start; refused = h; returned = refl })
+  returns (Requisite u v) h n = inr (record { why = requisite u v; refused = h; returned = refl })
+  returns (Conflict u v) h n = inr (record { why = conflict u v; refused = h; returned = refl })
+  returns (Cycle units) h n = inr (record { why = cycle units; refused = h; returned = refl })
+  returns Memory h n = absurd (n refl)
 
-  same_told : (r s : Refusal) → ((r ≡ Template) × AsksTemplate request) ⊎ TellsCause load edges request r
-      → ((s ≡ Template) × AsksTemplate request) ⊎ TellsCause load edges request s → r ≡ s
-  same_told r s (inl a) (inl b) = a.0 ∙ sym b.0
-  same_told r s (inl a) (inr b) = absurd (b.refused.no_template a.1)
-  same_told r s (inr a) (inl b) = absurd (a.refused.no_template b.1)
-  same_told r s (inr a) (inr b) =
-      a.told
-      ∙ ap (told_as load) (one_refusal name_cmp (case_of load edges request) nat_list_cmp_total name_cmp-IsAntisymmetric a.why b.why a.refused.refused b.refused.refused)
-      ∙ sym b.told
+  same_returned : (r s : Refusal) → ((r ≡ Template) × AsksTemplate request) ⊎ ReturnsCause load edges request r
+      → ((s ≡ Template) × AsksTemplate request) ⊎ ReturnsCause load edges request s → r ≡ s
+  same_returned r s (inl a) (inl b) = a.0 ∙ sym b.0
+  same_returned r s (inl a) (inr b) = absurd (b.refused.no_template a.1)
+  same_returned r s (inr a) (inl b) = absurd (a.refused.no_template b.1)
+  same_returned r s (inr a) (inr b) =
+      a.returned
+      ∙ ap (returned_as load) (one_refusal name_cmp (case_of load edges request) nat_list_cmp_total name_cmp-IsAntisymmetric a.why b.why a.refused.refused b.refused.refused)
+      ∙ sym b.returned
 
-pub one_refusal_told : OneRefusal
-one_refusal_told load edges request r s a b n m = same_told load edges request r s (tells load edges request r a n) (tells load edges request s b m)
+pub one_refusal_returned : OneRefusal
+one_refusal_returned load edges request r s a b n m = same_returned load edges request r s (returns load edges request r a n) (returns load edges request s b m)
 
 pub plan_or_refusal : PlanOrRefusal
-plan_or_refusal load edges request p r a b n = by (tells load edges request r b n)
+plan_or_refusal load edges request p r a b n = by (returns load edges request r b n)
   where
-    by : ((r ≡ Template) × AsksTemplate request) ⊎ TellsCause load edges request r → ⊥
+    by : ((r ≡ Template) × AsksTemplate request) ⊎ ReturnsCause load edges request r → ⊥
     by (inl t) = a.no_template t.1
     by (inr t) = plan_unrefused name_cmp (case_of load edges request) p.stop p.start a.planned t.why t.refused.refused.stands
 
@@ -150,7 +131,7 @@ one_case load request a b p q =
 
 -- ---- promises
 
-spares_itself : (s : View) (extra : List Name) (load : LoadMap) (edges : EdgeMap) (request : Request) → IsLoad s extra load → AreEdges load edges
+spares_itself : (s : HostViewMap) (extra : List Name) (load : LoadMap) (edges : EdgeMap) (request : Request) → IsLoad s extra load → AreEdges load edges
     → SparesItself (case_of load edges request)
 spares_itself s extra load edges request l a u h =
     let r = named_by (λ dep. names_in edges dep u) (kind.Conflicts ∷ []) u h in

@@ -1,21 +1,9 @@
--- What a request asks of a load, by names: the case of a plan.
+-- What a request asks of a load, by name: the case of a plan.
 -- Source: systemd.unit(5), "Wants=", "Requires=", "Requisite=", "BindsTo=", "PartOf=", "Conflicts=", "Before=, After=",
 -- "RefuseManualStart=".
-use Rattle.std.specs.Prelude.{◌≡◌, ◌⊎◌, Bool, false, true, Option, Some, None, unwrap_or, List, [], ◌∷◌, map}
+use Rattle.std.proofs.Common.{[], ◌∷◌, ◌≡◌, ◌⊎◌, Bool, false, List, map, None, Option, Some, true, unwrap_or}
 use Rattle.std.specs.List.{flat_map, list_any}
-use Rattle.list_laws.specs.Members.{IsAmong}
-use Rattle.unit_name.specs.declared.names.Shape.TheVariants.{Template}
-use Rattle.unit_name.specs.Names.{Name, shape}
-use Rattle.setting_rules.specs.declared.kinds.DepKind.{DepKind}
-use Rattle.setting_rules.specs.declared.kinds.DepKind.TheVariants.{After, Wants, Requires, Requisite, BindsTo, PartOf, Conflicts}
-use Rattle.fragment_choice.specs.Choices.{is_same}
-use Rattle.unit_loads.specs.declared.units.Status.{Status}
-use Rattle.unit_loads.specs.declared.units.Status.TheVariants.{Loaded, NotFound, Masked, Bad}
-use Rattle.unit_loads.specs.declared.units.Unit.{Unit as LoadedUnit}
-use Rattle.parallel_load.specs.Loads.{LoadMap, main_in, unit_in}
-use Rattle.inverse_deps.specs.Edges.{EdgeMap, names_in}
-use Rattle.unit_graph.specs.Graphs.{IsKnown}
-use Rattle.plan_choice.specs.Case.{Case}
+use Rattle.start_plan.specs.Prelude.{After, Bad, BindsTo, Case, Conflicts, DepKind, EdgeMap, is_same, IsAmong, IsKnown, Loaded, LoadedUnit, LoadMap, main_in, Masked, Name, names_in, NotFound, PartOf, Requires, Requisite, shape, Status, Template, unit_in, Wants}
 use Rattle.start_plan.specs.declared.requests.Request.{Request}
 
 -- ---- the names of a request
@@ -28,7 +16,7 @@ HasTemplate names = (n : Name) × IsAmong n names × (shape n ≡ Template)
 abbrev pub AsksTemplate : Request → Type 0
 AsksTemplate request = (shape request.target ≡ Template) ⊎ HasTemplate request.running
 
--- each name is a template or stands for a unit of the load
+-- each name is a template or resolves to a unit of the load
 abbrev pub IsOfGraph : LoadMap → Request → Type 0
 IsOfGraph load request = (n : Name) → IsAmong n (request.target ∷ request.running) → (shape n ≡ Template) ⊎ IsKnown load n
 
@@ -40,12 +28,12 @@ has_fragment NotFound = false
 has_fragment Masked = false
 has_fragment (Bad cause) = false
 
--- whether a unit is there and is loaded
+-- whether there is a unit, and it is loaded
 abbrev pub is_loaded : Option LoadedUnit → Bool
 is_loaded None = false
 is_loaded (Some unit) = has_fragment unit.status
 
--- whether a unit is there and refuses that a person starts it
+-- whether there is a unit, and it refuses to be started by hand
 abbrev pub is_manual : Option LoadedUnit → Bool
 is_manual None = false
 is_manual (Some unit) = unit.manual
@@ -64,12 +52,12 @@ edges_of edges deps u = flat_map (λ dep. names_in edges dep u) deps
 abbrev pub needing : List DepKind
 needing = Requires ∷ BindsTo ∷ []
 
--- what takes a unit along when it stops
+-- the kinds by which a unit stops along with another
 abbrev pub tying : List DepKind
 tying = Requires ∷ Requisite ∷ BindsTo ∷ PartOf ∷ []
 
--- The case of a plan: main names stand for the names of the request, and edges give what units ask of each other. What is
--- to start before a unit are those after which it comes.
+-- The case of a plan: the request's names are replaced by main names, and the edges say what units ask of each other.
+-- The units that are to start before a unit are those that it is `After`.
 abbrev pub case_of : LoadMap → EdgeMap → Request → Case Name
 case_of load edges request = record {
   target = main_of load request.target;

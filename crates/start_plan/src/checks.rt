@@ -12,7 +12,7 @@ pub(crate) fn asks_template(request: &Request) -> bool
     request.target.is_template() || has_template(request.running.as_slice())
 }
 
-/// Whether one of the names is a template. Linear in the names, without memory.
+/// Whether one of the names is a template. Linear in the names; allocates nothing.
 pub fn has_template(names: &[UnitName]) -> bool
     ensures template { IsTrue result ↔ HasTemplate names.now }
 {

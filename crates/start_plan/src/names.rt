@@ -1,20 +1,24 @@
-//! Names for the numbers of a plan.
+//! A plan's indices are turned into names.
 ghost use Rattle.std.specs.Prelude.{◌≡◌, ◌<◌, ℕ, Some, All, IfOk, false, map};
 ghost use Rattle.parallel_load.specs.Loads.{unit_in};
-ghost use Rattle.plan_choice.specs.RowRefusals.{refusal_of};
-ghost use Rattle.inverse_deps.specs.{Edges.{IsUnitIn}, Numbers.{count_of, name_at}};
-ghost use Rattle.start_plan.specs.{Requests.{is_loaded}, Tellings.{IsFaultOf, IsToldBy, IsTellable}};
+ghost use Rattle.plan_choice.specs.IndexedRefusals.{refusal_of};
+ghost use Rattle.inverse_deps.specs.{Edges.{IsUnitIn}, Indices.{count_of, name_at}};
+ghost use Rattle.start_plan.specs.{Requests.{is_loaded}, ReturnedRefusals.{IsFaultOf, IsReturnedBy, IsReturnable}};
 
 use crate::requests::{Plan, Refusal};
 use inverse_deps::names_at;
 use parallel_load::{Loaded, NameLoad, Status};
 use plain_values::Items;
-use plan_choice::{RowPlan, RowRefusal};
+use plan_choice::{IndexedPlan, IndexedRefusal};
 use std::alloc::{AllocError, Global};
 use unit_name::UnitName;
 
-// A plan by names.
-pub(crate) fn named_plan(alloc: Global, loaded: &Loaded, plan: &RowPlan) -> Result<Plan, AllocError>
+// A plan, by name.
+pub(crate) fn named_plan(
+    alloc: Global,
+    loaded: &Loaded,
+    plan: &IndexedPlan,
+) -> Result<Plan, AllocError>
     requires stops { All (λ i. i < count_of loaded.now) plan.now.stops.items }
     requires starts { All (λ i. i < count_of loaded.now) plan.now.starts.items }
     ensures stop { IfOk result (λ named. named.stop ≡ map (name_at loaded.now) plan.now.stops.items) }
@@ -25,42 +29,42 @@ pub(crate) fn named_plan(alloc: Global, loaded: &Loaded, plan: &RowPlan) -> Resu
     Ok(Plan { stop, start })
 }
 
-// A refusal by names.
+// A refusal, by name.
 pub(crate) fn named_refusal(
     alloc: Global,
     loaded: &Loaded,
-    refusal: &RowRefusal,
+    refusal: &IndexedRefusal,
 ) -> Result<Refusal, AllocError>
-    requires numbers { IsTellable loaded.now (refusal_of refusal.now) }
-    ensures told { IfOk result (IsToldBy loaded.now (refusal_of refusal.now)) }
+    requires indices { IsReturnable loaded.now (refusal_of refusal.now) }
+    ensures returned { IfOk result (IsReturnedBy loaded.now (refusal_of refusal.now)) }
 {
     match refusal {
-        RowRefusal::Target(unit) => Ok(fault(loaded, *unit)?),
-        RowRefusal::Need(unit) => Ok(fault(loaded, *unit)?),
-        RowRefusal::ManualStart => Ok(Refusal::ManualStart),
-        RowRefusal::Requisite(unit, needs) => Ok(Refusal::Requisite(
+        IndexedRefusal::Target(unit) => Ok(fault(loaded, *unit)?),
+        IndexedRefusal::Need(unit) => Ok(fault(loaded, *unit)?),
+        IndexedRefusal::ManualStart => Ok(Refusal::ManualStart),
+        IndexedRefusal::Requisite(unit, needs) => Ok(Refusal::Requisite(
             name_of(loaded, *unit)?,
             name_of(loaded, *needs)?,
         )),
-        RowRefusal::Conflict(unit, rival) => Ok(Refusal::Conflict(
+        IndexedRefusal::Conflict(unit, conflicting_unit) => Ok(Refusal::Conflict(
             name_of(loaded, *unit)?,
-            name_of(loaded, *rival)?,
+            name_of(loaded, *conflicting_unit)?,
         )),
-        RowRefusal::Cycle(units) => Ok(Refusal::Cycle(Items::from_vec(names_at(
+        IndexedRefusal::Cycle(units) => Ok(Refusal::Cycle(Items::from_vec(names_at(
             alloc, loaded, units,
         )?))),
     }
 }
 
 // Why a unit isn't loaded.
-fn fault(loaded: &Loaded, number: usize) -> Result<Refusal, AllocError>
-    requires below { number < count_of loaded.now }
-    requires unit { IsUnitIn loaded.now (name_at loaded.now number) }
-    requires unloaded { is_loaded (unit_in loaded.now (name_at loaded.now number)) ≡ false }
-    ensures fault { IfOk result (IsFaultOf loaded.now (name_at loaded.now number)) }
+fn fault(loaded: &Loaded, index: usize) -> Result<Refusal, AllocError>
+    requires below { index < count_of loaded.now }
+    requires unit { IsUnitIn loaded.now (name_at loaded.now index) }
+    requires unloaded { is_loaded (unit_in loaded.now (name_at loaded.now index)) ≡ false }
+    ensures fault { IfOk result (IsFaultOf loaded.now (name_at loaded.now index)) }
 {
-    let name = name_of(loaded, number)?;
-    match &loaded.names()[number].1 {
+    let name = name_of(loaded, index)?;
+    match &loaded.names()[index].1 {
         NameLoad::Unit(unit) => match &unit.get().status {
             Status::NotFound => Ok(Refusal::NotFound(name)),
             Status::Masked => Ok(Refusal::Masked(name)),
@@ -71,10 +75,10 @@ fn fault(loaded: &Loaded, number: usize) -> Result<Refusal, AllocError>
     }
 }
 
-// The name that has a number.
-fn name_of(loaded: &Loaded, number: usize) -> Result<UnitName, AllocError>
-    requires below { number < count_of loaded.now }
-    ensures name { IfOk result (λ name. name ≡ name_at loaded.now number) }
+// The name with an index.
+fn name_of(loaded: &Loaded, index: usize) -> Result<UnitName, AllocError>
+    requires below { index < count_of loaded.now }
+    ensures name { IfOk result (λ name. name ≡ name_at loaded.now index) }
 {
-    loaded.names()[number].0.try_clone()
+    loaded.names()[index].0.try_clone()
 }

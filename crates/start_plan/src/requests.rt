@@ -4,14 +4,14 @@ use replica_store::HostName;
 use thiserror::Error;
 use unit_name::UnitName;
 
-/// A request to start a unit while others run. Names may be aliases; those that run may repeat.
+/// A request to start a unit while others are running. Names may be aliases, and the running ones may repeat.
 #[derive(Debug, Drop)]
 pub struct Request {
-    /// The host whose units they are; none for those that are seen without one.
+    /// The host whose units are meant; none for the fleet's.
     pub host: Option<HostName>,
     /// The unit that is to start.
     pub target: UnitName,
-    /// The units that run.
+    /// The running units.
     pub running: Items<UnitName>,
 }
 
@@ -20,34 +20,34 @@ pub struct Request {
 pub struct Plan {
     /// The units that stop, in byte order.
     pub stop: Items<UnitName>,
-    /// The units that start, in the order in which they start.
+    /// The units that start, in start order.
     pub start: Items<UnitName>,
 }
 
-/// Why there is no plan: the first of these whose cause stands, in this order. `NotFound`, `Masked` and `Bad` are looked at
-/// for the target and then for the least of the other units that it needs and that aren't loaded.
+/// Why there is no plan: the first of these whose cause holds, in this order. `NotFound`, `Masked` and `Bad` are tested
+/// for the target, and then for the least of the other units that it needs and that aren't loaded.
 #[derive(Debug, Error, Drop)]
 pub enum Refusal {
     /// The target or a running name is a template.
     #[error("P1 Template")]
     Template,
-    /// Nothing stands for this unit.
+    /// No file or link defines this unit.
     #[error("P2 NotFound")]
     NotFound(UnitName),
     #[error("P3 Masked")]
     Masked(UnitName),
     #[error("P4 Bad")]
     Bad(UnitName),
-    /// The target refuses that a person starts it.
+    /// The target refuses to be started by hand.
     #[error("P5 ManualStart")]
     ManualStart,
-    /// The least needed unit with a requisite that doesn't run, and the least such requisite.
+    /// The least needed unit with a requisite that isn't running, and the least such requisite.
     #[error("P6 Requisite")]
     Requisite(UnitName, UnitName),
     /// The least needed unit that conflicts with a needed one, and the least of these.
     #[error("P7 Conflict")]
     Conflict(UnitName, UnitName),
-    /// Units that are to start and wait for each other, from the least, each before the next.
+    /// Units that are to start and wait for each other, from the least on, each before the next.
     #[error("P8 Cycle")]
     Cycle(Items<UnitName>),
     #[error("out of memory")]

@@ -1,45 +1,24 @@
--- The graph's tables, and the steps that they give.
-use Rattle.std.proofs.Common.{◌≡◌, ◌<◌, ◌⊎◌, IsTrue, Bool, ℕ, inl, inr, List, [], ◌∷◌, ◌++◌, Some, get_or, map, refl, ap, sym, subst, ◌∙◌, length, arith}
-use Rattle.std.specs.declared.vec.Vec.{Vec}
-use Rattle.std.specs.declared.alloc.Global.{Global}
-use Rattle.std.specs.Cmp.Lexicographic.{nat_list_cmp_total}
-use Rattle.list_laws.specs.Members.{IsAmong, IsAmong-append_left, IsAmong-append_right, among_from_contains}
-use Rattle.std.specs.List.{All}
-use Rattle.std.specs.Ordering.{nat_cmp}
+-- The graph's adjacency lists, and the edges that they give.
+use Rattle.std.proofs.Common.{[], ◌++◌, ◌<◌, ◌∙◌, ◌∷◌, ◌≡◌, ◌⊎◌, All, ap, arith, Bool, get_or, inl, inr, IsTrue, length, List, map, refl, Some, subst, sym, ℕ}
 use Rattle.std.proofs.lemmas.List.Elements.{Contains-get_or}
-use Rattle.name_closure.specs.Chains.{IsClosure, IsDistances}
-use Rattle.name_closure.specs.ListedLaws.{Listed, Named}
-use Rattle.index_rows.specs.ListLaws.{IsAmong-push_cases}
-use Rattle.index_rows.specs.Numbering.{AreNames, AreNamedSteps, IsNumbering}
-use Rattle.index_rows.specs.NumberingLaws.{among_mapped, chains_named, closure_named, mapped_from, reached_named}
-use Rattle.index_rows.specs.Rows.{row, AreRowsOf}
-use Rattle.unit_name.specs.Names.{Name, name_cmp}
-use Rattle.setting_rules.specs.declared.kinds.DepKind.{DepKind}
-use Rattle.setting_rules.specs.Kinds.{inverse}
-use Rattle.parallel_load.specs.Loads.{LoadMap}
-use Rattle.inverse_deps.specs.EdgeLaws.{edges_join_units, inverses_are_one}
-use Rattle.inverse_deps.specs.EdgeRows.{AreRowsBy}
-use Rattle.inverse_deps.specs.Edges.{AreEdges, EdgeMap, names_in}
-use Rattle.inverse_deps.specs.NamingLaws.{listed_either, names_along}
-use Rattle.inverse_deps.specs.NumberLaws.{keys_length, load_numbering, sorted_by_keys}
-use Rattle.inverse_deps.specs.Numbers.{count_of, name_at}
-use Rattle.unit_graph.specs.DistanceNames.{distances_named}
-use Rattle.index_rows.specs.Steps.{steps_from}
-use Rattle.unit_graph.specs.Graphs.{GraphMap, HasInverses, IsNumberFor, LeadToUnits, LeadsBy, StandsFor}
-use Rattle.unit_graph.specs.Tables.{IsTable}
+use Rattle.std.specs.Cmp.Lexicographic.{nat_list_cmp_total}
+use Rattle.std.specs.Ordering.{nat_cmp}
+use Rattle.std.specs.declared.alloc.Global.{Global}
+use Rattle.std.specs.declared.vec.Vec.{Vec}
+use Rattle.unit_graph.proofs.Prelude.{among_from_contains, among_mapped, AreAdjacencyBy, AreAdjacencyOf, AreEdges, AreNamedSuccessors, AreNames, chains_named, closure_named, count_of, DepKind, distances_named, EdgeMap, edges_join_units, GraphMap, HasInverses, inverse, inverses_are_one, IsAmong, IsAmong-append_left, IsAmong-append_right, IsAmong-push_cases, IsClosure, IsDistances, IsIndexFor, IsIndexing, IsTable, keys_length, LeadsBy, LeadToUnits, Listed, listed_either, load_indexing, LoadMap, mapped_from, Name, name_at, name_cmp, Named, names_along, names_in, neighbors, reached_named, ResolvesTo, sorted_by_keys, successors_from}
 
--- the rows of edges are the tables of their load
-pub table_of_rows : (load : LoadMap) (edges : EdgeMap) (dep : DepKind) (rows : List (Vec ℕ Global)) → AreEdges load edges → AreRowsBy edges dep rows → IsTable load edges dep rows
-table_of_rows load edges dep rows are r =
+-- the adjacency lists of edges are those of their load
+pub table_of_adjacency : (load : LoadMap) (edges : EdgeMap) (dep : DepKind) (adjacency : List (Vec ℕ Global)) → AreEdges load edges → AreAdjacencyBy edges dep adjacency → IsTable load edges dep adjacency
+table_of_adjacency load edges dep adjacency are r =
     let count : length edges ≡ count_of load = sym (keys_length edges) ∙ ap length are.names ∙ keys_length load.names in
-    let P : ℕ → Type 0 = λ n. AreRowsOf n rows in
+    let P : ℕ → Type 0 = λ n. AreAdjacencyOf n adjacency in
     record {
       within = subst P count r.within;
-      rising = r.rising;
-      exact = λ i l. ap (λ ks. map (λ n. get_or ks n []) (row rows i)) (sym are.names) ∙ r.exact i (omega (arith, l, count)) ∙ ap (λ ks. names_in edges dep (get_or ks i [])) are.names;
+      ascending = r.ascending;
+      exact = λ i l. ap (λ ks. map (λ n. get_or ks n []) (neighbors adjacency i)) (sym are.names) ∙ r.exact i (omega (arith, l, count)) ∙ ap (λ ks. names_in edges dep (get_or ks i [])) are.names;
     }
 
--- an edge and its inverse are one
+-- each edge has its inverse
 pub has_inverses : (graph : GraphMap) → AreEdges graph.load graph.edges → HasInverses graph
 has_inverses graph are dep u v = (
   λ h. ((are.lists (inverse dep) v).exact u).1 ((inverses_are_one graph.load dep u v).0 (((are.lists dep u).exact v).0 h)),
@@ -50,28 +29,28 @@ has_inverses graph are dep u v = (
 pub lead_to_units : (graph : GraphMap) → AreEdges graph.load graph.edges → LeadToUnits graph
 lead_to_units graph are dep u v h = (edges_join_units graph.load dep u v (((are.lists dep u).exact v).0 h)).1
 
--- the numbers of a graph's names rise with them
-pub graph_numbering : (load graph : LoadMap) → load ≡ graph → (edges : EdgeMap) → AreEdges load edges → IsNumbering (count_of graph) (name_at graph) name_cmp
-graph_numbering load graph same edges are =
-    let P : LoadMap → Type 0 = λ m. IsNumbering (count_of m) (name_at m) name_cmp in
+-- the indices of a graph's names follow the names' order
+pub graph_indexing : (load graph : LoadMap) → load ≡ graph → (edges : EdgeMap) → AreEdges load edges → IsIndexing (count_of graph) (name_at graph) name_cmp
+graph_indexing load graph same edges are =
+    let P : LoadMap → Type 0 = λ m. IsIndexing (count_of m) (name_at m) name_cmp in
     let Q : Bool → Type 0 = λ b. IsTrue b in
-    subst P same (load_numbering load (subst Q (sorted_by_keys name_cmp edges load.names are.names) are.in_order))
+    subst P same (load_indexing load (subst Q (sorted_by_keys name_cmp edges load.names are.names) are.in_order))
 
--- by no kind no step leads anywhere
-pub no_kinds : (load : LoadMap) (edges : EdgeMap) (steps : List (List (Vec ℕ Global))) → steps ≡ [] → AreNamedSteps (count_of load) (name_at load) (Named (steps_from steps)) (LeadsBy edges [])
-no_kinds load edges steps e =
-    let P : List (List (Vec ℕ Global)) → Type 0 = λ ks. AreNamedSteps (count_of load) (name_at load) (Named (steps_from ks)) (LeadsBy edges []) in
-    subst P (sym e) (λ i l. record { within = λ j h. absurd h; named = λ j h. absurd h; numbered = λ u h. absurd h.1.0 })
+-- no kinds have no edges
+pub no_kinds : (load : LoadMap) (edges : EdgeMap) (successors : List (List (Vec ℕ Global))) → successors ≡ [] → AreNamedSuccessors (count_of load) (name_at load) (Named (successors_from successors)) (LeadsBy edges [])
+no_kinds load edges successors e =
+    let P : List (List (Vec ℕ Global)) → Type 0 = λ ks. AreNamedSuccessors (count_of load) (name_at load) (Named (successors_from ks)) (LeadsBy edges []) in
+    subst P (sym e) (λ i l. record { within = λ j h. absurd h; named = λ j h. absurd h; indexed = λ u h. absurd h.1.0 })
 
--- the steps of a table's row
-pub table_row : (load : LoadMap) (edges : EdgeMap) (dep : DepKind) (rows : List (Vec ℕ Global)) → IsTable load edges dep rows → (i : ℕ) → i < count_of load → (is : List ℕ) → is ≡ row rows i
-    → ((v : ℕ) → IsAmong v (row rows i) → v < count_of load) → AreNames (count_of load) (name_at load) (Listed is) (λ v. IsAmong v (names_in edges dep (name_at load i)))
-table_row load edges dep rows t i l is e below =
+-- the edges of one adjacency list
+pub table_neighbors : (load : LoadMap) (edges : EdgeMap) (dep : DepKind) (adjacency : List (Vec ℕ Global)) → IsTable load edges dep adjacency → (i : ℕ) → i < count_of load → (is : List ℕ) → is ≡ neighbors adjacency i
+    → ((v : ℕ) → IsAmong v (neighbors adjacency i) → v < count_of load) → AreNames (count_of load) (name_at load) (Listed is) (λ v. IsAmong v (names_in edges dep (name_at load i)))
+table_neighbors load edges dep adjacency t i l is e below =
     let P : List ℕ → Type 0 = λ js. AreNames (count_of load) (name_at load) (Listed js) (λ v. IsAmong v (names_in edges dep (name_at load i))) in
     subst P (sym e) (record {
       within = below;
-      named = λ j h. (let Q : List Name → Type 0 = λ ns. IsAmong (name_at load j) ns in subst Q (t.exact i l) (among_mapped (name_at load) j (row rows i) h));
-      numbered = λ v h. (let Q : List Name → Type 0 = λ ns. IsAmong v ns in mapped_from (name_at load) v (row rows i) (subst Q (sym (t.exact i l)) h));
+      named = λ j h. (let Q : List Name → Type 0 = λ ns. IsAmong (name_at load j) ns in subst Q (t.exact i l) (among_mapped (name_at load) j (neighbors adjacency i) h));
+      indexed = λ v h. (let Q : List Name → Type 0 = λ ns. IsAmong v ns in mapped_from (name_at load) v (neighbors adjacency i) (subst Q (sym (t.exact i l)) h));
     })
 
 -- one more kind
@@ -102,20 +81,20 @@ pub only_kind : (load : LoadMap) (edges : EdgeMap) (u : Name) (x : DepKind) (is 
 only_kind load edges u x is a = record {
   within = a.within;
   named = λ i h. (x, (inl refl, a.named i h));
-  numbered = λ v h. a.numbered v (elim h.1.0 [ inl e ↦ (let P : DepKind → Type 0 = λ d. IsAmong v (names_in edges d u) in subst P (sym e) h.1.1) | inr none ↦ absurd none ]);
+  indexed = λ v h. a.indexed v (elim h.1.0 [ inl e ↦ (let P : DepKind → Type 0 = λ d. IsAmong v (names_in edges d u) in subst P (sym e) h.1.1) | inr none ↦ absurd none ]);
 }
 
--- a name stands for one unit
-pub one_main : (load : LoadMap) (name a b : Name) → StandsFor load name a → StandsFor load name b → a ≡ b
+-- a name resolves to one unit
+pub one_main : (load : LoadMap) (name a b : Name) → ResolvesTo load name a → ResolvesTo load name b → a ≡ b
 one_main load name a b p q = let e : Some a ≡ Some b = sym p.main_is ∙ q.main_is in cc (e)
 
--- the number of the unit for which a name stands, as a source
-pub one_source : (load : LoadMap) (name main : Name) (i : ℕ) → StandsFor load name main → IsNumberFor load name i
+-- the index of the unit that a name resolves to, as a source
+pub one_source : (load : LoadMap) (name main : Name) (i : ℕ) → ResolvesTo load name main → IsIndexFor load name i
     → AreNames (count_of load) (name_at load) (Listed (i ∷ [])) (Listed (main ∷ []))
 one_source load name main i s n = record {
-  within = λ j h. only (λ k. k < count_of load) j h n.number_is.below;
-  named = λ j h. inl (only (λ k. main ≡ name_at load k) j h (one_main load name main n.main s n.stands ∙ sym n.number_is.named));
-  numbered = λ v h. (i, (inl refl, n.number_is.named ∙ one_main load name n.main main n.stands s ∙ only_name v h));
+  within = λ j h. only (λ k. k < count_of load) j h n.index_is.below;
+  named = λ j h. inl (only (λ k. main ≡ name_at load k) j h (one_main load name main n.main s n.stands ∙ sym n.index_is.named));
+  indexed = λ v h. (i, (inl refl, n.index_is.named ∙ one_main load name n.main main n.stands s ∙ only_name v h));
 }
   where
     only : (P : ℕ → Type 0) (j : ℕ) → IsAmong j (i ∷ []) → P i → P j
@@ -126,33 +105,33 @@ one_source load name main i s n = record {
     only_name v (inl e) = e
     only_name v (inr h) = absurd h
 
--- what holds of all members of a list holds at each place
+-- what holds of all members of a list holds at each position
 all_from : {X : Type 0} (P : X → Type 0) (xs : List X) → ((x : X) → IsAmong x xs → P x) → All P xs
 all_from P xs h = λ k d l. h (get_or xs k d) (among_from_contains _ xs (Contains-get_or xs k d l))
 
--- what is reached by numbers from the unit for which a name stands
-module _ (load : LoadMap) (order : IsNumbering (count_of load) (name_at load) name_cmp) (edges : EdgeMap) (deps : List DepKind) (next : ℕ → List ℕ)
-    (steps : AreNamedSteps (count_of load) (name_at load) (Named next) (LeadsBy edges deps)) (from : Name) (i : ℕ) (n : IsNumberFor load from i) where
+-- what is reached by index from the unit that a name resolves to
+module _ (load : LoadMap) (order : IsIndexing (count_of load) (name_at load) name_cmp) (edges : EdgeMap) (deps : List DepKind) (next : ℕ → List ℕ)
+    (successors : AreNamedSuccessors (count_of load) (name_at load) (Named next) (LeadsBy edges deps)) (from : Name) (i : ℕ) (n : IsIndexFor load from i) where
   pub reach_below : (is : List ℕ) → IsClosure (Listed (i ∷ [])) (Named next) nat_cmp is → All (λ j. j < count_of load) is
   reach_below is c =
       all_from (λ j. j < count_of load) is
       (λ j h. (reached_named (count_of load) (name_at load) (Listed (i ∷ [])) (Listed (n.main ∷ [])) (Named next) (LeadsBy edges deps)
-      (one_source load from n.main i n.stands n) steps).within j ((c.members j).0 h))
+      (one_source load from n.main i n.stands n) successors).within j ((c.members j).0 h))
 
-  pub reach_named : (is : List ℕ) → IsClosure (Listed (i ∷ [])) (Named next) nat_cmp is → (main : Name) → StandsFor load from main
+  pub reach_named : (is : List ℕ) → IsClosure (Listed (i ∷ [])) (Named next) nat_cmp is → (main : Name) → ResolvesTo load from main
       → IsClosure (Listed (main ∷ [])) (LeadsBy edges deps) name_cmp (map (name_at load) is)
   reach_named is c main s =
       closure_named (count_of load) (name_at load) name_cmp nat_list_cmp_total order (Listed (i ∷ [])) (Listed (main ∷ [])) (Named next) (LeadsBy edges deps)
-      (one_source load from main i s n) steps is c
+      (one_source load from main i s n) successors is c
 
   pub depths_below : (ps : List (ℕ × ℕ)) → IsDistances (Listed (i ∷ [])) (Named next) nat_cmp ps → All (λ p. p.1 < count_of load) ps
   depths_below ps d =
       all_from (λ p. p.1 < count_of load) ps
       (λ p h. (chains_named (count_of load) (name_at load) (Listed (i ∷ [])) (Listed (n.main ∷ [])) (Named next) (LeadsBy edges deps)
-      (one_source load from n.main i n.stands n) steps p.0).within p.1 ((d.members p.0 p.1).0 h).chain)
+      (one_source load from n.main i n.stands n) successors p.0).within p.1 ((d.members p.0 p.1).0 h).chain)
 
-  pub depths_named : (ps : List (ℕ × ℕ)) → IsDistances (Listed (i ∷ [])) (Named next) nat_cmp ps → (main : Name) → StandsFor load from main
+  pub depths_named : (ps : List (ℕ × ℕ)) → IsDistances (Listed (i ∷ [])) (Named next) nat_cmp ps → (main : Name) → ResolvesTo load from main
       → IsDistances (Listed (main ∷ [])) (LeadsBy edges deps) name_cmp (map (λ p. (p.0, name_at load p.1)) ps)
   depths_named ps d main s =
       distances_named (count_of load) (name_at load) name_cmp nat_list_cmp_total order (Listed (i ∷ [])) (Listed (main ∷ [])) (Named next) (LeadsBy edges deps)
-      (one_source load from main i s n) steps ps d
+      (one_source load from main i s n) successors ps d

@@ -1,22 +1,19 @@
--- Distances are carried from numbers to names.
-use Rattle.std.proofs.Common.{◌≡◌, ◌<◌, ℕ, inl, inr, List, [], ◌∷◌, map, refl, ap, ◌∙◌, subst}
-use Rattle.std.specs.List.{AllByRecursion}
-use Rattle.std.specs.List.Sorted.{IsStrictlySortedBy}
+-- Distances are carried from indices to names.
+use Rattle.std.proofs.Common.{[], ◌<◌, ◌∙◌, ◌∷◌, ◌≡◌, ap, inl, inr, List, map, refl, subst, ℕ}
 use Rattle.std.specs.Cmp.{IsTotalOrder}
+use Rattle.std.specs.List.{AllByRecursion}
 use Rattle.std.specs.Ordering.{nat_cmp, ordering_then}
 use Rattle.std.specs.declared.cmp.Ordering.{Ordering}
 use Rattle.std.specs.declared.cmp.Ordering.TheVariants.{Less}
-use Rattle.list_laws.specs.Members.{IsAmong}
-use Rattle.name_closure.specs.Chains.{IsChain, IsDistance, IsDistances, distance_cmp}
-use Rattle.index_rows.specs.Numbering.{IsNumbering, AreNames, AreNamedSteps}
-use Rattle.index_rows.specs.NumberingLaws.{among_mapped, mapped_from, chains_named, names_compare, number_of}
+use Rattle.unit_graph.specs.Prelude.{among_mapped, AreNamedSuccessors, AreNames, chains_named, distance_cmp, index_of, IsAmong, IsChain, IsDistance, IsDistances, IsIndexing, mapped_from, names_compare}
+use Rattle.std.specs.List.Sorted.{IsStrictlySortedBy}
 
-module _ {N : Type 0} (count : ℕ) (name : ℕ → N) (order : N → N → Ordering) (total : IsTotalOrder order) (n : IsNumbering count name order)
-    (S : ℕ → Type 0) (S' : N → Type 0) (E : ℕ → ℕ → Type 0) (E' : N → N → Type 0) (sources : AreNames count name S S') (steps : AreNamedSteps count name E E') where
+module _ {N : Type 0} (count : ℕ) (name : ℕ → N) (order : N → N → Ordering) (total : IsTotalOrder order) (n : IsIndexing count name order)
+    (S : ℕ → Type 0) (S' : N → Type 0) (E : ℕ → ℕ → Type 0) (E' : N → N → Type 0) (sources : AreNames count name S S') (successors : AreNamedSuccessors count name E E') where
   chains : (k : ℕ) → AreNames count name (IsChain S E k) (IsChain S' E' k)
-  chains = chains_named count name S S' E E' sources steps
+  chains = chains_named count name S S' E E' sources successors
 
-  -- a distance and a number, with the name for the number
+  -- a distance and an index, with the name in place of the index
   abbrev pub named : ℕ × ℕ → ℕ × N
   named p = (p.0, name p.1)
 
@@ -26,12 +23,12 @@ module _ {N : Type 0} (count : ℕ) (name : ℕ → N) (order : N → N → Orde
   distance_named : (k i : ℕ) → IsDistance S E i k → IsDistance S' E' (name i) k
   distance_named k i d = record {
     chain = (chains k).named i d.chain;
-    least = λ j c. d.least j (number_of count name order total n (IsChain S E j) (IsChain S' E' j) (chains j) i (distance_within k i d) c);
+    least = λ j c. d.least j (index_of count name order total n (IsChain S E j) (IsChain S' E' j) (chains j) i (distance_within k i d) c);
   }
 
-  distance_numbered : (k : ℕ) (u : N) → IsDistance S' E' u k → (i : ℕ) × (IsDistance S E i k × (name i ≡ u))
-  distance_numbered k u d =
-      let r = (chains k).numbered u d.chain in
+  distance_indexed : (k : ℕ) (u : N) → IsDistance S' E' u k → (i : ℕ) × (IsDistance S E i k × (name i ≡ u))
+  distance_indexed k u d =
+      let r = (chains k).indexed u d.chain in
       (r.0, (record { chain = r.1.0; least = λ j c. d.least j (subst (IsChain S' E' j) r.1.1 ((chains j).named r.0 c)) }, r.1.1))
 
   below_named : (k i : ℕ) (ps : List (ℕ × ℕ)) → i < count → ((p : ℕ × ℕ) → IsAmong p ps → p.1 < count)
@@ -42,15 +39,15 @@ module _ {N : Type 0} (count : ℕ) (name : ℕ → N) (order : N → N → Orde
     below_named k i ps l (λ q h. w q (inr h)) a.1,
   )
 
-  rising : (ps : List (ℕ × ℕ)) → ((p : ℕ × ℕ) → IsAmong p ps → p.1 < count) → IsStrictlySortedBy (distance_cmp S E nat_cmp) ps → IsStrictlySortedBy (distance_cmp S' E' order) (map named ps)
+  ascending : (ps : List (ℕ × ℕ)) → ((p : ℕ × ℕ) → IsAmong p ps → p.1 < count) → IsStrictlySortedBy (distance_cmp S E nat_cmp) ps → IsStrictlySortedBy (distance_cmp S' E' order) (map named ps)
   unfolding IsStrictlySortedBy
-  rising [] w s = tt
-  rising (p ∷ ps) w s = (below_named p.0 p.1 ps (w p (inl refl)) (λ q h. w q (inr h)) s.0, rising ps (λ q h. w q (inr h)) s.1)
+  ascending [] w s = tt
+  ascending (p ∷ ps) w s = (below_named p.0 p.1 ps (w p (inl refl)) (λ q h. w q (inr h)) s.0, ascending ps (λ q h. w q (inr h)) s.1)
 
-  -- the names of a list of distances are the list of names
+  -- the names of a list of distances are the list of distances of the names
   pub distances_named : (ps : List (ℕ × ℕ)) → IsDistances S E nat_cmp ps → IsDistances S' E' order (map named ps)
   distances_named ps d = record {
-    rising = rising ps (λ p h. distance_within p.0 p.1 ((d.members p.0 p.1).0 h)) d.rising;
+    ascending = ascending ps (λ p h. distance_within p.0 p.1 ((d.members p.0 p.1).0 h)) d.ascending;
     members = λ k u. (there k u, back k u);
   }
     where
@@ -65,6 +62,6 @@ module _ {N : Type 0} (count : ℕ) (name : ℕ → N) (order : N → N → Orde
 
       back : (k : ℕ) (u : N) → IsDistance S' E' u k → IsAmong {X = ℕ × N} (k, u) (map named ps)
       back k u e =
-          let r = distance_numbered k u e in
+          let r = distance_indexed k u e in
           let P : N → Type 0 = λ v. IsAmong {X = ℕ × N} (k, v) (map named ps) in
           subst P r.1.1 (among_mapped named (k, r.0) ps ((d.members k r.0).1 r.1.0))

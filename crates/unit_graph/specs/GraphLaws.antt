@@ -1,15 +1,10 @@
--- Laws of graphs: in a load of a store the names that stand for units are those of the universe.
+-- Laws of graphs: in a load of a store, the names that resolve to units are those of the universe.
 use Rattle.std.proofs.Common.{◌↔◌, List, refl}
-use Rattle.path_maps.specs.Views.{View}
-use Rattle.unit_name.specs.Names.{Name}
-use Rattle.fragment_choice.specs.Resolutions.{main}
-use Rattle.parallel_load.specs.Loads.{IsLoad, LoadMap}
-use Rattle.parallel_load.specs.Universe.{IsInUniverse}
-use Rattle.parallel_load.specs.UniverseLaws.{mains_have_units, names_have_mains}
+use Rattle.unit_graph.specs.Prelude.{HostViewMap, IsInUniverse, IsLoad, LoadMap, main, mains_have_units, Name, names_have_mains}
 use Rattle.unit_graph.specs.Graphs.{IsKnown}
 
 abbrev pub KnownNames : Type 0
-KnownNames = (s : View) (extra : List Name) (load : LoadMap) (n : Name) → IsLoad s extra load → IsKnown load n ↔ IsInUniverse s extra n
+KnownNames = (s : HostViewMap) (extra : List Name) (load : LoadMap) (n : Name) → IsLoad s extra load → IsKnown load n ↔ IsInUniverse s extra n
 
 pub known_names : KnownNames
 known_names s extra load n l = (there, back)

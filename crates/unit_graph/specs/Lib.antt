@@ -1,3 +1,4 @@
+pub mod Prelude
 pub mod DistanceNames
 pub mod GraphLaws
 pub mod Graphs

@@ -1,36 +1,25 @@
--- The members of a load of a store: their names rise, and are those of its units.
-use Rattle.std.proofs.Common.{◌≡◌, ◌↔◌, inl, inr, List, [], ◌∷◌, Option, Some, None, IsTrue, map, refl, ap, sym, subst, ◌∙◌}
-use Rattle.std.specs.List.{All, AllByRecursion, cons_option, filter_map}
-use Rattle.std.specs.List.Sorted.{IsStrictlySortedBy}
-use Rattle.std.specs.Option.{option_and_then}
-use Rattle.std.specs.Cmp.Lexicographic.{nat_list_cmp_total}
-use Rattle.std.specs.FinMap.Entries.{is_sorted, below_all}
-use Rattle.std.specs.declared.cmp.Ordering.TheVariants.{Less}
+-- The members of a load of a store: their names are in ascending order, and are those of its units.
+use Rattle.std.proofs.Common.{[], ◌↔◌, ◌∙◌, ◌∷◌, ◌≡◌, All, ap, inl, inr, IsTrue, List, map, None, Option, refl, Some, subst, sym}
 use Rattle.std.proofs.lemmas.Bool.{and_parts}
 use Rattle.std.proofs.lemmas.List.Elements.{All-head, All-tail}
 use Rattle.std.proofs.lemmas.Option.{none-some}
-use Rattle.list_laws.specs.Members.{IsAmong}
-use Rattle.list_laws.specs.Orderings.{is_less}
-use Rattle.path_maps.specs.Views.{View}
-use Rattle.unit_name.specs.Names.{Name, name_cmp}
-use Rattle.unit_name.specs.NameLaws.{name_cmp-IsAntisymmetric}
-use Rattle.unit_loads.specs.declared.units.Unit.{Unit as LoadedUnit}
-use Rattle.parallel_load.specs.declared.loaded.NameLoad.{NameLoad}
-use Rattle.parallel_load.specs.declared.loaded.NameLoad.TheVariants.{Unit as OfUnit, Alias as OfAlias}
-use Rattle.parallel_load.specs.Loads.{IsLoad, IsNameLoad, LoadMap, load_at, unit_part}
-use Rattle.parallel_load.specs.PairLaws.{among_find, find_among}
-use Rattle.parallel_load.specs.UniverseLaws.{sorted_from}
-use Rattle.inverse_deps.specs.Edges.{IsUnitIn}
+use Rattle.std.specs.Cmp.Lexicographic.{nat_list_cmp_total}
+use Rattle.std.specs.FinMap.Entries.{below_all, is_sorted}
+use Rattle.std.specs.List.{AllByRecursion, cons_option, filter_map}
+use Rattle.std.specs.Option.{option_and_then}
+use Rattle.std.specs.declared.cmp.Ordering.TheVariants.{Less}
+use Rattle.unit_graph.specs.Prelude.{among_find, find_among, HostViewMap, is_less, IsAmong, IsLoad, IsNameLoad, IsUnitIn, load_at, LoadedUnit, LoadMap, Name, name_cmp, name_cmp-IsAntisymmetric, NameLoad, OfAlias, OfUnit, sorted_from, unit_part}
 use Rattle.unit_graph.specs.Graphs.{members_in}
+use Rattle.std.specs.List.Sorted.{IsStrictlySortedBy}
 
--- the members rise, and are the units
+-- the members are in ascending order, and are the units
 pub record HasMembers (load : LoadMap) : Type 0 where
-  pub rising : IsStrictlySortedBy name_cmp (members_in load)
+  pub ascending : IsStrictlySortedBy name_cmp (members_in load)
   pub exact : (v : Name) → IsAmong v (members_in load) ↔ IsUnitIn load v
 
 -- In a load of a store the members are its units, in byte order.
 abbrev pub MembersAreUnits : Type 0
-MembersAreUnits = (s : View) (extra : List Name) (load : LoadMap) → IsLoad s extra load → HasMembers load
+MembersAreUnits = (s : HostViewMap) (extra : List Name) (load : LoadMap) → IsLoad s extra load → HasMembers load
 
 abbrev names_in_pairs : List (Name × NameLoad) → List Name
 names_in_pairs es = map (λ u. u.name) (filter_map (λ p. unit_part p.1) es)
@@ -38,7 +27,7 @@ names_in_pairs es = map (λ u. u.name) (filter_map (λ p. unit_part p.1) es)
 abbrev with_part : NameLoad → List (Name × NameLoad) → List Name
 with_part one es = map (λ u. u.name) (cons_option (unit_part one) (filter_map (λ p. unit_part p.1) es))
 
--- a unit has the name at which it stands
+-- a unit is paired with its own name
 abbrev IsRight : Name → NameLoad → Type 0
 IsRight n (OfUnit unit) = unit.name ≡ n
 IsRight n (OfAlias of) = Unit {0}
@@ -47,11 +36,11 @@ abbrev AreRight : List (Name × NameLoad) → Type 0
 AreRight [] = Unit {0}
 AreRight (e ∷ es) = IsRight e.0 e.1 × AreRight es
 
-right_one : (s : View) (n : Name) (one : NameLoad) → IsNameLoad s n one → IsRight n one
+right_one : (s : HostViewMap) (n : Name) (one : NameLoad) → IsNameLoad s n one → IsRight n one
 right_one s n (OfUnit unit) p = ap (λ (u : LoadedUnit). u.name) p.by_mains_is ∙ p.is_unit.name_is
 right_one s n (OfAlias of) p = tt
 
-right_all : (s : View) (es : List (Name × NameLoad)) → All (λ p. IsNameLoad s p.0 p.1) es → AreRight es
+right_all : (s : HostViewMap) (es : List (Name × NameLoad)) → All (λ p. IsNameLoad s p.0 p.1) es → AreRight es
 right_all s [] a = tt
 right_all s (e ∷ es) a =
     let P : Name × NameLoad → Type 0 = λ p. IsNameLoad s p.0 p.1 in
@@ -66,18 +55,18 @@ below_names : (x : Name) (es : List (Name × NameLoad)) → AreRight es → IsTr
 below_names x [] r b = tt
 below_names x (e ∷ es) r b = below_more x e.0 e.1 es r.0 (is_less _ (and_parts _ _ b).0) (below_names x es r.1 (and_parts _ _ b).1)
 
-rising_more : (n : Name) (one : NameLoad) (es : List (Name × NameLoad)) → IsRight n one → AllByRecursion (λ y. name_cmp n y ≡ Less) (names_in_pairs es)
+ascending_more : (n : Name) (one : NameLoad) (es : List (Name × NameLoad)) → IsRight n one → AllByRecursion (λ y. name_cmp n y ≡ Less) (names_in_pairs es)
     → IsStrictlySortedBy name_cmp (names_in_pairs es) → IsStrictlySortedBy name_cmp (with_part one es)
 unfolding IsStrictlySortedBy
-rising_more n (OfUnit unit) es r below rest = (subst (λ m. AllByRecursion (λ y. name_cmp m y ≡ Less) (names_in_pairs es)) (sym r) below, rest)
-rising_more n (OfAlias of) es r below rest = rest
+ascending_more n (OfUnit unit) es r below rest = (subst (λ m. AllByRecursion (λ y. name_cmp m y ≡ Less) (names_in_pairs es)) (sym r) below, rest)
+ascending_more n (OfAlias of) es r below rest = rest
 
-rising_names : (es : List (Name × NameLoad)) → AreRight es → IsTrue (is_sorted name_cmp es) → IsStrictlySortedBy name_cmp (names_in_pairs es)
+ascending_names : (es : List (Name × NameLoad)) → AreRight es → IsTrue (is_sorted name_cmp es) → IsStrictlySortedBy name_cmp (names_in_pairs es)
 unfolding IsStrictlySortedBy
-rising_names [] r s = tt
-rising_names (e ∷ es) r s = rising_more e.0 e.1 es r.0 (below_names e.0 es r.1 (and_parts _ _ s).0) (rising_names es r.1 (and_parts _ _ s).1)
+ascending_names [] r s = tt
+ascending_names (e ∷ es) r s = ascending_more e.0 e.1 es r.0 (below_names e.0 es r.1 (and_parts _ _ s).0) (ascending_names es r.1 (and_parts _ _ s).1)
 
--- a member stands among the pairs
+-- the load has a unit at this name
 abbrev Stands : Name → List (Name × NameLoad) → Type 0
 Stands v es = (unit : LoadedUnit) × IsAmong {X = Name × NameLoad} (v, OfUnit unit) es
 
@@ -104,10 +93,10 @@ listed v unit (e ∷ es) r (inr h) = listed_still v e.1 es (listed v unit es r.1
 
 pub members_are_units : MembersAreUnits
 members_are_units s extra load l =
-    let sorted = sorted_from load.names l.universe.rising in
+    let sorted = sorted_from load.names l.universe.ascending in
     let right = right_all s load.names l.loaded in
     record {
-      rising = rising_names load.names right sorted;
+      ascending = ascending_names load.names right sorted;
       exact = λ v. (
         λ h. (let q = stands v load.names right h in
             (q.0, ap (λ o. option_and_then unit_part o) (among_find name_cmp nat_list_cmp_total v (OfUnit q.0) load.names sorted q.1))),

@@ -1,14 +1,19 @@
-//! The graph of a load: its names numbered in byte order, and from each unit the steps of each kind. What is
-//! reached from a unit and how far it is are told by names; a planner takes the steps by numbers.
+//! The graph of a load: its names indexed in byte order, and the edges of each kind from each unit. What is reached
+//! from a unit, and at which distance, is returned by name; a planner uses the edges by index.
 //!
 //! Promise: the universe and its graph are exact.
+//!
+//! - `graph`: `Graph`, which borrows a load and its edges.
+//! - `reaches`: reachability and distances.
+//! - `rows`: the adjacency lists.
+//! - `members`: the names of all units.
 #![tactic(auto)]
 
+mod adjacency;
 mod graph;
 mod laws;
 mod members;
 mod reaches;
-mod rows;
 
 pub use graph::Graph;
 pub use laws::graph_laws;

@@ -7,7 +7,7 @@ use std::alloc::AllocError;
 use unit_name::UnitName;
 
 impl<'a> Graph<'a> {
-    /// The main names of all units, in byte order. It fails for want of memory alone.
+    /// Returns the main names of all units, in byte order. Fails only if memory runs out.
     pub fn members(&self) -> Result<Vec<UnitName>, AllocError>
         ensures members { IfOk result (λ names. names.items ≡ members_in self.now.load) }
     {

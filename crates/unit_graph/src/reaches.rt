@@ -1,7 +1,7 @@
-//! What is reached in a graph, and how far it is.
+//! What is reached in a graph, and at which distance.
 ghost use Rattle.std.specs.{Prelude.{◌≡◌, ◌<◌, IfOk, map}, List.{All}};
-ghost use Rattle.inverse_deps.specs.Numbers.{count_of, name_at};
-ghost use Rattle.unit_graph.specs.Graphs.{AreDepths, IsKnown, IsNumberFor, IsReach, pulling};
+ghost use Rattle.inverse_deps.specs.Indices.{count_of, name_at};
+ghost use Rattle.unit_graph.specs.Graphs.{AreDepths, IsKnown, IsIndexFor, IsReach, pulling};
 
 use crate::graph::Graph;
 use index_rows::{closure, distances};
@@ -11,7 +11,7 @@ use setting_rules::DepKind;
 use std::alloc::AllocError;
 use unit_name::UnitName;
 
-/// The kinds by which a unit pulls others.
+/// The kinds of dependency over which a unit pulls others.
 const PULLING: [DepKind; 4] = [
     DepKind::Requires,
     DepKind::Requisite,
@@ -20,43 +20,43 @@ const PULLING: [DepKind; 4] = [
 ];
 
 impl<'a> Graph<'a> {
-    /// All units that are reached over edges of these kinds from the unit for which a name stands, it too, in byte order.
-    /// It fails for want of memory alone. O(n) and the edges of these kinds.
+    /// Returns all units that are reached over edges of these kinds from the unit that a name resolves to, that unit
+    /// included, in byte order. Fails only if memory runs out. O(n + m), for n names and m edges of these kinds.
     pub fn reach(&self, kinds: &[DepKind], from: &UnitName) -> Result<Vec<UnitName>, AllocError>
         requires from { IsKnown self.now.load from.now }
         ensures reached { IfOk result (λ names. IsReach self.now kinds.now from.now names.items) }
     {
         let load = self.loaded();
         let source = self.source(from);
-        let steps = self.steps(kinds)?;
-        let numbers = closure(load.allocator(), load.names().len(), &steps, &[source])?;
-        Ok(names_at(load.allocator(), load, &numbers)?)
+        let successors = self.successors(kinds)?;
+        let indices = closure(load.allocator(), load.names().len(), &successors, &[source])?;
+        Ok(names_at(load.allocator(), load, &indices)?)
     }
 
-    /// All units that are reached over `Requires`, `Requisite`, `BindsTo` and `Wants` from the unit for which a name stands,
-    /// each with its least distance, by distance and then by name. It fails for want of memory alone. O(n log n) and the edges
-    /// of these kinds.
+    /// Returns all units that are reached over `Requires`, `Requisite`, `BindsTo` and `Wants` from the unit that a name
+    /// resolves to, each with its least distance, ordered by distance and then by name. Fails only if memory runs out.
+    /// O(n log n + m), for n names and m edges of these kinds.
     pub fn depths(&self, from: &UnitName) -> Result<Vec<(u64, UnitName)>, AllocError>
         requires from { IsKnown self.now.load from.now }
         ensures depths { IfOk result (λ pairs. AreDepths self.now from.now pairs.items) }
     {
         let load = self.loaded();
         let source = self.source(from);
-        let steps = self.steps(&PULLING)?;
-        let pairs = distances(load.allocator(), load.names().len(), &steps, &[source])?;
+        let successors = self.successors(&PULLING)?;
+        let pairs = distances(load.allocator(), load.names().len(), &successors, &[source])?;
         Ok(named_distances(load, &pairs)?)
     }
 
-    // The number of the unit for which a name stands.
+    // The index of the unit that a name resolves to.
     fn source(&self, from: &UnitName) -> usize
         requires from { IsKnown self.now.load from.now }
-        ensures number { IsNumberFor self.now.load from.now result }
+        ensures index { IsIndexFor self.now.load from.now result }
     {
-        self.number(from).unwrap()
+        self.index(from).unwrap()
     }
 }
 
-// Distances of numbers, with names for the numbers.
+// Distances of indices, with names in place of the indices.
 fn named_distances(
     loaded: &Loaded,
     pairs: &[(usize, usize)],

@@ -1,4 +1,5 @@
-pub mod ComesTo
-pub mod Lent
+pub mod Prelude
+pub mod EvaluatesTo
+pub mod Borrowed
 pub mod Linked
 pub mod Steps

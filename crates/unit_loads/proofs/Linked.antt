@@ -1,21 +1,9 @@
--- Links added to the lists of words.
-use Rattle.std.proofs.Common.{◌≡◌, ℕ, refl, ap, sym, ◌∙◌, List, [], ◌∷◌, ◌++◌, get_or, length, map, set, inl, inr}
-use Rattle.std.specs.Prelude.{◌⊎◌}
+-- Links are added to the lists of words.
+use Rattle.std.proofs.Common.{[], ◌++◌, ◌∙◌, ◌∷◌, ◌≡◌, ◌⊎◌, ap, append-nil, get_or, inl, inr, length, List, map, refl, set, sym, ℕ}
 use Rattle.std.specs.Cmp.Lexicographic.{nat_list_cmp_total}
-use Rattle.std.proofs.lemmas.List.{append-nil}
-use Rattle.list_laws.specs.Members.{IsAmong, IsAmong-append_cases, IsAmong-append_left, IsAmong-append_right, among_from_contains, contains_from_among}
-use Rattle.list_laws.specs.Rising.{one_rising_list}
-use Rattle.unit_name.specs.Names.{Name, name_cmp}
-use Rattle.setting_rules.specs.declared.dependency_lists.DependencyList.{DependencyList}
-use Rattle.setting_rules.specs.declared.kinds.DepKind.{DepKind}
+use Rattle.unit_loads.proofs.Prelude.{among_from_contains, contains_from_among, DependencyList, DepKind, in_byte_order, IsAmong, IsAmong-append_cases, IsAmong-append_left, IsAmong-append_right, linked_by, LinkNames, links_for, list_for, list_with, lists_with, Name, name_cmp, names_ascend, names_by, names_stay, one_ascending_list, settable, SettingMap, with_linked, words_for}
 use Rattle.setting_rules.specs.declared.kinds.DepKind.TheVariants.{Wants, Requires}
-use Rattle.setting_rules.specs.Dependencies.{in_byte_order, list_for, lists_of, names_by, words_for}
-use Rattle.setting_rules.specs.Kinds.{settable}
-use Rattle.setting_rules.specs.Maps.{SettingMap}
-use Rattle.setting_rules.specs.OrderLaws.{names_rise, names_stay}
-use Rattle.unit_loads.specs.declared.links.LinkNames.{LinkNames}
-use Rattle.unit_loads.specs.Steps.{with_linked}
-use Rattle.unit_loads.specs.Units.{linked_by, links_for, list_with, lists_with}
+use Rattle.setting_rules.specs.Dependencies.{lists_of}
 
 among_ordered : (n : Name) (xs : List Name) → IsAmong n (in_byte_order xs) → IsAmong n xs
 among_ordered n xs h = among_from_contains n xs ((names_stay xs n).0 (contains_from_among n (in_byte_order xs) h))
@@ -23,9 +11,9 @@ among_ordered n xs h = among_from_contains n xs ((names_stay xs n).0 (contains_f
 ordered_among : (n : Name) (xs : List Name) → IsAmong n xs → IsAmong n (in_byte_order xs)
 ordered_among n xs h = among_from_contains n (in_byte_order xs) ((names_stay xs n).1 (contains_from_among n xs h))
 
--- names that were in order before others came are in order with them
+-- sorting sorted names with others gives the same as sorting them all at once
 ordered_again : (xs ys : List Name) → in_byte_order (in_byte_order xs ++ ys) ≡ in_byte_order (xs ++ ys)
-ordered_again xs ys = one_rising_list name_cmp nat_list_cmp_total (in_byte_order (in_byte_order xs ++ ys)) (in_byte_order (xs ++ ys)) (names_rise (in_byte_order xs ++ ys)) (names_rise (xs ++ ys)) (λ n. (
+ordered_again xs ys = one_ascending_list name_cmp nat_list_cmp_total (in_byte_order (in_byte_order xs ++ ys)) (in_byte_order (xs ++ ys)) (names_ascend (in_byte_order xs ++ ys)) (names_ascend (xs ++ ys)) (λ n. (
   λ h. ordered_among n (xs ++ ys) (forward n (IsAmong-append_cases n (in_byte_order xs) ys (among_ordered n (in_byte_order xs ++ ys) h))),
   λ h. ordered_among n (in_byte_order xs ++ ys) (back n (IsAmong-append_cases n xs ys (among_ordered n (xs ++ ys) h))),
 ))
@@ -38,7 +26,7 @@ ordered_again xs ys = one_rising_list name_cmp nat_list_cmp_total (in_byte_order
     back n (inl a) = IsAmong-append_left n (in_byte_order xs) ys (ordered_among n xs a)
     back n (inr b) = IsAmong-append_right n (in_byte_order xs) ys b
 
--- names that were in order before links added others are in order with them
+-- the same where links added the others
 all_ordered : (xs ys : List Name) → with_linked (in_byte_order xs) ys ≡ in_byte_order (xs ++ ys)
 all_ordered xs [] = ap in_byte_order (sym (append-nil xs))
 all_ordered xs (y ∷ ys) = ordered_again xs (y ∷ ys)
@@ -69,7 +57,7 @@ module _ (entries : SettingMap) (unit : Name) (links : LinkNames) where
       ∙ ap (λ (ns : List Name). let r : DependencyList = record { kind = dep; names = ns } in r)
       (all ∙ ap (λ (l : DependencyList). with_linked l.names (linked_by unit (links_for links dep))) is)
 
-  -- the lists of words, once the two of `Wants` and `Requires` have the names that links add
+  -- the lists of words, once those of `Wants` and `Requires` have the names that links add
   module _ (lists : List DependencyList) (is : lists ≡ lists_of entries unit) (wants needs : DependencyList) (wanted required : List Name) where
     lists_linked : wants ≡ get_or lists 2 wants → wanted ≡ with_linked wants.names (linked_by unit links.wanted) → needs ≡ get_or (set lists 2 (record wants { names = wanted })) 3 needs → required ≡ with_linked needs.names (linked_by unit links.required) → set (set lists 2 (record wants { names = wanted })) 3 (record needs { names = required }) ≡ lists_with entries unit links
     unfolding lists_of added
@@ -86,7 +74,7 @@ module _ (entries : SettingMap) (unit : Name) (links : LinkNames) where
         needs_added : (record needs { names = required }) ≡ added Requires
         needs_added = one_list Requires needs required (fourth ∙ ap (λ ls. get_or ls 3 needs) wants_set) needs_all
 
-    -- the same where the places of the two are told
+    -- the same with the positions of the two given
     pub lists_linked_at : (i j : ℕ) → i ≡ 2 → j ≡ 3 → wants ≡ get_or lists i wants → wanted ≡ with_linked wants.names (linked_by unit links.wanted) → needs ≡ get_or (set lists i (record wants { names = wanted })) j needs → required ≡ with_linked needs.names (linked_by unit links.required) → set (set lists i (record wants { names = wanted })) j (record needs { names = required }) ≡ lists_with entries unit links
     lists_linked_at i j e f third wants_all fourth needs_all =
         (λ k. set (set lists (e k) (record wants { names = wanted })) (f k) (record needs { names = required }))

@@ -1,14 +1,8 @@
 -- Lists that are made element by element.
-use Rattle.std.proofs.Common.{◌≡◌, is_none, List, [], ◌∷◌, ◌++◌, map, filter, ap, sym, ◌∙◌, append_assoc}
+use Rattle.std.proofs.Common.{[], ◌++◌, ◌∙◌, ◌∷◌, ◌≡◌, ap, append_assoc, filter, is_none, List, map, sym}
 use Rattle.std.proofs.lemmas.List.{map-append}
 use Rattle.std.proofs.lemmas.List.Elements.{filter-append, filter_map-append}
-use Rattle.unit_name.specs.Names.{Name}
-use Rattle.setting_rules.specs.declared.kinds.DepKind.{DepKind}
-use Rattle.setting_rules.specs.declared.notes.SettingNoteKind.TheVariants.{BadName}
-use Rattle.setting_rules.specs.Dependencies.{key_for}
-use Rattle.setting_rules.specs.Settings.{note_on}
-use Rattle.setting_rules.specs.Words.{for_unit}
-use Rattle.unit_loads.specs.Units.{linked_by, link_notes}
+use Rattle.unit_loads.proofs.Prelude.{BadName, DepKind, for_unit, key_for, link_notes, linked_by, Name, note_on}
 
 -- one more element
 module _ {X B : Type 0} (made : List X → List B) (made-append : (xs ys : List X) → made (xs ++ ys) ≡ made xs ++ made ys) where

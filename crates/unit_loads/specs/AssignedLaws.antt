@@ -1,27 +1,15 @@
 -- The words of a kind are those that assignments have in its key.
-use Rattle.std.proofs.Common.{◌≡◌, ℕ, Bool, true, false, ◌&&◌, ◌||◌, not, List, [], ◌∷◌, filter, IsTrue, refl, ap, sym, ◌∙◌, subst}
-use Rattle.std.specs.Prelude.{◌↔◌}
+use Rattle.std.proofs.Common.{[], ◌&&◌, ◌||◌, ◌↔◌, ◌∙◌, ◌∷◌, ◌≡◌, ap, Bool, false, filter, IsTrue, List, not, refl, subst, sym, true, ℕ}
+use Rattle.std.proofs.lemmas.Bool.{and_from, and_parts, true≢false}
 use Rattle.std.specs.List.{flat_map, list_any}
-use Rattle.std.proofs.lemmas.Bool.{true≢false, and_parts, and_from}
-use Rattle.list_laws.specs.Members.{IsAmong, among_from_contains, contains_from_among}
-use Rattle.section_reader.specs.declared.assignments.Assignment.{Assignment}
-use Rattle.setting_rules.specs.declared.keys.SettingKey.{SettingKey}
-use Rattle.setting_rules.specs.declared.kinds.DepKind.{DepKind}
-use Rattle.setting_rules.specs.declared.kinds.DepKind.TheVariants.{Before, After, Wants, WantedBy, Requires, RequiredBy, Requisite, RequisiteOf, BindsTo, BoundBy, PartOf, ConsistsOf, Conflicts, ConflictedBy, OnFailure, OnFailureOf, PropagatesReloadTo, ReloadPropagatedFrom}
-use Rattle.setting_rules.specs.declared.rules.KeyRule.{KeyRule}
-use Rattle.setting_rules.specs.declared.rules.KeyRule.TheVariants.{Ignored, Dependency, Switch, Condition, Assertion, Plain}
-use Rattle.setting_rules.specs.Dependencies.{key_for, words_for}
-use Rattle.setting_rules.specs.KeyLaws.{same_key_is, same_key_itself}
-use Rattle.setting_rules.specs.Kinds.{is_settable, settable_kind, word}
-use Rattle.setting_rules.specs.Maps.{same_key, values_at}
-use Rattle.setting_rules.specs.ResetLaws.{keeps_all_values, settings_show_values}
-use Rattle.setting_rules.specs.Rules.{Text, is_empty, rule_of}
-use Rattle.setting_rules.specs.Settings.{counted, counts_by, emptied_by, given, gives, key_of, resets, rule_at, settings_of}
+use Rattle.unit_loads.specs.Prelude.{After, among_from_contains, Assertion, Assignment, Before, BindsTo, BoundBy, Condition, ConflictedBy, Conflicts, ConsistsOf, contains_from_among, counted, counts_by, Dependency, DepKind, emptied_by, given, gives, Ignored, is_empty, is_settable, IsAmong, keeps_all_values, key_for, key_of, KeyRule, OnFailure, OnFailureOf, PartOf, Plain, PropagatesReloadTo, ReloadPropagatedFrom, RequiredBy, Requisite, RequisiteOf, resets, rule_at, same_key, same_key_is, same_key_itself, SettingKey, settings_of, settings_show_values, Switch, Text, values_at, WantedBy, word, words_for}
+use Rattle.unit_loads.specs.{MemberLaws.among_filter, MemberLaws.among_flat_map, MemberLaws.among_map, MemberLaws.filter_among, MemberLaws.flat_map_among, MemberLaws.HasSource, MemberLaws.map_among, NamedUnits.IsAssigned}
+use Rattle.setting_rules.specs.declared.kinds.DepKind.TheVariants.{Wants, Requires}
+use Rattle.setting_rules.specs.Kinds.{settable_kind}
+use Rattle.setting_rules.specs.Rules.{rule_of}
 use Rattle.setting_rules.specs.Words.{words_of}
-use Rattle.unit_loads.specs.NamedUnits.{IsAssigned}
-use Rattle.unit_loads.specs.MemberLaws.{HasSource, among_filter, among_flat_map, among_map, filter_among, flat_map_among, map_among}
 
--- a settable kind's key sets dependencies
+-- the key of a settable kind sets dependencies
 dependency_key : (dep : DepKind) → IsTrue (is_settable dep) → rule_at (key_for dep) ≡ Dependency
 unfolding rule_of settable_kind
 dependency_key Before h = refl
@@ -64,12 +52,12 @@ module _ (k : SettingKey) (rule : rule_at k ≡ Dependency) where
       ∙ ap (λ b. (is_empty a.value && b) || list_any (resets k) items) (not_emptied (rule_of a.section a.key) (same_key k (key_of a)))
       ∙ ap (λ b. b || list_any (resets k) items) (and_false (is_empty a.value)) ∙ none_resets items
 
-  -- so all that is given is there
+  -- so every value that is given stays
   all_given : (items : List Assignment) → values_at (settings_of items) k ≡ given k items
   all_given items =
       settings_show_values k items ∙ keeps_all_values k items (none_resets items) ∙ ap (λ r. counted r (given k items)) rule
 
--- an assignment gives its key its value, where the key sets dependencies and the value has a word
+-- an assignment gives its value to its key, if the key sets dependencies and the value has a word
 gives_it : (k : SettingKey) → rule_at k ≡ Dependency → (a : Assignment) → k ≡ key_of a → (text : Text) → IsAmong text (words_of a.value) → gives k a ≡ true
 unfolding words_of
 gives_it k rule a e text h = and_from _ _ (and_from _ _ (ap (same_key k) (sym e) ∙ same_key_itself k) (ap (λ r. counts_by r a.value) (ap rule_at (sym e) ∙ rule) ∙ full)) full

@@ -1,63 +1,29 @@
--- What is shown elsewhere changes no unit.
-use Rattle.std.proofs.Common.{◌≡◌, ◌≢◌, ℕ, zero, suc, List, [], ◌∷◌, ◌++◌, map, refl, ap, sym, ◌∙◌, subst, inl, inr}
-use Rattle.std.specs.Prelude.{◌↔◌, ◌⊎◌, Some, slice_get}
-use Rattle.std.specs.List.{Contains}
+-- What is shown elsewhere affects no unit.
+use Rattle.std.proofs.Common.{[], ◌++◌, ◌↔◌, ◌∙◌, ◌∷◌, ◌≡◌, ◌≢◌, ◌⊎◌, ap, inl, inr, List, map, refl, slice_get, Some, subst, suc, sym, zero, ℕ}
 use Rattle.std.proofs.lemmas.Option.{same_Some}
-use Rattle.list_laws.specs.Members.{IsAmong, IsAmong-append_left, IsAmong-append_right, first_or_later, first_there, later_there}
-use Rattle.load_path.specs.Paths.{PathParts}
-use Rattle.load_places.specs.Places.{PlaceParts}
-use Rattle.edit_sums.specs.declared.contents.Content.{Content}
-use Rattle.edit_sums.specs.declared.contents.Content.TheVariants.{File}
-use Rattle.path_maps.specs.SeenLaws.{content_seen, same_place}
-use Rattle.path_maps.specs.Views.{AreForOne, View, content_at, seen_at, seen_place}
-use Rattle.unit_name.specs.Names.{Name}
-use Rattle.section_reader.specs.Sections.{assignments_of, notes_of}
-use Rattle.setting_rules.specs.Rows.{rows_of}
-use Rattle.setting_rules.specs.Settings.{settings_of}
-use Rattle.setting_rules.specs.Switches.{refuses}
-use Rattle.fragment_choice.specs.declared.choices.Choice.{Choice}
+use Rattle.std.specs.List.{Contains}
+use Rattle.unit_loads.specs.Prelude.{AreForOne, assignments_of, At, Candidate, Choice, choices_decide, Content, content_at, content_viewed, dirs_by, dirs_with, drop_in_paths_are_files, DropIns, ending, File, first_or_later, first_there, Folder, folders, folders_decide, folders_decide_over, fragments_are_in_view, HostViewMap, IsAmong, IsAmong-append_left, IsAmong-append_right, IsDropIn, IsDropInAt, IsLinked, IsOwnFile, IsTaken, later_there, Links, main, mains_decide, Name, name_dirs, notes_of, OfName, OfType, own_paths_count, Owner, PathParts, PlaceParts, refuses, Requires, Resolution, resolution, rows_of, same_place, Search, settings_of, type_dirs, viewed_at, viewed_place, Wants}
+use Rattle.unit_loads.specs.{declared.units.Status.Status, declared.units.Status.TheVariants.Bad, declared.units.Status.TheVariants.Loaded, declared.units.Status.TheVariants.Masked, declared.units.Status.TheVariants.NotFound, declared.units.Unit.Unit as LoadedUnit, Elsewhere.AgreeButAt, Elsewhere.IsElsewhere, Elsewhere.IsNear, Elsewhere.unit_folders, Units.AreDropIns, Units.AreLinks, Units.file_bytes, Units.file_notes, Units.HasAllOf, Units.HasSettings, Units.IsStatus, Units.IsUnit, Units.items_of, Units.lists_with, Units.setting_notes}
 use Rattle.fragment_choice.specs.declared.choices.Choice.TheVariants as choice
-use Rattle.fragment_choice.specs.declared.resolutions.Resolution.{Resolution}
-use Rattle.fragment_choice.specs.ChoiceLaws.{own_paths_count}
-use Rattle.fragment_choice.specs.FragmentLaws.{IsOwnFile, fragments_are_seen}
-use Rattle.fragment_choice.specs.ResolutionLaws.{choices_decide}
-use Rattle.fragment_choice.specs.Resolutions.{main, resolution}
-use Rattle.fragment_choice.specs.UnitNameLaws.{mains_decide}
-use Rattle.dropins.specs.declared.link_names.Folder.{Folder}
-use Rattle.dropins.specs.declared.link_names.Folder.TheVariants.{Wants, Requires}
-use Rattle.dropins.specs.declared.precedence.Search.{Search}
-use Rattle.dropins.specs.declared.precedence.Search.TheVariants.{DropIns, Links}
-use Rattle.dropins.specs.FolderLists.{folders}
-use Rattle.dropins.specs.OrderLaws.{drop_in_paths_are_files}
-use Rattle.dropins.specs.OverLaws.{folders_decide_over}
-use Rattle.dropins.specs.PrecedenceLaws.{folders_decide}
-use Rattle.dropins.specs.Taken.Candidate.{At}
-use Rattle.dropins.specs.Taken.Owner.{OfName, OfType}
-use Rattle.dropins.specs.Taken.{Candidate, Owner, IsDropIn, IsDropInAt, IsLinked, IsTaken, dirs_by, dirs_with, ending, name_dirs, type_dirs}
-use Rattle.unit_loads.specs.declared.units.Status.{Status}
-use Rattle.unit_loads.specs.declared.units.Status.TheVariants.{Loaded, NotFound, Masked, Bad}
-use Rattle.unit_loads.specs.declared.units.Unit.{Unit as LoadedUnit}
 use Rattle.unit_loads.specs.declared.units.UnitNote.TheVariants as note
-use Rattle.unit_loads.specs.Elsewhere.{AgreeButAt, IsElsewhere, IsNear, unit_folders}
-use Rattle.unit_loads.specs.Units.{AreDropIns, AreLinks, HasAllOf, HasSettings, IsStatus, IsUnit, file_bytes, file_notes, items_of, lists_with, setting_notes}
 
 -- Views for one host that show the same at paths of one component and in a unit's folders have the same unit.
 abbrev pub NearPathsDecide : Type 0
-NearPathsDecide = (s t : View) → AreForOne s t → (name : Name) (unit : LoadedUnit) → ((p : PathParts) → IsNear unit.names p → seen_at s p ≡ seen_at t p) → IsUnit s name unit → IsUnit t name unit
+NearPathsDecide = (s t : HostViewMap) → AreForOne s t → (name : Name) (unit : LoadedUnit) → ((p : PathParts) → IsNear unit.names p → viewed_at s p ≡ viewed_at t p) → IsUnit s name unit → IsUnit t name unit
 
--- A visible edit elsewhere leaves a unit as it was.
+-- A visible edit elsewhere leaves a unit unchanged.
 abbrev pub ElsewhereChangesNothing : Type 0
-ElsewhereChangesNothing = (s t : View) → AreForOne s t → (name : Name) (unit : LoadedUnit) (m : PathParts) → IsElsewhere unit.names m → AgreeButAt s t m → IsUnit s name unit → IsUnit t name unit
+ElsewhereChangesNothing = (s t : HostViewMap) → AreForOne s t → (name : Name) (unit : LoadedUnit) (m : PathParts) → IsElsewhere unit.names m → AgreeButAt s t m → IsUnit s name unit → IsUnit t name unit
 
--- what stands at a place of a list is among it
+-- the element at a position of a list is a member of it
 placed_among : (ds : List (List ℕ)) (i : ℕ) (d : List ℕ) → slice_get ds i ≡ Some d → IsAmong d ds
 placed_among [] i d h = cc (h)
 placed_among (x ∷ xs) zero d h = inl (same_Some _ _ h)
 placed_among (x ∷ xs) (suc i) d h = inr (placed_among xs i d h)
 
 -- the same files have the same bytes, and the same assignments and notes
-module _ (s t : View) where
-  items_same : (files : List PlaceParts) → ((p : PlaceParts) → Contains files p → content_at s p ≡ content_at t p) → items_of s files ≡ items_of t files
+module _ (s t : HostViewMap) where
+  pub items_same : (files : List PlaceParts) → ((p : PlaceParts) → Contains files p → content_at s p ≡ content_at t p) → items_of s files ≡ items_of t files
   items_same [] same = refl
   items_same (p ∷ ps) same =
       ap (λ o. assignments_of (file_bytes o) ++ items_of s ps) (same p (first_there p ps))
@@ -69,22 +35,22 @@ module _ (s t : View) where
       ap (λ o. map (note.File p) (notes_of (file_bytes o)) ++ file_notes s ps) (same p (first_there p ps))
       ∙ ap (λ xs. map (note.File p) (notes_of (file_bytes (content_at t p))) ++ xs) (notes_same ps (λ q c. same q (later_there p q ps c)))
 
--- the same is seen in the folders of a unit of these names
-abbrev pub AgreeInFolders : View → View → List Name → Type 0
-AgreeInFolders s t names = (p : PathParts) → IsAmong p.folder (unit_folders names) → seen_at s p ≡ seen_at t p
+-- both show the same in the folders of a unit with these names
+abbrev pub AgreeInFolders : HostViewMap → HostViewMap → List Name → Type 0
+AgreeInFolders s t names = (p : PathParts) → IsAmong p.folder (unit_folders names) → viewed_at s p ≡ viewed_at t p
 
 -- what is seen at a path, and is the same in both, is the same at its place
-pub same_content : (s t : View) → AreForOne s t → (q : PathParts) (c : Content) → seen_at s q ≡ Some c → seen_at s q ≡ seen_at t q
-    → content_at s (seen_place s q) ≡ content_at t (seen_place s q)
+pub same_content : (s t : HostViewMap) → AreForOne s t → (q : PathParts) (c : Content) → viewed_at s q ≡ Some c → viewed_at s q ≡ viewed_at t q
+    → content_at s (viewed_place s q) ≡ content_at t (viewed_place s q)
 same_content s t one q c is same =
-    content_seen s q c is ∙ sym (content_seen t q c (sym same ∙ is)) ∙ ap (content_at t) (sym (same_place s t one q))
+    content_viewed s q c is ∙ sym (content_viewed t q c (sym same ∙ is)) ∙ ap (content_at t) (sym (same_place s t one q))
 
-module _ (s t : View) (one : AreForOne s t) (names : List Name) (inside : AgreeInFolders s t names) where
+module _ (s t : HostViewMap) (one : AreForOne s t) (names : List Name) (inside : AgreeInFolders s t names) where
   -- a path in a folder of the unit shows the same
-  shown_in : (ds : List (List ℕ)) → ((d : List ℕ) → IsAmong d ds → IsAmong d (unit_folders names)) → (p : PathParts) (i : ℕ) → slice_get ds i ≡ Some p.folder → seen_at s p ≡ seen_at t p
+  shown_in : (ds : List (List ℕ)) → ((d : List ℕ) → IsAmong d ds → IsAmong d (unit_folders names)) → (p : PathParts) (i : ℕ) → slice_get ds i ≡ Some p.folder → viewed_at s p ≡ viewed_at t p
   shown_in ds own p i f = inside p (own p.folder (placed_among ds i p.folder f))
 
-  -- and the same is taken there
+  -- and the same file is taken there
   same_taken : (x : Search) (ds : List (List ℕ)) → ((d : List ℕ) → IsAmong d ds → IsAmong d (unit_folders names)) → (c : Candidate) (p : PathParts) → IsTaken s x ds c p ↔ IsTaken t x ds c p
   same_taken x ds own c p = (folders_decide s t x ds (λ q i l f. shown_in ds own q i f) c p, folders_decide t s x ds (λ q i l f. sym (shown_in ds own q i f)) c p)
 
@@ -99,7 +65,7 @@ module _ (s t : View) (one : AreForOne s t) (names : List Name) (inside : AgreeI
       by Wants h = IsAmong-append_left d (dirs_with (ending Wants) (folders names)) _ h
       by Requires h = IsAmong-append_right d (dirs_with (ending Wants) (folders names)) _ h
 
-  drop_in_folder_shown : (o : Owner) (p : PathParts) (i : ℕ) → slice_get (dirs_by o (name_dirs (folders names)) (type_dirs (folders names))) i ≡ Some p.folder → seen_at s p ≡ seen_at t p
+  drop_in_folder_shown : (o : Owner) (p : PathParts) (i : ℕ) → slice_get (dirs_by o (name_dirs (folders names)) (type_dirs (folders names))) i ≡ Some p.folder → viewed_at s p ≡ viewed_at t p
   drop_in_folder_shown o p i f = shown_in (dirs_by o (name_dirs (folders names)) (type_dirs (folders names))) (drop_in_folder o) p i f
 
   same_drop_in : (p : PathParts) → IsDropIn s names p ↔ IsDropIn t names p
@@ -120,12 +86,6 @@ module _ (s t : View) (one : AreForOne s t) (names : List Name) (inside : AgreeI
     λ h. record { name = h.name; path = h.path; name_is = h.name_is; taken = (same_taken Links (dirs_with (ending folder) (folders names)) (link_folder folder) (At h.path) h.path).1 h.taken },
   )
 
-  same_links : (folder : Folder) (links : List Name) → AreLinks s names folder links → AreLinks t names folder links
-  same_links folder links are = record {
-    rising = are.rising;
-    exact = λ n. (λ c. (same_linked folder n).0 ((are.exact n).0 c), λ h. (are.exact n).1 ((same_linked folder n).1 h));
-  }
-
   drop_in_shown : (p : PlaceParts) → IsDropInAt s names p → content_at s p ≡ content_at t p
   drop_in_shown p (q, is, d) =
       let file = (drop_in_paths_are_files s (folders names) q d).1 in
@@ -133,7 +93,7 @@ module _ (s t : View) (one : AreForOne s t) (names : List Name) (inside : AgreeI
       ∙ same_content s t one q (File (file.0 ∷ file.1)) file.2 (drop_in_folder_shown d.owner q d.place d.stands.folder_is)
       ∙ ap (content_at t) is
 
-  -- the files of the unit show the same, where its fragment does
+  -- the files of the unit show the same if its fragment does
   files_shown : (fragment : PlaceParts) (dropins : List PlaceParts) → content_at s fragment ≡ content_at t fragment
       → AreDropIns s names dropins → (p : PlaceParts) → Contains (fragment ∷ dropins) p → content_at s p ≡ content_at t p
   files_shown fragment dropins own are p c = by (first_or_later fragment p dropins c)
@@ -142,24 +102,28 @@ module _ (s t : View) (one : AreForOne s t) (names : List Name) (inside : AgreeI
       by (inl e) = subst (λ (q : PlaceParts). content_at s q ≡ content_at t q) e own
       by (inr d) = drop_in_shown p ((are.exact p).0 d)
 
-module _ (s t : View) (one : AreForOne s t) (unit : LoadedUnit) (inside : AgreeInFolders s t unit.names) where
-  settings_same : (fragment : PlaceParts) → content_at s fragment ≡ content_at t fragment → HasSettings s fragment unit
-      → HasSettings t fragment unit
-  settings_same fragment own h =
-      let files = files_shown s t one unit.names inside fragment unit.dropins own h.dropins_are in
+-- a unit has the same settings in both, where its drop-ins and links are the same, and its files show the same
+module _ (s t : HostViewMap) (unit : LoadedUnit) (fragment : PlaceParts) (drop_ins : (p : PlaceParts) → IsDropInAt s unit.names p ↔ IsDropInAt t unit.names p)
+    (links : (folder : Folder) (n : Name) → IsLinked s unit.names folder n ↔ IsLinked t unit.names folder n)
+    (files : (p : PlaceParts) → Contains (fragment ∷ unit.dropins) p → content_at s p ≡ content_at t p) where
+  linked_too : (folder : Folder) (named : List Name) → AreLinks s unit.names folder named → AreLinks t unit.names folder named
+  linked_too folder named are = record {
+    ascending = are.ascending;
+    exact = λ n. (λ c. (links folder n).0 ((are.exact n).0 c), λ h. (are.exact n).1 ((links folder n).1 h));
+  }
+
+  pub settings_too : HasSettings s fragment unit → HasSettings t fragment unit
+  settings_too h =
       let items : items_of s (fragment ∷ unit.dropins) ≡ items_of t (fragment ∷ unit.dropins) = items_same s t (fragment ∷ unit.dropins) files in
       record {
         dropins_are = record {
-          rising = h.dropins_are.rising;
-          exact = λ p. (
-            λ c. (same_drop_in_at s t one unit.names inside p).0 ((h.dropins_are.exact p).0 c),
-            λ d. (h.dropins_are.exact p).1 ((same_drop_in_at s t one unit.names inside p).1 d),
-          );
+          ascending = h.dropins_are.ascending;
+          exact = λ p. (λ c. (drop_ins p).0 ((h.dropins_are.exact p).0 c), λ d. (h.dropins_are.exact p).1 ((drop_ins p).1 d));
         };
         links = h.links;
         links_are = record {
-          wanted_are = same_links s t one unit.names inside Wants h.links.wanted h.links_are.wanted_are;
-          required_are = same_links s t one unit.names inside Requires h.links.required h.links_are.required_are;
+          wanted_are = linked_too Wants h.links.wanted h.links_are.wanted_are;
+          required_are = linked_too Requires h.links.required h.links_are.required_are;
         };
         values_are = h.values_are ∙ ap (λ xs. rows_of (settings_of xs) unit.name) items;
         deps_are = h.deps_are ∙ ap (λ xs. lists_with (settings_of xs) unit.name h.links) items;
@@ -170,7 +134,14 @@ module _ (s t : View) (one : AreForOne s t) (unit : LoadedUnit) (inside : AgreeI
         manual_is = h.manual_is ∙ ap (λ xs. refuses (settings_of xs)) items;
       }
 
-  -- a unit has the same in both, where its fragment is the same and what is seen in its folders
+module _ (s t : HostViewMap) (one : AreForOne s t) (unit : LoadedUnit) (inside : AgreeInFolders s t unit.names) where
+  settings_same : (fragment : PlaceParts) → content_at s fragment ≡ content_at t fragment → HasSettings s fragment unit
+      → HasSettings t fragment unit
+  settings_same fragment own h =
+      settings_too s t unit fragment (same_drop_in_at s t one unit.names inside) (same_linked s t one unit.names inside)
+      (files_shown s t one unit.names inside fragment unit.dropins own h.dropins_are) h
+
+  -- a unit has the same in both if its fragment is the same and so is what is seen in its folders
   pub all_same : (status : Status) → ((fragment : PlaceParts) → status ≡ Loaded fragment → content_at s fragment ≡ content_at t fragment)
       → HasAllOf s unit status → HasAllOf t unit status
   all_same (Loaded fragment) own h = settings_same fragment (own fragment refl) h
@@ -178,7 +149,7 @@ module _ (s t : View) (one : AreForOne s t) (unit : LoadedUnit) (inside : AgreeI
   all_same Masked own h = h
   all_same (Bad cause) own h = h
 
--- the status of a unit whose fragment is at a place came from the choice of that place
+-- the status of a unit with its fragment at a place comes from the choice of that place
 pub chosen : (c : Choice) (status : Status) (fragment : PlaceParts) → IsStatus c status → status ≡ Loaded fragment
     → c ≡ choice.Fragment fragment
 chosen choice.NotFound status fragment h e = cc (h, e)
@@ -188,7 +159,7 @@ chosen (choice.Alias other) status fragment h e = absurd h
 chosen (choice.Bad cause) status fragment h e = cc (h, e)
 
 -- a file at a path of one component is the same, where near paths show the same
-own_file_shown : (s t : View) → AreForOne s t → (names : List Name) → ((p : PathParts) → IsNear names p → seen_at s p ≡ seen_at t p)
+own_file_shown : (s t : HostViewMap) → AreForOne s t → (names : List Name) → ((p : PathParts) → IsNear names p → viewed_at s p ≡ viewed_at t p)
     → (p : PlaceParts) → IsOwnFile s p → content_at s p ≡ content_at t p
 own_file_shown s t one names near p (q, is, own, b, bs, file) =
     ap (content_at s) (sym is) ∙ same_content s t one q (File (b ∷ bs)) file (near q (inl own)) ∙ ap (content_at t) is
@@ -205,11 +176,11 @@ near_paths_decide s t one name unit near u =
       has =
           all_same s t one unit (λ p h. near p (inr h)) unit.status
           (λ fragment e. own_file_shown s t one unit.names near fragment
-          (fragments_are_seen s name fragment (chosen (resolution s name).choice unit.status fragment u.status_is e)))
+          (fragments_are_in_view s name fragment (chosen (resolution s name).choice unit.status fragment u.status_is e)))
           u.has;
     }
 
--- what is near is not elsewhere
+-- what is near isn't elsewhere
 near_differs : (names : List Name) (m p : PathParts) → IsElsewhere names m → IsNear names p → p ≢ m
 near_differs names m p e (inl own) same = e.in_folder (ap (λ (q : PathParts). q.folder) (sym same) ∙ own)
 near_differs names m p e (inr among) same = e.of_others (subst (λ (q : PathParts). IsAmong q.folder (unit_folders names)) same among)

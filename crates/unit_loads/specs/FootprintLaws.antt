@@ -1,49 +1,27 @@
--- Where names are aliases of the same, what is seen in a unit's footprint decides the unit.
-use Rattle.std.proofs.Common.{◌≡◌, ℕ, Option, Some, None, List, ◌∷◌, ◌++◌, refl, ap, sym, ◌∙◌, subst, inl, inr}
-use Rattle.std.specs.Prelude.{◌⊎◌, is_some}
-use Rattle.list_laws.specs.Members.{IsAmong, IsAmong-append_left, IsAmong-append_right}
-use Rattle.load_path.specs.Paths.{PathParts}
-use Rattle.load_places.specs.Levels.{Looker}
-use Rattle.load_places.specs.Places.{PlaceParts}
-use Rattle.edit_sums.specs.declared.contents.Content.TheVariants.{File}
-use Rattle.edit_sums.specs.Sums.{EntryMap}
-use Rattle.path_maps.specs.SeenLaws.{places_decide_sights}
-use Rattle.path_maps.specs.Views.{AreForOne, View, content_at, view_of}
-use Rattle.unit_name.specs.Names.{Name}
-use Rattle.unit_name.specs.Forms.{template_of}
-use Rattle.fragment_choice.specs.declared.resolutions.Resolution.{Resolution}
-use Rattle.fragment_choice.specs.ChoiceLaws.{IsOwnPath, own_paths_decide}
-use Rattle.fragment_choice.specs.FragmentLaws.{IsOwnFileOf, fragments_are_own}
-use Rattle.fragment_choice.specs.LeadsLaws.{SameLeads, leads_decide_mains, leads_and_choice_decide}
-use Rattle.fragment_choice.specs.Resolutions.{main, resolution}
-use Rattle.fragment_choice.specs.UnitNameLaws.{mains_decide}
-use Rattle.dropins.specs.FolderLists.{listed, with_template}
-use Rattle.unit_loads.specs.declared.units.Unit.{Unit as LoadedUnit}
-use Rattle.unit_loads.specs.Elsewhere.{unit_folders}
-use Rattle.unit_loads.specs.ElsewhereLaws.{all_same, chosen, same_content}
-use Rattle.unit_loads.specs.Footprints.{AgreeIn, StartsIn, StoresAgreeIn, footprint}
-use Rattle.unit_loads.specs.Footprints.StartsIn.{alone, within}
-use Rattle.unit_loads.specs.Units.{IsStatus, IsUnit}
+-- If names are aliases of the same units, what is seen in a unit's footprint determines the unit.
+use Rattle.std.proofs.Common.{◌++◌, ◌∙◌, ◌∷◌, ◌≡◌, ◌⊎◌, ap, inl, inr, is_some, List, None, Option, refl, Some, subst, sym, ℕ}
+use Rattle.unit_loads.specs.Prelude.{AreForOne, content_at, EntryMap, File, fragments_are_own, host_view_of, HostViewMap, IsAmong, IsAmong-append_left, IsAmong-append_right, IsOwnFileOf, IsOwnPath, leads_and_choice_decide, leads_decide_mains, listed, main, mains_decide, Name, own_paths_decide, PathParts, PlaceParts, places_decide_views, Resolution, resolution, SameLeads, template_of, Viewer, with_template}
+use Rattle.unit_loads.specs.{declared.units.Unit.Unit as LoadedUnit, Elsewhere.unit_folders, ElsewhereLaws.all_same, ElsewhereLaws.chosen, ElsewhereLaws.same_content, Footprints.AgreeIn, Footprints.footprint, Footprints.StartsIn, Footprints.StartsIn.alone, Footprints.StartsIn.within, Footprints.StoresAgreeIn, Units.IsStatus, Units.IsUnit}
 
 -- Views for one host with the same aliases that show the same in a unit's footprint have the same unit.
 abbrev pub FootprintsDecide : Type 0
 FootprintsDecide =
-    (s t : View) → AreForOne s t → (name : Name) (unit : LoadedUnit) → SameLeads s t → AgreeIn s t (footprint name unit.names)
+    (s t : HostViewMap) → AreForOne s t → (name : Name) (unit : LoadedUnit) → SameLeads s t → AgreeIn s t (footprint name unit.names)
     → IsUnit s name unit → IsUnit t name unit
 
--- Stores that show the same to a host in a unit's footprint have the same unit for it, where it sees the same aliases.
+-- Stores that show a host the same in a unit's footprint have the same unit for it, if it sees the same aliases.
 abbrev pub StoreFootprintsDecide : Type 0
 StoreFootprintsDecide =
-    (s t : EntryMap) (host : Looker) (name : Name) (unit : LoadedUnit) → SameLeads (view_of s host) (view_of t host)
-    → StoresAgreeIn s t host (footprint name unit.names) → IsUnit (view_of s host) name unit → IsUnit (view_of t host) name unit
+    (s t : EntryMap) (host : Viewer) (name : Name) (unit : LoadedUnit) → SameLeads (host_view_of s host) (host_view_of t host)
+    → StoresAgreeIn s t host (footprint name unit.names) → IsUnit (host_view_of s host) name unit → IsUnit (host_view_of t host) name unit
 
--- stores that show the same to a host at places show it the same at the paths
-abbrev pub AgreeSeen : Type 0
-AgreeSeen =
-    (s t : EntryMap) (host : Looker) (parts : List (List ℕ)) → StoresAgreeIn s t host parts
-    → AgreeIn (view_of s host) (view_of t host) parts
+-- stores that show a host the same at places show it the same at the paths
+abbrev pub AgreeViewed : Type 0
+AgreeViewed =
+    (s t : EntryMap) (host : Viewer) (parts : List (List ℕ)) → StoresAgreeIn s t host parts
+    → AgreeIn (host_view_of s host) (host_view_of t host) parts
 
--- a path of the name or of its template begins with one of the footprint
+-- a path of the name or of its template begins with a component of the footprint
 own_among : (n o : Name) → (o ≡ n) ⊎ (template_of n ≡ Some o) → IsAmong o (with_template n)
 own_among n o (inl e) = inl (sym e)
 own_among n o (inr e) = inr (subst (λ (x : Option Name). IsAmong o (listed x)) (sym e) (inl refl))
@@ -54,7 +32,7 @@ own_starts n p more o =
     (IsAmong-append_left p.name (with_template n) more
     (subst (λ (x : List ℕ). IsAmong x (with_template n)) (sym o.name_is) (own_among n o.owner o.owns)))
 
-file_shown : (s t : View) → AreForOne s t → (n : Name) (names : List Name) → AgreeIn s t (footprint n names) → (p : PlaceParts)
+file_shown : (s t : HostViewMap) → AreForOne s t → (n : Name) (names : List Name) → AgreeIn s t (footprint n names) → (p : PlaceParts)
     → IsOwnFileOf s n p → content_at s p ≡ content_at t p
 file_shown s t one n names agree p f =
     ap (content_at s) (sym f.place_is)
@@ -82,8 +60,8 @@ footprints_decide s t one name unit leads agree u =
 
 -- ---- stores
 
--- two stores are looked at for one host
-pub one_host : (s t : EntryMap) (host : Looker) → AreForOne (view_of s host) (view_of t host)
+-- two stores are viewed for one host
+pub one_host : (s t : EntryMap) (host : Viewer) → AreForOne (host_view_of s host) (host_view_of t host)
 one_host s t None = refl
 one_host s t (Some h) = refl
 
@@ -91,12 +69,12 @@ same_start : (parts : List (List ℕ)) (p q : PathParts) → q.folder ≡ p.fold
 same_start parts p q folder name (alone bare among) = alone (folder ∙ bare) (subst (λ (x : List ℕ). IsAmong x parts) (sym name) among)
 same_start parts p q folder name (within among) = within (subst (λ (x : List ℕ). IsAmong x parts) (sym folder) among)
 
-pub agree_seen : AgreeSeen
-agree_seen s t host parts agree p starts =
-    places_decide_sights s t host p
+pub agree_viewed : AgreeViewed
+agree_viewed s t host parts agree p starts =
+    places_decide_views s t host p
     (λ place level folder name. agree place (same_start parts p place.path folder name starts) (ap is_some level))
 
 pub store_footprints_decide : StoreFootprintsDecide
 store_footprints_decide s t host name unit leads agree u =
-    footprints_decide (view_of s host) (view_of t host) (one_host s t host) name unit leads
-    (agree_seen s t host (footprint name unit.names) agree) u
+    footprints_decide (host_view_of s host) (host_view_of t host) (one_host s t host) name unit leads
+    (agree_viewed s t host (footprint name unit.names) agree) u

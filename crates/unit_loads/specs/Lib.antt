@@ -1,8 +1,10 @@
+pub mod Prelude
 pub mod AssignedLaws
 pub mod Elsewhere
 pub mod ElsewhereLaws
 pub mod FootprintLaws
 pub mod Footprints
+pub mod HostLaws
 pub mod MemberLaws
 pub mod NameLaws
 pub mod NamedUnits

@@ -1,10 +1,9 @@
--- What stands in lists that are made from lists.
-use Rattle.std.proofs.Common.{◌≡◌, Bool, true, false, cond, Option, Some, None, List, [], ◌∷◌, map, filter, refl, ap, sym, ◌∙◌, subst, inl, inr}
-use Rattle.std.specs.Prelude.{◌⊎◌}
+-- The members of lists that are made from lists.
+use Rattle.std.proofs.Common.{[], ◌∙◌, ◌∷◌, ◌≡◌, ◌⊎◌, ap, Bool, cond, false, filter, inl, inr, List, map, None, Option, refl, Some, subst, sym, true}
 use Rattle.std.specs.List.{cons_option, filter_map, flat_map}
-use Rattle.list_laws.specs.Members.{IsAmong, IsAmong-append_cases, IsAmong-append_left, IsAmong-append_right}
+use Rattle.unit_loads.specs.Prelude.{IsAmong, IsAmong-append_cases, IsAmong-append_left, IsAmong-append_right}
 
--- one of a list stands in such a relation to y
+-- a member of the list is in this relation to y
 pub record HasSource {X Y : Type 0} (made : X → Y → Type 0) (xs : List X) (y : Y) : Type 0 where
   pub source : X
   pub there : IsAmong source xs

@@ -1,55 +1,29 @@
 -- Laws of the names that a unit lists.
-use Rattle.std.proofs.Common.{◌≡◌, ℕ, Some, Result, Ok, Err, List, [], ◌∷◌, ◌++◌, map, IsTrue, refl, ap, sym, ◌∙◌, subst, inl, inr}
-use Rattle.std.specs.Prelude.{◌↔◌, ◌⊎◌}
+use Rattle.std.proofs.Common.{[], ◌++◌, ◌↔◌, ◌∙◌, ◌∷◌, ◌≡◌, ◌⊎◌, ap, Err, inl, inr, IsTrue, List, map, Ok, refl, Result, Some, subst, sym, ℕ}
 use Rattle.std.specs.List.{Contains}
-use Rattle.std.specs.List.Sorted.{IsStrictlySortedBy}
 use Rattle.std.specs.Result.{result_ok}
-use Rattle.list_laws.specs.Members.{IsAmong, IsAmong-append_cases, IsAmong-append_left, IsAmong-append_right, among_from_contains, contains_from_among}
-use Rattle.load_places.specs.Places.{PlaceParts}
-use Rattle.path_maps.specs.Views.{View}
-use Rattle.unit_name.specs.Names.{Name, name_cmp}
-use Rattle.setting_rules.specs.declared.dependency_lists.DependencyList.{DependencyList}
-use Rattle.setting_rules.specs.declared.kinds.DepKind.{DepKind}
-use Rattle.setting_rules.specs.declared.kinds.DepKind.TheVariants.{Before, After, Wants, WantedBy, Requires, RequiredBy, Requisite, RequisiteOf, BindsTo, BoundBy, PartOf, ConsistsOf, Conflicts, ConflictedBy, OnFailure, OnFailureOf, PropagatesReloadTo, ReloadPropagatedFrom}
-use Rattle.setting_rules.specs.declared.notes.SettingNoteKind.{SettingNoteKind}
-use Rattle.setting_rules.specs.Dependencies.{named_by, names_by, words_for}
-use Rattle.setting_rules.specs.Kinds.{is_settable, kinds, settable}
-use Rattle.setting_rules.specs.Maps.{SettingMap}
-use Rattle.setting_rules.specs.OrderLaws.{names_rise, names_stay}
-use Rattle.setting_rules.specs.Words.{for_unit}
-use Rattle.fragment_choice.specs.declared.choices.Choice.{Choice}
+use Rattle.unit_loads.specs.Prelude.{After, among_from_contains, AreNames, Before, BindsTo, BoundBy, Choice, ConflictedBy, Conflicts, ConsistsOf, contains_from_among, DependencyList, DepKind, Folder, for_unit, HostViewMap, is_settable, IsAmong, IsAmong-append_cases, IsAmong-append_left, IsAmong-append_right, IsLinked, kinds, Name, name_cmp, named_by, names_ascend, names_by, names_stay, one_list_of_names, OnFailure, OnFailureOf, PartOf, PlaceParts, PropagatesReloadTo, ReloadPropagatedFrom, RequiredBy, Requisite, RequisiteOf, resolution, settable, SettingMap, SettingNoteKind, WantedBy, words_for}
+use Rattle.unit_loads.specs.{AssignedLaws.words_are_assigned, declared.links.LinkNames.LinkNames, declared.units.Status.Status, declared.units.Status.TheVariants.Bad, declared.units.Status.TheVariants.Loaded, declared.units.Status.TheVariants.Masked, declared.units.Status.TheVariants.NotFound, declared.units.Unit.Unit as LoadedUnit, MemberLaws.among_filter, MemberLaws.among_filter_map, MemberLaws.among_map, MemberLaws.filter_among, MemberLaws.filter_map_among, MemberLaws.HasSource, MemberLaws.map_among, NamedUnits.IsAssigned, NamedUnits.IsListed, NamedUnits.IsNamed, NamedUnits.IsNamedByLink, NamedUnits.kind_of, UnitLaws.one_dropins, Units.AreDropIns, Units.AreLinks, Units.HasAllOf, Units.HasSettings, Units.IsStatus, Units.IsUnit, Units.items_of, Units.linked_by, Units.links_for, Units.list_with, Units.no_names, Units.settings_in}
+use Rattle.std.specs.List.Sorted.{IsStrictlySortedBy}
+use Rattle.setting_rules.specs.declared.kinds.DepKind.TheVariants.{Wants, Requires}
 use Rattle.fragment_choice.specs.declared.choices.Choice.TheVariants as choice
-use Rattle.fragment_choice.specs.Resolutions.{resolution}
-use Rattle.fragment_choice.specs.UnitNames.{AreNames}
-use Rattle.fragment_choice.specs.UnitNameLaws.{one_list_of_names}
-use Rattle.dropins.specs.declared.link_names.Folder.{Folder}
 use Rattle.dropins.specs.declared.link_names.Folder.TheVariants as folder
-use Rattle.dropins.specs.Taken.{IsLinked}
-use Rattle.unit_loads.specs.declared.links.LinkNames.{LinkNames}
-use Rattle.unit_loads.specs.declared.units.Status.{Status}
-use Rattle.unit_loads.specs.declared.units.Status.TheVariants.{Loaded, NotFound, Masked, Bad}
-use Rattle.unit_loads.specs.declared.units.Unit.{Unit as LoadedUnit}
-use Rattle.unit_loads.specs.AssignedLaws.{words_are_assigned}
-use Rattle.unit_loads.specs.MemberLaws.{HasSource, among_filter, among_filter_map, among_map, filter_among, filter_map_among, map_among}
-use Rattle.unit_loads.specs.NamedUnits.{IsAssigned, IsListed, IsNamed, IsNamedByLink, kind_of}
-use Rattle.unit_loads.specs.UnitLaws.{one_dropins}
-use Rattle.unit_loads.specs.Units.{AreDropIns, AreLinks, HasAllOf, HasSettings, IsStatus, IsUnit, items_of, linked_by, links_for, list_with, no_names, settings_in}
 
 -- A unit has a list for each kind that a unit file may set, in the order of the kinds, whatever its status.
 abbrev pub UnitsListAllKinds : Type 0
-UnitsListAllKinds = (s : View) (name : Name) (unit : LoadedUnit) → IsUnit s name unit → map (λ list. list.kind) unit.deps ≡ settable
+UnitsListAllKinds = (s : HostViewMap) (name : Name) (unit : LoadedUnit) → IsUnit s name unit → map (λ list. list.kind) unit.deps ≡ settable
 
--- Each list rises.
-abbrev pub ListsRise : Type 0
-ListsRise = (s : View) (name : Name) (unit : LoadedUnit) (list : DependencyList) → IsUnit s name unit → Contains unit.deps list → IsStrictlySortedBy name_cmp list.names
+-- Each list is in ascending order.
+abbrev pub ListsAscend : Type 0
+ListsAscend = (s : HostViewMap) (name : Name) (unit : LoadedUnit) (list : DependencyList) → IsUnit s name unit → Contains unit.deps list → IsStrictlySortedBy name_cmp list.names
 
--- The lists have just the names that the unit names.
+-- The lists have exactly the names that the unit names.
 abbrev pub ListsHaveWhatIsNamed : Type 0
-ListsHaveWhatIsNamed = (s : View) (name : Name) (unit : LoadedUnit) (dep : DepKind) (v : Name) → IsUnit s name unit → IsListed unit.deps dep v ↔ IsNamed s name dep v
+ListsHaveWhatIsNamed = (s : HostViewMap) (name : Name) (unit : LoadedUnit) (dep : DepKind) (v : Name) → IsUnit s name unit → IsListed unit.deps dep v ↔ IsNamed s name dep v
 
--- Only a loaded unit names any.
+-- Only a loaded unit names others.
 abbrev pub OthersNameNone : Type 0
-OthersNameNone = (s : View) (name : Name) (unit : LoadedUnit) (dep : DepKind) (v : Name) → IsUnit s name unit → IsNamed s name dep v → (fragment : PlaceParts) × (unit.status ≡ Loaded fragment)
+OthersNameNone = (s : HostViewMap) (name : Name) (unit : LoadedUnit) (dep : DepKind) (v : Name) → IsUnit s name unit → IsNamed s name dep v → (fragment : PlaceParts) × (unit.status ≡ Loaded fragment)
 
 kind_there : (dep : DepKind) → IsAmong dep kinds
 kind_there Before = inl refl
@@ -78,7 +52,7 @@ ok_is : (r : Result Name SettingNoteKind) (v : Name) → result_ok r ≡ Some v 
 ok_is (Ok x) v h = cc
 ok_is (Err e) v h = cc
 
--- what stands for a name and the unit's status say the same
+-- the choice of a name and the unit's status agree
 fragment_from : (c : Choice) (status : Status) (fragment : PlaceParts) → IsStatus c status → status ≡ Loaded fragment → c ≡ choice.Fragment fragment
 fragment_from choice.NotFound status fragment p e = cc
 fragment_from choice.Masked status fragment p e = cc
@@ -91,9 +65,9 @@ status_from c status fragment p e = subst (λ (d : Choice). IsStatus d status) e
 
 -- ---- lists without names
 
-nothing_rises : (list : DependencyList) → IsAmong list no_names → IsStrictlySortedBy name_cmp list.names
+nothing_ascends : (list : DependencyList) → IsAmong list no_names → IsStrictlySortedBy name_cmp list.names
 unfolding IsStrictlySortedBy
-nothing_rises list h =
+nothing_ascends list h =
     let from = among_map (λ (dep : DepKind). let r : DependencyList = record { kind = dep; names = [] } in r) settable list h in
     subst (λ (l : DependencyList). IsStrictlySortedBy name_cmp l.names) from.makes tt
 
@@ -108,12 +82,12 @@ module _ (entries : SettingMap) (unit : Name) (links : LinkNames) where
   made_from : (list : DependencyList) → IsAmong list (map (list_with entries unit links) settable) → HasSource (λ dep list. list_with entries unit links dep ≡ list) settable list
   made_from list h = among_map (list_with entries unit links) settable list h
 
-  list_rises : (list : DependencyList) → IsAmong list (map (list_with entries unit links) settable) → IsStrictlySortedBy name_cmp list.names
-  list_rises list h =
+  list_ascends : (list : DependencyList) → IsAmong list (map (list_with entries unit links) settable) → IsStrictlySortedBy name_cmp list.names
+  list_ascends list h =
       let from = made_from list h in
-      subst (λ (l : DependencyList). IsStrictlySortedBy name_cmp l.names) from.makes (names_rise (names_by unit (words_for entries from.source) ++ linked_by unit (links_for links from.source)))
+      subst (λ (l : DependencyList). IsStrictlySortedBy name_cmp l.names) from.makes (names_ascend (names_by unit (words_for entries from.source) ++ linked_by unit (links_for links from.source)))
 
-  -- what is in the list of a kind is named by a word or by a link
+  -- a member of the list of a kind is named by a word or by a link
   names_are_from : (dep : DepKind) (v : Name) → Contains (list_with entries unit links dep).names v
       → HasSource (λ text z. result_ok (named_by unit text) ≡ Some z) (words_for entries dep) v ⊎ HasSource (λ link z. for_unit unit link ≡ Some z) (links_for links dep) v
   names_are_from dep v h =
@@ -135,7 +109,7 @@ module _ (entries : SettingMap) (unit : Name) (links : LinkNames) where
 
 -- ---- what a loaded unit names
 
-module _ (s : View) (unit : LoadedUnit) (names_are : AreNames s unit.name unit.names) (fragment : PlaceParts) (fragment_is : (resolution s unit.name).choice ≡ choice.Fragment fragment) (has : HasSettings s fragment unit) where
+module _ (s : HostViewMap) (unit : LoadedUnit) (names_are : AreNames s unit.name unit.names) (fragment : PlaceParts) (fragment_is : (resolution s unit.name).choice ≡ choice.Fragment fragment) (has : HasSettings s fragment unit) where
   link_names : (sort : Folder) (links : List Name) (v : Name) → AreLinks s unit.names sort links → HasSource (λ link z. for_unit unit.name link ≡ Some z) links v → IsNamedByLink s unit.name sort v
   link_names sort links v are from = record {
     names = unit.names;
@@ -197,27 +171,27 @@ module _ (s : View) (unit : LoadedUnit) (names_are : AreNames s unit.name unit.n
 
 -- ---- the laws
 
-module _ (s : View) (unit : LoadedUnit) where
+module _ (s : HostViewMap) (unit : LoadedUnit) where
   kinds_by : (status : Status) → HasAllOf s unit status → map (λ list. list.kind) unit.deps ≡ settable
   kinds_by (Loaded fragment) h = ap (map (λ (list : DependencyList). list.kind)) h.deps_are
   kinds_by NotFound h = ap (map (λ (list : DependencyList). list.kind)) h.no_deps
   kinds_by Masked h = ap (map (λ (list : DependencyList). list.kind)) h.no_deps
   kinds_by (Bad cause) h = ap (map (λ (list : DependencyList). list.kind)) h.no_deps
 
-  rises_by : (status : Status) (list : DependencyList) → HasAllOf s unit status → IsAmong list unit.deps → IsStrictlySortedBy name_cmp list.names
-  rises_by (Loaded fragment) list h c = list_rises (settings_in s fragment unit.dropins) unit.name h.links list (subst (IsAmong list) h.deps_are c)
-  rises_by NotFound list h c = nothing_rises list (subst (IsAmong list) h.no_deps c)
-  rises_by Masked list h c = nothing_rises list (subst (IsAmong list) h.no_deps c)
-  rises_by (Bad cause) list h c = nothing_rises list (subst (IsAmong list) h.no_deps c)
+  ascends_by : (status : Status) (list : DependencyList) → HasAllOf s unit status → IsAmong list unit.deps → IsStrictlySortedBy name_cmp list.names
+  ascends_by (Loaded fragment) list h c = list_ascends (settings_in s fragment unit.dropins) unit.name h.links list (subst (IsAmong list) h.deps_are c)
+  ascends_by NotFound list h c = nothing_ascends list (subst (IsAmong list) h.no_deps c)
+  ascends_by Masked list h c = nothing_ascends list (subst (IsAmong list) h.no_deps c)
+  ascends_by (Bad cause) list h c = nothing_ascends list (subst (IsAmong list) h.no_deps c)
 
 pub units_list_all_kinds : UnitsListAllKinds
 units_list_all_kinds s name unit p = kinds_by s unit unit.status p.has
 
-pub lists_rise : ListsRise
-lists_rise s name unit list p c = rises_by s unit unit.status list p.has (among_from_contains list unit.deps c)
+pub lists_ascend : ListsAscend
+lists_ascend s name unit list p c = ascends_by s unit unit.status list p.has (among_from_contains list unit.deps c)
 
--- what a unit has by its own name
-module _ (s : View) (name : Name) (unit : LoadedUnit) (p : IsUnit s name unit) where
+-- what a unit has under its own name
+module _ (s : HostViewMap) (name : Name) (unit : LoadedUnit) (p : IsUnit s name unit) where
   own_names : AreNames s unit.name unit.names
   own_names = subst (λ (n : Name). AreNames s n unit.names) (sym p.name_is) p.names_are
 

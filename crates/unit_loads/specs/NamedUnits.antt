@@ -1,24 +1,10 @@
 -- The units that a unit names.
 -- Source: systemd.unit(5), "[Unit] Section Options" and "Description".
-use Rattle.std.specs.Prelude.{◌≡◌, ℕ, ◌⊎◌, IsTrue, Ok, Some, List, ◌∷◌, codes}
+use Rattle.std.proofs.Common.{◌∷◌, ◌≡◌, ◌⊎◌, codes, IsTrue, List, Ok, Some, ℕ}
 use Rattle.std.specs.List.{Contains}
-use Rattle.load_places.specs.Places.{PlaceParts}
-use Rattle.path_maps.specs.Views.{View}
-use Rattle.unit_name.specs.Names.{Name}
-use Rattle.section_reader.specs.declared.assignments.Assignment.{Assignment}
-use Rattle.setting_rules.specs.declared.dependency_lists.DependencyList.{DependencyList}
-use Rattle.setting_rules.specs.declared.kinds.DepKind.{DepKind}
-use Rattle.setting_rules.specs.declared.kinds.DepKind.TheVariants as kind
-use Rattle.setting_rules.specs.Dependencies.{named_by}
-use Rattle.setting_rules.specs.Kinds.{is_settable, word}
-use Rattle.setting_rules.specs.Words.{for_unit, words_of}
-use Rattle.fragment_choice.specs.declared.choices.Choice.TheVariants.{Fragment}
-use Rattle.fragment_choice.specs.Resolutions.{resolution}
-use Rattle.fragment_choice.specs.UnitNames.{AreNames}
-use Rattle.dropins.specs.declared.link_names.Folder.{Folder}
-use Rattle.dropins.specs.declared.link_names.Folder.TheVariants.{Wants, Requires}
-use Rattle.dropins.specs.Taken.{IsLinked}
+use Rattle.unit_loads.specs.Prelude.{AreNames, Assignment, DependencyList, DepKind, Folder, for_unit, Fragment, HostViewMap, is_settable, IsLinked, Name, named_by, PlaceParts, Requires, resolution, Wants, word, words_of}
 use Rattle.unit_loads.specs.Units.{AreDropIns, items_of}
+use Rattle.setting_rules.specs.declared.kinds.DepKind.TheVariants as kind
 
 -- one of the assignments has the word in a key of `[Unit]` that sets this kind
 pub record IsAssigned (items : List Assignment) (dep : DepKind) (text : List ℕ) : Type 0 where
@@ -30,7 +16,7 @@ pub record IsAssigned (items : List Assignment) (dep : DepKind) (text : List ℕ
   pub has_word : Contains (words_of assignment.value) text
 
 -- a word of the unit's files names v for a kind
-pub record IsNamedByWord (s : View) (unit : Name) (dep : DepKind) (v : Name) : Type 0 where
+pub record IsNamedByWord (s : HostViewMap) (unit : Name) (dep : DepKind) (v : Name) : Type 0 where
   pub names : List Name
   pub names_are : AreNames s unit names
   pub fragment : PlaceParts
@@ -42,7 +28,7 @@ pub record IsNamedByWord (s : View) (unit : Name) (dep : DepKind) (v : Name) : T
   pub named : named_by unit text ≡ Ok v
 
 -- a link in a folder of this sort of the unit, which is loaded, gives v
-pub record IsNamedByLink (s : View) (unit : Name) (folder : Folder) (v : Name) : Type 0 where
+pub record IsNamedByLink (s : HostViewMap) (unit : Name) (folder : Folder) (v : Name) : Type 0 where
   pub names : List Name
   pub names_are : AreNames s unit names
   pub fragment : PlaceParts
@@ -57,7 +43,7 @@ kind_of Wants = kind.Wants
 kind_of Requires = kind.Requires
 
 -- The unit names v in a way of this kind: by a word of its files, or by a link.
-abbrev pub IsNamed : View → Name → DepKind → Name → Type 0
+abbrev pub IsNamed : HostViewMap → Name → DepKind → Name → Type 0
 IsNamed s unit dep v = IsNamedByWord s unit dep v ⊎ ((folder : Folder) × (kind_of folder ≡ dep) × IsNamedByLink s unit folder v)
 
 -- lists of dependencies have v in one of this kind

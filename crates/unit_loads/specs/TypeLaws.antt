@@ -1,31 +1,23 @@
 -- A unit has one type: its aliases are of its kind.
-use Rattle.std.proofs.Common.{◌≡◌, Some, List, [], ◌∷◌, refl, ap, sym, ◌∙◌, inl, inr}
-use Rattle.std.specs.List.{All}
-use Rattle.std.proofs.lemmas.List.Elements.{All-nil, All-cons}
-use Rattle.list_laws.specs.Members.{IsAmong}
-use Rattle.path_maps.specs.Views.{View}
-use Rattle.unit_name.specs.declared.kinds.Kind.{Kind}
-use Rattle.unit_name.specs.Names.{Name, kind, word}
-use Rattle.fragment_choice.specs.LikenessLaws.{mains_are_alike}
-use Rattle.fragment_choice.specs.UnitNames.{AreNames, IsOtherName}
-use Rattle.dropins.specs.FolderLists.{types_of}
-use Rattle.dropins.specs.TypeLaws.{one_type}
-use Rattle.unit_loads.specs.declared.units.Unit.{Unit as LoadedUnit}
-use Rattle.unit_loads.specs.Units.{IsUnit}
+use Rattle.std.proofs.Common.{[], ◌∙◌, ◌∷◌, ◌≡◌, All, ap, inl, inr, List, refl, Some, sym}
+use Rattle.std.proofs.lemmas.List.Elements.{All-cons, All-nil}
+use Rattle.unit_loads.specs.Prelude.{AreNames, HostViewMap, IsAmong, IsOtherName, Kind, kind, mains_are_alike, Name, one_type, types_of}
+use Rattle.unit_loads.specs.{declared.units.Unit.Unit as LoadedUnit, Units.IsUnit}
+use Rattle.unit_name.specs.Names.{word}
 
 -- However many names a unit has, they have one type.
 abbrev pub UnitsHaveOneType : Type 0
-UnitsHaveOneType = (s : View) (name : Name) (unit : LoadedUnit) (k : Kind) → kind name ≡ Some k → IsUnit s name unit → types_of unit.names ≡ word k ∷ []
+UnitsHaveOneType = (s : HostViewMap) (name : Name) (unit : LoadedUnit) (k : Kind) → kind name ≡ Some k → IsUnit s name unit → types_of unit.names ≡ word k ∷ []
 
 -- each other name of a unit is of the unit's kind
-other_kind : (s : View) (u n : Name) (k : Kind) → kind u ≡ Some k → IsOtherName s u n → kind n ≡ Some k
+other_kind : (s : HostViewMap) (u n : Name) (k : Kind) → kind u ≡ Some k → IsOtherName s u n → kind n ≡ Some k
 other_kind s u n k e o = sym (mains_are_alike s n o.name).kind_is ∙ ap kind o.main_is ∙ e
 
-other_kinds : (s : View) (u : Name) (k : Kind) → kind u ≡ Some k → (ns : List Name) → ((n : Name) → IsAmong n ns → IsOtherName s u n) → All (λ n. kind n ≡ Some k) ns
+other_kinds : (s : HostViewMap) (u : Name) (k : Kind) → kind u ≡ Some k → (ns : List Name) → ((n : Name) → IsAmong n ns → IsOtherName s u n) → All (λ n. kind n ≡ Some k) ns
 other_kinds s u k e [] others = All-nil (λ n. kind n ≡ Some k)
 other_kinds s u k e (n ∷ ns) others = All-cons (λ m. kind m ≡ Some k) n ns (other_kind s u n k e (others n (inl refl))) (other_kinds s u k e ns (λ m h. others m (inr h)))
 
-one_type_of_names : (s : View) (u : Name) (names : List Name) (k : Kind) → kind u ≡ Some k → AreNames s u names → types_of names ≡ word k ∷ []
+one_type_of_names : (s : HostViewMap) (u : Name) (names : List Name) (k : Kind) → kind u ≡ Some k → AreNames s u names → types_of names ≡ word k ∷ []
 one_type_of_names s u names k e are =
     ap types_of are.first ∙ one_type u are.others k (All-cons (λ m. kind m ≡ Some k) u are.others e (other_kinds s u k e are.others (λ n h. (are.exact n).0 h)))
 

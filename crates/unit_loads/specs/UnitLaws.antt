@@ -1,35 +1,16 @@
 -- A store has one unit of a name.
-use Rattle.std.proofs.Common.{◌≡◌, Bool, List, ◌∷◌, ◌++◌, map, ap, sym, ◌∙◌, subst}
+use Rattle.std.proofs.Common.{◌++◌, ◌∙◌, ◌∷◌, ◌≡◌, ap, Bool, List, map, subst, sym}
 use Rattle.std.specs.Cmp.Lexicographic.{nat_list_cmp_total}
-use Rattle.list_laws.specs.Members.{among_from_contains, contains_from_among}
-use Rattle.list_laws.specs.Rising.{one_rising_list}
-use Rattle.load_places.specs.Places.{PlaceParts}
-use Rattle.path_maps.specs.Views.{View}
-use Rattle.unit_name.specs.Names.{Name, name_cmp}
-use Rattle.setting_rules.specs.declared.dependency_lists.DependencyList.{DependencyList}
-use Rattle.setting_rules.specs.declared.rows.Row.{Row}
-use Rattle.setting_rules.specs.Rows.{rows_of}
-use Rattle.setting_rules.specs.Switches.{refuses}
-use Rattle.fragment_choice.specs.declared.choices.Choice.{Choice}
+use Rattle.unit_loads.specs.Prelude.{among_from_contains, Choice, contains_from_among, DependencyList, Folder, HostViewMap, Name, name_cmp, one_ascending_list, one_list_of_names, one_order, PlaceParts, refuses, Requires, resolution, Row, rows_of, Wants}
+use Rattle.unit_loads.specs.{declared.links.LinkNames.LinkNames, declared.units.Status.Status, declared.units.Status.TheVariants.Bad, declared.units.Status.TheVariants.Loaded, declared.units.Status.TheVariants.Masked, declared.units.Status.TheVariants.NotFound, declared.units.Unit.Unit as LoadedUnit, declared.units.UnitNote.UnitNote, Units.AreDropIns, Units.AreLinkNames, Units.AreLinks, Units.file_notes, Units.HasAllOf, Units.HasNothing, Units.HasSettings, Units.IsStatus, Units.IsUnit, Units.items_of, Units.lists_with, Units.setting_notes, Units.settings_in}
 use Rattle.fragment_choice.specs.declared.choices.Choice.TheVariants as choice
-use Rattle.fragment_choice.specs.Resolutions.{resolution}
-use Rattle.fragment_choice.specs.UnitNameLaws.{one_list_of_names}
-use Rattle.dropins.specs.declared.link_names.Folder.{Folder}
-use Rattle.dropins.specs.declared.link_names.Folder.TheVariants.{Wants, Requires}
-use Rattle.dropins.specs.OrderLaws.{one_order}
-use Rattle.unit_loads.specs.declared.links.LinkNames.{LinkNames}
-use Rattle.unit_loads.specs.declared.units.Status.{Status}
-use Rattle.unit_loads.specs.declared.units.Status.TheVariants.{Loaded, NotFound, Masked, Bad}
-use Rattle.unit_loads.specs.declared.units.Unit.{Unit as LoadedUnit}
-use Rattle.unit_loads.specs.declared.units.UnitNote.{UnitNote}
 use Rattle.unit_loads.specs.declared.units.UnitNote.TheVariants as note
-use Rattle.unit_loads.specs.Units.{AreDropIns, AreLinks, AreLinkNames, HasAllOf, HasNothing, HasSettings, IsStatus, IsUnit, file_notes, items_of, lists_with, setting_notes, settings_in}
 
--- Two units of one name in one store are the same unit.
+-- Two units with one name in one store are equal.
 abbrev pub OneUnit : Type 0
-OneUnit = (s : View) (name : Name) (a b : LoadedUnit) → IsUnit s name a → IsUnit s name b → a ≡ b
+OneUnit = (s : HostViewMap) (name : Name) (a b : LoadedUnit) → IsUnit s name a → IsUnit s name b → a ≡ b
 
--- what stands for a name gives one status
+-- the choice of a name gives one status
 pub one_status : (c : Choice) (x y : Status) → IsStatus c x → IsStatus c y → x ≡ y
 one_status choice.NotFound x y p q = p ∙ sym q
 one_status choice.Masked x y p q = p ∙ sym q
@@ -37,14 +18,14 @@ one_status (choice.Fragment path) x y p q = p ∙ sym q
 one_status (choice.Alias other) x y p q = absurd p
 one_status (choice.Bad cause) x y p q = p ∙ sym q
 
-module _ (s : View) (names : List Name) where
+module _ (s : HostViewMap) (names : List Name) where
   -- names have one list of drop-ins
   pub one_dropins : (ps qs : List PlaceParts) → AreDropIns s names ps → AreDropIns s names qs → ps ≡ qs
-  one_dropins ps qs a b = one_order ps qs a.rising b.rising (λ p. (λ c. (b.exact p).1 ((a.exact p).0 c), λ c. (a.exact p).1 ((b.exact p).0 c)))
+  one_dropins ps qs a b = one_order ps qs a.ascending b.ascending (λ p. (λ c. (b.exact p).1 ((a.exact p).0 c), λ c. (a.exact p).1 ((b.exact p).0 c)))
 
   -- and their link folders of a sort give one list of names
   pub one_links : (folder : Folder) (xs ys : List Name) → AreLinks s names folder xs → AreLinks s names folder ys → xs ≡ ys
-  one_links folder xs ys a b = one_rising_list name_cmp nat_list_cmp_total xs ys a.rising b.rising (λ n. (
+  one_links folder xs ys a b = one_ascending_list name_cmp nat_list_cmp_total xs ys a.ascending b.ascending (λ n. (
     λ h. among_from_contains n ys ((b.exact n).1 ((a.exact n).0 (contains_from_among n xs h))),
     λ h. among_from_contains n xs ((a.exact n).1 ((b.exact n).0 (contains_from_among n ys h))),
   ))
@@ -62,7 +43,7 @@ record AreAlike (a b : LoadedUnit) : Type 0 where
   notes : a.notes ≡ b.notes
   manual : a.manual ≡ b.manual
 
-module _ (s : View) (a b : LoadedUnit) (name : a.name ≡ b.name) (names : a.names ≡ b.names) where
+module _ (s : HostViewMap) (a b : LoadedUnit) (name : a.name ≡ b.name) (names : a.names ≡ b.names) where
   alike_if_loaded : (fragment : PlaceParts) → HasSettings s fragment a → HasSettings s fragment b → AreAlike a b
   alike_if_loaded fragment p q =
       let dropins = one_dropins s b.names a.dropins b.dropins (subst (λ ns. AreDropIns s ns a.dropins) names p.dropins_are) q.dropins_are in

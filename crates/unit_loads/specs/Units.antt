@@ -1,39 +1,12 @@
--- One unit, loaded: what its files and its links come to.
+-- One loaded unit: the effective settings of its files and its links.
 -- Source: systemd.unit(5), "Description" and "Unit File Load Path"; the order of the notes is this project's own.
-use Rattle.std.specs.Prelude.{◌≡◌, ℕ, false, Option, Some, None, is_none, List, [], ◌∷◌, ◌++◌, map, filter, ◌↔◌}
-use Rattle.std.specs.List.{Contains, flat_map, filter_map}
+use Rattle.std.proofs.Common.{[], ◌++◌, ◌↔◌, ◌∷◌, ◌≡◌, false, filter, is_none, List, map, None, Option, Some, ℕ}
+use Rattle.std.specs.List.{Contains, filter_map, flat_map}
 use Rattle.std.specs.List.Sorted.{IsStrictlySortedBy}
-use Rattle.load_places.specs.Places.{PlaceParts}
-use Rattle.edit_sums.specs.declared.contents.Content.{Content}
-use Rattle.edit_sums.specs.declared.contents.Content.TheVariants.{Gone, Link, File}
-use Rattle.path_maps.specs.Views.{View, content_at}
-use Rattle.unit_name.specs.Names.{Name, name_cmp}
-use Rattle.section_reader.specs.declared.assignments.Assignment.{Assignment}
-use Rattle.section_reader.specs.Sections.{assignments_of, notes_of}
-use Rattle.setting_rules.specs.declared.dependency_lists.DependencyList.{DependencyList}
-use Rattle.setting_rules.specs.declared.kinds.DepKind.{DepKind}
+use Rattle.unit_loads.specs.Prelude.{AreNames, Assignment, assignments_of, BadName, boolean_notes, Choice, Content, content_at, DependencyList, DepKind, escape_notes, File, file_name, Folder, for_unit, Gone, HostViewMap, in_byte_order, IsDropInAt, IsLinked, key_for, Link, main, Name, name_cmp, names_by, note_on, notes_of, PlaceParts, refuses, Requires, resolution, rows_of, settable, SettingMap, SettingNote, settings_of, Wants, word_notes, words_for}
+use Rattle.unit_loads.specs.{declared.links.LinkNames.LinkNames, declared.units.Status.Status, declared.units.Status.TheVariants.Bad, declared.units.Status.TheVariants.Loaded, declared.units.Status.TheVariants.Masked, declared.units.Status.TheVariants.NotFound, declared.units.Unit.Unit as LoadedUnit, declared.units.UnitNote.UnitNote}
 use Rattle.setting_rules.specs.declared.kinds.DepKind.TheVariants as kind
-use Rattle.setting_rules.specs.declared.notes.SettingNote.{SettingNote}
-use Rattle.setting_rules.specs.declared.notes.SettingNoteKind.TheVariants.{BadName}
-use Rattle.setting_rules.specs.Dependencies.{in_byte_order, key_for, names_by, word_notes, words_for}
-use Rattle.setting_rules.specs.Kinds.{settable}
-use Rattle.setting_rules.specs.Maps.{SettingMap}
-use Rattle.setting_rules.specs.Rows.{rows_of, escape_notes}
-use Rattle.setting_rules.specs.Settings.{boolean_notes, note_on, settings_of}
-use Rattle.setting_rules.specs.Switches.{refuses}
-use Rattle.setting_rules.specs.Words.{for_unit}
-use Rattle.fragment_choice.specs.declared.choices.Choice.{Choice}
 use Rattle.fragment_choice.specs.declared.choices.Choice.TheVariants as choice
-use Rattle.fragment_choice.specs.Resolutions.{main, resolution}
-use Rattle.fragment_choice.specs.UnitNames.{AreNames}
-use Rattle.dropins.specs.declared.link_names.Folder.{Folder}
-use Rattle.dropins.specs.declared.link_names.Folder.TheVariants.{Wants, Requires}
-use Rattle.dropins.specs.Taken.{IsDropInAt, IsLinked, file_name}
-use Rattle.unit_loads.specs.declared.links.LinkNames.{LinkNames}
-use Rattle.unit_loads.specs.declared.units.Status.{Status}
-use Rattle.unit_loads.specs.declared.units.Status.TheVariants.{Loaded, NotFound, Masked, Bad}
-use Rattle.unit_loads.specs.declared.units.Unit.{Unit as LoadedUnit}
-use Rattle.unit_loads.specs.declared.units.UnitNote.{UnitNote}
 use Rattle.unit_loads.specs.declared.units.UnitNote.TheVariants as note
 
 -- ---- files
@@ -46,35 +19,35 @@ file_bytes (Some (Link target)) = []
 file_bytes (Some (File bytes)) = bytes
 
 -- the bytes of the file that is visible at a place
-abbrev pub bytes_at : View → PlaceParts → List ℕ
+abbrev pub bytes_at : HostViewMap → PlaceParts → List ℕ
 bytes_at s p = file_bytes (content_at s p)
 
--- the assignments of files, one file behind another
-abbrev pub items_of : View → List PlaceParts → List Assignment
+-- the assignments of files, file by file
+abbrev pub items_of : HostViewMap → List PlaceParts → List Assignment
 items_of s files = flat_map (λ p. assignments_of (bytes_at s p)) files
 
 -- the notes on the lines of a file, with its place
-abbrev pub notes_at : View → PlaceParts → List UnitNote
+abbrev pub notes_at : HostViewMap → PlaceParts → List UnitNote
 notes_at s p = map (note.File p) (notes_of (bytes_at s p))
 
--- the notes on the lines of files, one file behind another
-abbrev pub file_notes : View → List PlaceParts → List UnitNote
+-- the notes on the lines of files, file by file
+abbrev pub file_notes : HostViewMap → List PlaceParts → List UnitNote
 file_notes s files = flat_map (notes_at s) files
 
--- these are the drop-ins of a unit of these names, by file name
-pub record AreDropIns (s : View) (names : List Name) (dropins : List PlaceParts) : Type 0 where
-  pub rising : IsStrictlySortedBy name_cmp (map file_name dropins)
+-- these are the drop-ins of a unit with these names, in the order of their file names
+pub record AreDropIns (s : HostViewMap) (names : List Name) (dropins : List PlaceParts) : Type 0 where
+  pub ascending : IsStrictlySortedBy name_cmp (map file_name dropins)
   pub exact : (p : PlaceParts) → Contains dropins p ↔ IsDropInAt s names p
 
 -- ---- links
 
--- the link folders of this sort of a unit of these names give these names, in byte order
-pub record AreLinks (s : View) (names : List Name) (folder : Folder) (links : List Name) : Type 0 where
-  pub rising : IsStrictlySortedBy name_cmp links
+-- the link folders of this sort of a unit with these names give these names, in byte order
+pub record AreLinks (s : HostViewMap) (names : List Name) (folder : Folder) (links : List Name) : Type 0 where
+  pub ascending : IsStrictlySortedBy name_cmp links
   pub exact : (n : Name) → Contains links n ↔ IsLinked s names folder n
 
--- these are the names that the link folders of a unit of these names give
-pub record AreLinkNames (s : View) (names : List Name) (links : LinkNames) : Type 0 where
+-- these are the names that the link folders of a unit with these names give
+pub record AreLinkNames (s : HostViewMap) (names : List Name) (links : LinkNames) : Type 0 where
   pub wanted_are : AreLinks s names Wants links.wanted
   pub required_are : AreLinks s names Requires links.required
 
@@ -88,7 +61,7 @@ links_for links other = []
 abbrev pub linked_by : Name → List Name → List Name
 linked_by unit links = filter_map (for_unit unit) links
 
--- a note on each link name by which a unit means none
+-- a note on each link name by which a unit means no unit
 abbrev pub link_notes : Name → DepKind → List Name → List SettingNote
 link_notes unit dep links = map (λ _. note_on (key_for dep) BadName) (filter (λ link. is_none (for_unit unit link)) links)
 
@@ -116,7 +89,7 @@ setting_notes items unit links = boolean_notes items ++ escape_notes (settings_o
 
 -- ---- the unit
 
--- what stands for a name is the unit's status
+-- the unit's status is that of the name's choice
 abbrev pub IsStatus : Choice → Status → Type 0
 IsStatus choice.NotFound status = status ≡ NotFound
 IsStatus choice.Masked status = status ≡ Masked
@@ -125,11 +98,11 @@ IsStatus (choice.Alias other) status = ⊥
 IsStatus (choice.Bad cause) status = status ≡ Bad cause
 
 -- the settings of a unit with this fragment and these drop-ins
-abbrev pub settings_in : View → PlaceParts → List PlaceParts → SettingMap
+abbrev pub settings_in : HostViewMap → PlaceParts → List PlaceParts → SettingMap
 settings_in s fragment dropins = settings_of (items_of s (fragment ∷ dropins))
 
--- the unit has what its files and links come to, its fragment being at this place
-pub record HasSettings (s : View) (fragment : PlaceParts) (unit : LoadedUnit) : Type 0 where
+-- the unit has the effective settings of its files and links, with its fragment at this place
+pub record HasSettings (s : HostViewMap) (fragment : PlaceParts) (unit : LoadedUnit) : Type 0 where
   pub dropins_are : AreDropIns s unit.names unit.dropins
   pub links : LinkNames
   pub links_are : AreLinkNames s unit.names links
@@ -146,15 +119,15 @@ pub record HasNothing (unit : LoadedUnit) : Type 0 where
   pub no_notes : unit.notes ≡ []
   pub not_manual : unit.manual ≡ false
 
--- the unit has what a status lets it have
-abbrev pub HasAllOf : View → LoadedUnit → Status → Type 0
+-- the unit has everything that its status requires
+abbrev pub HasAllOf : HostViewMap → LoadedUnit → Status → Type 0
 HasAllOf s unit (Loaded fragment) = HasSettings s fragment unit
 HasAllOf s unit NotFound = HasNothing unit
 HasAllOf s unit Masked = HasNothing unit
 HasAllOf s unit (Bad cause) = HasNothing unit
 
--- This is the unit of a main name in what is looked at of a store.
-pub record IsUnit (s : View) (name : Name) (unit : LoadedUnit) : Type 0 where
+-- This is the unit with a main name in a view of a store.
+pub record IsUnit (s : HostViewMap) (name : Name) (unit : LoadedUnit) : Type 0 where
   pub main_is : main s name ≡ name
   pub name_is : unit.name ≡ name
   pub names_are : AreNames s name unit.names

@@ -1,4 +1,4 @@
-//! The units that a unit names, by words and by links.
+//! The units that a unit depends on, by the words of its settings and by its links.
 ghost use Rattle.std.specs.Prelude.{◌≡◌, ◌++◌, ◌∷◌, [], IfOk, OnOk};
 ghost use Rattle.setting_rules.specs.{Dependencies.{key_for}, Settings.{note_on}, declared.notes.SettingNoteKind.TheVariants.{BadName}};
 ghost use Rattle.unit_loads.specs.{Steps.{with_linked}, Units.{dependency_notes, linked_by, link_notes, lists_with}};
@@ -13,8 +13,8 @@ use std::alloc::{AllocError, Global};
 use std::mem;
 use unit_name::UnitName;
 
-/// The units that a unit names by the words of its settings and by its links, and notes on words and then on links, those
-/// in `.wants` first. It fails for want of memory alone, and copies no link's name.
+/// Returns the units that a unit names by the words of its settings and by its links, and the notes on words and then
+/// on links, those of `.wants` first. Fails only if memory runs out. Copies no link's name.
 pub(crate) fn named_units(
     alloc: Global,
     settings: &Settings,
@@ -37,7 +37,8 @@ pub(crate) fn named_units(
     })
 }
 
-// Adds what a unit means by the names of links that add to a kind: units to names in byte order, and notes on other links.
+// Resolves the names of links that add to a kind: adds the units to `names`, in byte order, and a note for each link
+// that gives none.
 fn add_links(
     alloc: Global,
     unit: &UnitName,
@@ -56,7 +57,7 @@ fn add_links(
     add_names(alloc, names, linked)
 }
 
-// Adds what a unit means by the name of a link that adds to a kind: a unit, or else a note.
+// Resolves the name of a link that adds to a kind: appends a unit, or a note if it gives none.
 fn add_link(
     alloc: Global,
     unit: &UnitName,
@@ -85,7 +86,7 @@ fn bad_link(alloc: Global, dep: DepKind) -> Result<SettingNote, AllocError>
     })
 }
 
-// Puts names that links give among those of a list, all in byte order. It does nothing where there are none.
+// Adds the names that links give to a list, all in byte order. Does nothing if there are none.
 fn add_names(
     alloc: Global,
     names: &mut Items<UnitName>,

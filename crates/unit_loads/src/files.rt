@@ -1,20 +1,20 @@
 //! The files of a unit.
 ghost use Rattle.std.specs.{Prelude.{◌≡◌, ◌++◌, ◌∷◌, [], IfOk, OnOk, map}, Option.{option_copied}};
 ghost use Rattle.section_reader.specs.Sections.{assignments_of, notes_of};
-ghost use Rattle.unit_loads.specs.{Steps.{lent_items, lent_notes}, Units.{bytes_at, file_bytes, notes_at}};
+ghost use Rattle.unit_loads.specs.{Steps.{borrowed_items, borrowed_notes}, Units.{bytes_at, file_bytes, notes_at}};
 
 use crate::units::UnitNote;
 use plain_values::Items;
-use replica_store::{Content, Place, Seen, SeenEntry};
+use replica_store::{Content, HostView, HostViewEntry, Place};
 use section_reader::{Assignment, Note, Sections, read};
 use std::alloc::{AllocError, Global};
 
-/// What the files of a unit say.
+/// The contents of a unit's files.
 #[derive(Drop)]
 pub(crate) struct UnitText {
-    /// The assignments, one file behind another.
+    /// The assignments, file by file.
     pub items: Items<Assignment>,
-    /// The notes on lines, one file behind another.
+    /// The notes on lines, file by file.
     pub notes: Items<UnitNote>,
 }
 
@@ -29,40 +29,40 @@ impl UnitText {
         }
     }
 
-    /// What a unit's files say: its fragment, and then its drop-ins. Linear in their bytes, and a search in the store for
-    /// the fragment. It fails for want of memory alone.
+    /// Reads a unit's files: its fragment, and then its drop-ins. Linear in their bytes, and a search in the store for
+    /// the fragment. Fails only if memory runs out.
     pub fn of(
         alloc: Global,
-        seen: &Seen,
+        view: &HostView,
         fragment: &Place,
-        dropins: &[SeenEntry],
+        dropins: &[HostViewEntry],
     ) -> Result<UnitText, AllocError>
         ensures items { IfOk result (λ text. text.items
-            ≡ assignments_of (bytes_at seen.now fragment.now) ++ lent_items dropins.now) }
-        ensures notes { IfOk result (λ text. text.notes ≡ notes_at seen.now fragment.now ++ lent_notes seen.now dropins.now) }
+            ≡ assignments_of (bytes_at view.now fragment.now) ++ borrowed_items dropins.now) }
+        ensures notes { IfOk result (λ text. text.notes ≡ notes_at view.now fragment.now ++ borrowed_notes view.now dropins.now) }
     {
         let mut text = UnitText::new(alloc);
-        text.add_file(alloc, fragment, bytes_of(seen.visible(fragment)))?;
+        text.add_file(alloc, fragment, bytes_of(view.visible(fragment)))?;
         for placed in dropins {
-            text.add_drop_in(alloc, seen, placed)?;
+            text.add_drop_in(alloc, view, placed)?;
         }
         Ok(text)
     }
 
-    // Adds what a drop-in says.
+    // Adds the assignments and notes of a drop-in.
     fn add_drop_in(
         &mut self,
         alloc: Global,
-        seen: &Seen,
-        placed: &SeenEntry,
+        view: &HostView,
+        placed: &HostViewEntry,
     ) -> Result<(), AllocError>
-        ensures items { OnOk result (self.new.items ≡ self.old.items ++ lent_items (placed.now ∷ [])) }
-        ensures notes { OnOk result (self.new.notes ≡ self.old.notes ++ lent_notes seen.now (placed.now ∷ [])) }
+        ensures items { OnOk result (self.new.items ≡ self.old.items ++ borrowed_items (placed.now ∷ [])) }
+        ensures notes { OnOk result (self.new.notes ≡ self.old.notes ++ borrowed_notes view.now (placed.now ∷ [])) }
     {
-        self.add_file(alloc, &seen.place(placed)?, bytes_of(placed.visible()))
+        self.add_file(alloc, &view.place(placed)?, bytes_of(placed.visible()))
     }
 
-    // Adds what the file at a place says, which has these bytes.
+    // Adds the assignments and notes of the file at a place, which has these bytes.
     fn add_file(&mut self, alloc: Global, place: &Place, bytes: &[u8]) -> Result<(), AllocError>
         ensures items { OnOk result (self.new.items ≡ self.old.items ++ assignments_of bytes.now) }
         ensures notes { OnOk result (self.new.notes ≡ self.old.notes ++ map (UnitNote.File place.now) (notes_of bytes.now)) }
@@ -87,7 +87,7 @@ fn add_line_notes(
     Ok(())
 }
 
-// The bytes of a content that is a file: none where no file is.
+// The bytes of a content that is a file; empty for any other content.
 fn bytes_of<'a>(content: Option<&'a Content>) -> &'a [u8]
     ensures bytes { result.now ≡ file_bytes (option_copied content.entry) }
 {

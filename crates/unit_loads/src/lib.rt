@@ -1,20 +1,25 @@
-//! One unit of a store: its names, the file that stands for it, its drop-ins, and what these files and its links
-//! come to. What a unit is, is a function of the store.
+//! One unit of a store: its names, its fragment, its drop-ins, and the effective settings of these files and of its
+//! links. The unit is a function of the store.
 //!
 //! Promise: units are exact.
 //!
-//! A load of a store's units stands on one call that makes one unit. No two units of one name are in a store.
+//! A load of all units of a store makes one of these calls for each unit. A store has one unit for each main name.
+//!
+//! - `units`: the types `Unit`, `Status` and `UnitNote`.
+//! - `loads`: `load_unit` and its variants.
+//! - `found`, `files`, `links`, `dependencies`, `settled`: how a unit's files and links are read.
+//! - `laws`: laws of units.
 #![tactic(auto)]
 
 mod dependencies;
+mod effective;
 mod files;
 mod found;
 mod laws;
 mod links;
 mod loads;
-mod settled;
 mod units;
 
-pub use laws::{elsewhere_laws, footprint_laws, named_unit_laws, one_type, one_unit};
+pub use laws::{elsewhere_laws, footprint_laws, host_laws, named_unit_laws, one_type, one_unit};
 pub use loads::{load_named, load_one, load_resolved, load_unit};
 pub use units::{Status, Unit, UnitNote};

@@ -4,7 +4,7 @@ ghost use Rattle.unit_loads.specs.Steps.{AreLinkNamesFrom};
 
 use dropins::{Folder, UnitFolders};
 use plain_values::Items;
-use replica_store::Seen;
+use replica_store::HostView;
 use std::alloc::{AllocError, Global};
 use unit_name::UnitName;
 
@@ -18,12 +18,16 @@ pub(crate) struct LinkNames {
 }
 
 impl LinkNames {
-    /// What the link folders of a unit with these folders give. It fails for want of memory alone.
-    pub fn of(alloc: Global, seen: &Seen, folders: &UnitFolders) -> Result<LinkNames, AllocError>
-        ensures links { IfOk result (AreLinkNamesFrom seen.now folders.now) }
+    /// Returns the names that the link folders of a unit with these folders give. Fails only if memory runs out.
+    pub fn of(
+        alloc: Global,
+        view: &HostView,
+        folders: &UnitFolders,
+    ) -> Result<LinkNames, AllocError>
+        ensures links { IfOk result (AreLinkNamesFrom view.now folders.now) }
     {
-        let wanted = folders.links(alloc, seen, Folder::Wants)?;
-        let required = folders.links(alloc, seen, Folder::Requires)?;
+        let wanted = folders.links(alloc, view, Folder::Wants)?;
+        let required = folders.links(alloc, view, Folder::Requires)?;
         Ok(LinkNames {
             wanted: Items::from_vec(wanted),
             required: Items::from_vec(required),

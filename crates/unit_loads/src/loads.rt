@@ -1,24 +1,25 @@
 //! A unit of a store.
 ghost use Rattle.std.specs.{Prelude.{◌≡◌, IfOk}, Option.{option_copied}};
-ghost use Rattle.path_maps.specs.Views.{view_of};
+ghost use Rattle.path_maps.specs.HostViews.{host_view_of};
 ghost use Rattle.fragment_choice.specs.{Resolutions.{main, resolution}, UnitNames.{AreNames}};
 ghost use Rattle.unit_loads.specs.Units.{HasNothing, IsUnit, no_names};
 
-use crate::found::Found;
+use crate::found::UnitParts;
 use crate::units::{Status, Unit};
 use fragment_choice::{AliasIndex, Choice, Resolution};
 use plain_values::Items;
-use replica_store::{HostName, Seen, Store};
+use replica_store::{HostName, HostView, Store};
 use setting_rules::{DepKind, DependencyList};
 use std::alloc::{AllocError, Global};
 use unit_name::UnitName;
 
-/// The unit of a main name in the store of an index; its dependencies are the names that its words and links give, not yet
-/// the mains of these (systemd.unit(5)). A template gives a unit too, as if it had no instance, but no load asks for one.
+/// Returns the unit with a main name, in the store of an index. Its dependencies are the names that its words and links
+/// give, which aren't resolved to main names yet (systemd.unit(5)). A template gives a unit too, as if it had no
+/// instance, but no load asks for one.
 ///
-/// Its folders are listed once, for drop-ins and for links, and what is taken in them is read where it stands. Beside the
-/// look-ups for its names and in these folders: linear in the bytes of its files and in what they expand
-/// to, and O(n log n) in the names of a kind. It fails for want of memory alone.
+/// Its folders are listed once, for drop-ins and for links, and the entries that count are borrowed from the store.
+/// Besides the look-ups for its names and in these folders it is linear in the bytes of its files and of their
+/// expansion, and O(n log n) in the names of a kind. Fails only if memory runs out.
 pub fn load_unit(alloc: Global, index: &AliasIndex, name: &UnitName) -> Result<Unit, AllocError>
     requires main { main index.now name.now ≡ name.now }
     ensures unit { IfOk result (IsUnit index.now name.now) }
@@ -27,25 +28,26 @@ pub fn load_unit(alloc: Global, index: &AliasIndex, name: &UnitName) -> Result<U
     load_resolved(alloc, index, resolved)
 }
 
-/// The unit of a name's main in a store, as a host sees it or as it is seen without one: as `load_unit` gives it.
+/// Returns the unit of a name's main name in a store, as a host or the fleet sees it, like `load_unit`.
 ///
-/// It makes an index of the whole store; for several units make one and ask for each. It fails for want of memory alone.
+/// It makes an index of the whole store; for several units, make one index and call `load_unit` for each. Fails only if
+/// memory runs out.
 pub fn load_one(
     alloc: Global,
     store: &Store,
     host: Option<&HostName>,
     name: &UnitName,
 ) -> Result<Unit, AllocError>
-    ensures unit { IfOk result (IsUnit (view_of store.now (option_copied host.entry))
-        (main (view_of store.now (option_copied host.entry)) name.now)) }
+    ensures unit { IfOk result (IsUnit (host_view_of store.now (option_copied host.entry))
+        (main (host_view_of store.now (option_copied host.entry)) name.now)) }
 {
     let index = AliasIndex::of(alloc, store, host)?;
     let resolved = index.resolve(alloc, name)?;
     load_resolved(alloc, &index, resolved)
 }
 
-/// The unit of a main name for which this stands, as `resolve` gives it for each of its names: the same as `load_unit`, which
-/// resolves the name first. It fails for want of memory alone.
+/// Returns the unit of a resolved main name, as `resolve` returns it for each of its names. It is the same unit as that
+/// of `load_unit`, which resolves the name first. Fails only if memory runs out.
 pub fn load_resolved(
     alloc: Global,
     index: &AliasIndex,
@@ -55,24 +57,25 @@ pub fn load_resolved(
     ensures unit { IfOk result (IsUnit index.now resolved.main) }
 {
     let names = index.names_of(alloc, &resolved.main)?;
-    load_named(alloc, index.seen(), resolved, names)
+    load_named(alloc, index.view(), resolved, names)
 }
 
-/// The same where all its names are known: no index of aliases is asked. It fails for want of memory alone.
+/// Like `load_resolved`, but all names of the unit are known, so no index of aliases is used. Fails only if memory runs
+/// out.
 pub fn load_named(
     alloc: Global,
-    seen: &Seen,
+    view: &HostView,
     resolved: Resolution,
     names: Vec<UnitName>,
 ) -> Result<Unit, AllocError>
-    requires resolved { resolution seen.now resolved.main ≡ resolved }
-    requires names { AreNames seen.now resolved.main names.items }
-    ensures unit { IfOk result (IsUnit seen.now resolved.main) }
+    requires resolved { resolution view.now resolved.main ≡ resolved }
+    requires names { AreNames view.now resolved.main names.items }
+    ensures unit { IfOk result (IsUnit view.now resolved.main) }
 {
     let Resolution { main, choice } = resolved;
     match choice {
         Choice::Fragment(place) => {
-            let found = Found::of(alloc, seen, &main, &names, &place)?;
+            let found = UnitParts::of(alloc, view, &main, &names, &place)?;
             Ok(found.into_unit(main, names, place))
         }
         Choice::NotFound => unloaded(alloc, main, names, Status::NotFound),
@@ -82,7 +85,7 @@ pub fn load_named(
     }
 }
 
-// The unit of these names without a fragment.
+// A unit with these names and no fragment.
 fn unloaded(
     alloc: Global,
     name: UnitName,
@@ -107,7 +110,7 @@ fn unloaded(
     })
 }
 
-// A list without names for each kind that a unit file may set.
+// An empty list of names for each kind that a unit file may set.
 fn lists_without_names(alloc: Global) -> Result<Items<DependencyList>, AllocError>
     ensures lists { IfOk result (λ lists. lists ≡ no_names) }
 {

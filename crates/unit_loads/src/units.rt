@@ -1,4 +1,4 @@
-//! What a unit is, once it is loaded.
+//! A loaded unit.
 
 use fragment_choice::Cause;
 use plain_values::{Items, TryClone};
@@ -8,7 +8,7 @@ use setting_rules::{DependencyList, Row, SettingNote};
 use std::alloc::AllocError;
 use unit_name::UnitName;
 
-/// What stands for a unit (systemd.unit(5), "Unit File Load Path").
+/// What was found for a unit (systemd.unit(5), "Unit File Load Path").
 #[derive(Debug, PartialEq, Eq, Drop)]
 pub enum Status {
     /// The file at this place, which is the unit's fragment.
@@ -17,7 +17,7 @@ pub enum Status {
     NotFound,
     /// An empty file or a link to `/dev/null`.
     Masked,
-    /// A link that no unit may have, or too many aliases.
+    /// A link that a unit can't have, or too many aliases in a chain.
     Bad(Cause),
 }
 
@@ -35,9 +35,9 @@ impl TryClone for Status {
 /// What is wrong in a unit's files, or with what they set.
 #[derive(Debug, PartialEq, Eq, Drop)]
 pub enum UnitNote {
-    /// With a line of the file at this place.
+    /// A fault in a line of the file at this place.
     File(Place, Note),
-    /// With a value, a word of one, or a link's name.
+    /// A fault in a value, in a word of one, or in the name of a link.
     Setting(SettingNote),
 }
 
@@ -50,28 +50,29 @@ impl TryClone for UnitNote {
     }
 }
 
-/// A unit of a store. One that isn't loaded has no drop-ins, values or notes, and names no other.
+/// A unit of a store. A unit that isn't loaded has no drop-ins, values or notes, and names no other unit.
 #[derive(Debug, PartialEq, Eq, Drop)]
 pub struct Unit {
     /// The main name.
     pub name: UnitName,
     /// All names: the main name, and then the others in byte order.
     pub names: Items<UnitName>,
-    /// What stands for it.
+    /// Whether it is loaded, and from which place, or why it isn't.
     pub status: Status,
-    /// The drop-ins, by file name.
+    /// The drop-ins, in the order of their file names.
     pub dropins: Items<Place>,
     /// The values of keys that set no dependencies, in the order of the keys.
     pub values: Items<Row>,
-    /// For each kind that a unit file may set, in the order of the kinds, the names that words and links give, in byte order.
+    /// For each kind that a unit file may set, in the order of the kinds, the names that words and links give, in byte
+    /// order.
     pub deps: Items<DependencyList>,
     /// What is wrong with lines, file by file; then with booleans, with other values, with words, and with links.
     pub notes: Items<UnitNote>,
-    /// Whether it refuses that a person starts it.
+    /// Whether it refuses to be started by hand.
     pub manual: bool,
 }
 
-/// An equal unit, whose texts share their bytes. Linear in its lists.
+/// Returns an equal unit, whose texts share their bytes. Linear in its lists.
 impl TryClone for Unit {
     fn try_clone(&self) -> Result<Unit, AllocError> {
         Ok(Unit {

@@ -1,21 +1,14 @@
--- Steps of the code: what it finds on its way.
-use Rattle.std.proofs.Common.{◌≡◌, ℕ, ◌+◌, ◌≤◌, ◌-◌, Bool, true, false, cond, ◌&&◌, List, [], ◌∷◌, ◌++◌, length, length-append, append_assoc, ltb, leb, Option, Some, None, is_some, refl, sym, ap, ◌∙◌, arith}
-use Rattle.unit_name.specs.declared.names.Shape.{Shape}
-use Rattle.unit_name.specs.declared.names.Shape.TheVariants.{Plain, Template, Instance}
-use Rattle.unit_name.specs.Names.{Name, IsName, prefix, suffix, shape}
-use Rattle.unit_name.specs.Forms.{instance_name, template_name, template_at, template_of, is_instance, instance_at, with_instance}
-use Rattle.unit_name.specs.NameLaws.{templates_keep_parts, instance_has_parts, template_parts, name_short}
-use Rattle.std.specs.Option.{unwrap_or, option_map, MatchOption}
-use Rattle.std.specs.List.{position, position_or_len}
-use Rattle.std.proofs.lemmas.Bool.{ne_eqb, ltb-false, leb-true, leb-false, le-leb, lt-leb}
-use Rattle.std.proofs.lemmas.Option.{none-some, same_Some}
-use Rattle.std.proofs.lemmas.List.{append-nil, nil_from_length}
+-- What single steps of the code find.
+use Rattle.std.proofs.Common.{[], ◌&&◌, ◌++◌, ◌+◌, ◌-◌, ◌∙◌, ◌∷◌, ◌≡◌, ◌≤◌, ap, append-nil, append_assoc, arith, Bool, cond, false, is_some, leb, length, length-append, List, ltb, MatchOption, None, Option, position, refl, Some, sym, true, unwrap_or, ℕ}
+use Rattle.std.proofs.lemmas.Bool.{le-leb, leb-false, leb-true, lt-leb, ltb-false, ne_eqb}
+use Rattle.std.proofs.lemmas.List.{nil_from_length}
 use Rattle.std.proofs.lemmas.List.Sums.{prefix_len-le-length}
-use Rattle.unit_name.specs.Escapes.{put_first}
-use Rattle.unit_name.specs.Specifiers.{expand, specifier, put_before}
-use Rattle.unit_name.specs.SpecifierLaws.{expand-nil, expand-byte, expand-last, pairs_are_replaced}
+use Rattle.std.proofs.lemmas.Option.{none-some, same_Some}
+use Rattle.std.specs.List.{position_or_len}
+use Rattle.std.specs.Option.{option_map}
+use Rattle.unit_name.proofs.Prelude.{expand, expand-byte, expand-last, expand-nil, Instance, instance_at, instance_has_parts, instance_name, is_instance, IsName, Name, name_short, pairs_are_replaced, Plain, prefix, put_before, put_first, Shape, shape, specifier, suffix, Template, template_at, template_name, template_of, template_parts, templates_keep_parts, with_instance}
 
--- the first place, or the length where there is none
+-- the first index, or the length if there is none
 place_or_length : (t : Bool) (n len : ℕ) → ltb n len ≡ t → n ≤ len → unwrap_or (cond t (Some n) None) len ≡ n
 place_or_length true n len e h = refl
 place_or_length false n len e h = let l = ltb-false n len e in omega arith
@@ -23,7 +16,7 @@ place_or_length false n len e h = let l = ltb-false n len e in omega arith
 pub unwrap_or-position : (p : ℕ → Bool) (xs : List ℕ) → unwrap_or (position p xs) (length xs) ≡ position_or_len p xs
 unwrap_or-position p xs = place_or_length (ltb (position_or_len p xs) (length xs)) (position_or_len p xs) (length xs) refl (prefix_len-le-length _ xs)
 
--- where nothing is left, all is there
+-- if nothing remains, all is there
 pub all_there : (o : Option (List ℕ)) (now was : List ℕ) → Some (now ++ []) ≡ option_map (λ (v : List ℕ). was ++ v) o → MatchOption o (true ≡ false) (λ bytes. (true ≡ true) × (now ≡ was ++ bytes))
 all_there None now was e = absurd (none-some _ (sym e))
 all_there (Some v) now was e = (refl, sym (append-nil now) ∙ same_Some _ _ e)
@@ -49,7 +42,7 @@ taken_at Plain t i h = cc
 taken_at Template t i h = both_some (is_instance i) (leb (length (instance_name (prefix t) i (suffix t))) 255) (instance_name (prefix t) i (suffix t)) h
 taken_at Instance t i h = cc
 
--- a template with an instance that it takes
+-- a template with an instance that it may have
 pub record IsTakenName (t i b : Name) : Type 0 where
   pub name : IsName b
   pub named : with_instance t i ≡ Some b
@@ -59,7 +52,7 @@ taken t i b h some e =
     let named : with_instance t i ≡ Some b = taken_at (shape t) t i some ∙ ap (λ x. Some x) (sym e) in
     record { name = (instance_has_parts t i b h named).2.name; named = named }
 
--- whether a template takes an instance: the name is longer by the instance
+-- whether a template may have an instance: its name grows by the instance
 longer : (t i : Name) → IsName t → Template ≡ shape t → length (instance_name (prefix t) i (suffix t)) ≡ length t + length i
 longer t i h s =
     omega (arith, ap length (sym (template_parts t h (sym s))), length-append (prefix t ++ 64 ∷ i) (46 ∷ suffix t), length-append (prefix t) (64 ∷ i), length-append (prefix t) (64 ∷ 46 ∷ suffix t))
@@ -82,35 +75,35 @@ takes_is t i h s =
     ∙ is_some_cond (is_instance i) (leb (length (instance_name (prefix t) i (suffix t))) 255) (instance_name (prefix t) i (suffix t))
     ∙ ap (λ x. is_instance i && x) (ap (λ x. leb x 255) (longer t i h s) ∙ within (length i) (length t) (name_short t h))
 
--- what is pushed moves from the rest to what is there
+-- what is appended moves from the rest to the result
 pub pushed_before : (sp o : Option (List ℕ)) (now was : List ℕ) → MatchOption sp ⊥ (λ bytes. now ≡ was ++ bytes) → option_map (λ (v : List ℕ). now ++ v) o ≡ option_map (λ (v : List ℕ). was ++ v) (put_before sp o)
 pushed_before None o now was h = absurd h
 pushed_before (Some a) None now was h = refl
 pushed_before (Some a) (Some v) now was h = ap (λ x. Some x) (ap (λ x. x ++ v) h ∙ append_assoc was a v)
 
--- where the whole is there, so is its first part
+-- if the whole exists, so does its first part
 pub some_first : (sp o whole : Option (List ℕ)) (was : List ℕ) → option_map (λ (v : List ℕ). was ++ v) (put_before sp o) ≡ whole → is_some whole ≡ true → is_some sp ≡ true
 some_first None o whole was e some = ap is_some e ∙ some
 some_first (Some a) o whole was e some = refl
 
--- a text that spells bytes was taken whole
+-- a valid escaped text was appended completely
 pub spelled : (o : Option (List ℕ)) (is_whole : Bool) (now was : List ℕ) → is_some o ≡ true → MatchOption o (is_whole ≡ false) (λ bytes. (is_whole ≡ true) × (now ≡ was ++ bytes))
     → MatchOption o ⊥ (λ bytes. now ≡ was ++ bytes)
 spelled None is_whole now was some h = cc (some)
 spelled (Some bytes) is_whole now was some h = h.1
 
--- a byte stands before others just where there are others
+-- putting a byte before others gives a result exactly if the others exist
 pub is_some-put_first : (b : ℕ) (o : Option (List ℕ)) → is_some (put_first (Some b) o) ≡ is_some o
 is_some-put_first b None = refl
 is_some-put_first b (Some v) = refl
 
--- what is there stands before others just where there are others
+-- so does putting bytes before others
 pub is_some-put_before : (sp o : Option (List ℕ)) → is_some sp ≡ true → is_some (put_before sp o) ≡ is_some o
 is_some-put_before None o h = cc
 is_some-put_before (Some a) None h = refl
 is_some-put_before (Some a) (Some v) h = refl
 
--- what isn't there stands before nothing
+-- putting nothing before others gives nothing
 pub is_some-put_nothing : (sp o : Option (List ℕ)) → is_some sp ≡ false → is_some (put_before sp o) ≡ false
 is_some-put_nothing None o h = refl
 is_some-put_nothing (Some a) o h = cc

@@ -1,15 +1,12 @@
--- Laws of escapes: what spells bytes spells just these, in the bytes of names.
-use Rattle.std.proofs.Common.{◌≡◌, ℕ, ◌+◌, ◌*◌, ◌/◌, ◌%◌, ◌<◌, ◌==◌, eqb, Bool, true, false, not, cond, ◌&&◌, ◌||◌, ltb, List, [], ◌∷◌, ◌++◌, Some, None, refl, ap, sym, ◌∙◌, arith}
-use Rattle.std.specs.Prelude.{All}
-use Rattle.std.specs.List.{list_all, flat_map}
-use Rattle.std.specs.Char.{digit_char, digit_value, is_ascii_alphanumeric}
-use Rattle.std.proofs.lemmas.Bool.{true≢false, and_parts, and_from, or_left, or_right, cond-true, cond-false, eqb-true, lt-ltb, agree_below_at}
+-- Laws of escaping: unescaping the escaped bytes gives them back, and escaped bytes are allowed in names.
+use Rattle.std.proofs.Common.{[], ◌%◌, ◌&&◌, ◌*◌, ◌++◌, ◌+◌, ◌/◌, ◌<◌, ◌==◌, ◌||◌, ◌∙◌, ◌∷◌, ◌≡◌, All, ap, arith, Bool, cond, eqb, false, List, ltb, None, not, refl, Some, sym, true, ℕ}
+use Rattle.std.proofs.lemmas.Bool.{agree_below_at, and_from, and_parts, cond-false, cond-true, eqb-true, or_left, or_right, true≢false}
 use Rattle.std.proofs.lemmas.List.Elements.{All-head, All-tail}
 use Rattle.std.proofs.lemmas.Option.{same_Some}
-use Rattle.unit_name.specs.Names.{is_dot, is_empty, is_name_byte}
-use Rattle.unit_name.specs.Forms.{is_instance}
-use Rattle.unit_name.specs.PartLaws.{all_append}
-use Rattle.unit_name.specs.Escapes.{is_kept, hex_escape, escaped_byte, escaped_first, escape, hex_byte, put_first, unescaped_byte, unescaped_four, unescape}
+use Rattle.std.specs.Char.{digit_char, digit_value, is_ascii_alphanumeric}
+use Rattle.std.specs.List.{flat_map, list_all}
+use Rattle.unit_name.specs.{Escapes.escape, Escapes.escaped_byte, Escapes.escaped_first, Escapes.hex_byte, Escapes.hex_escape, Escapes.is_kept, Escapes.put_first, Escapes.unescape, Escapes.unescaped_byte, Escapes.unescaped_four, Forms.is_instance, Names.is_dot, Names.is_empty, Names.is_name_byte, PartLaws.all_append}
+use Rattle.std.proofs.lemmas.Bool.{lt-ltb}
 
 abbrev pub IsByte : ℕ → Type 0
 IsByte b = b < 256
@@ -17,24 +14,24 @@ IsByte b = b < 256
 abbrev pub AreBytes : List ℕ → Type 0
 AreBytes v = All IsByte v
 
--- what spells bytes spells these bytes
+-- unescaping what `escape` returns gives the original bytes
 abbrev pub EscapesAreUndone : Type 0
 EscapesAreUndone = (v : List ℕ) → AreBytes v → unescape (escape v) ≡ Some v
 
--- so other bytes are spelled otherwise
+-- so different bytes are escaped differently
 abbrev pub EscapesDiffer : Type 0
 EscapesDiffer = (v w : List ℕ) → AreBytes v → AreBytes w → escape v ≡ escape w → v ≡ w
 
--- a letter, a digit, : _ . \ or -
+-- a letter, a digit, or one of : _ . \ -
 abbrev pub is_spelling : ℕ → Bool
 is_spelling b = is_kept b || b == 92 || b == 45
 
--- the first byte, if there is one, is no dot
+-- the first byte, if any, isn't a dot
 abbrev pub begins_without_dot : List ℕ → Bool
 begins_without_dot [] = true
 begins_without_dot (b ∷ bs) = not (is_dot b)
 
--- bytes are spelled by letters, digits, : _ . \ and - alone, and never begin with a dot
+-- escaped text has only letters, digits and : _ . \ - and doesn't begin with a dot
 pub record IsSpelling (s : List ℕ) : Type 0 where
   pub bytes : list_all is_spelling s ≡ true
   pub begins : begins_without_dot s ≡ true
@@ -42,11 +39,11 @@ pub record IsSpelling (s : List ℕ) : Type 0 where
 abbrev pub EscapesAreSpellings : Type 0
 EscapesAreSpellings = (v : List ℕ) → AreBytes v → IsSpelling (escape v)
 
--- what spells some bytes may be an instance
+-- escaped text is allowed as an instance
 abbrev pub EscapesAreInstances : Type 0
 EscapesAreInstances = (v : List ℕ) → AreBytes v → is_empty v ≡ false → is_instance (escape v) ≡ true
 
--- a byte that is no backslash stands alone
+-- a byte other than a backslash is unescaped by itself
 pub unescape-byte : (b : ℕ) (bs : List ℕ) → (b == 92) ≡ false → unescape (b ∷ bs) ≡ put_first (unescaped_byte b) (unescape bs)
 unfolding unescape
 unescape-byte b [] h = refl
@@ -54,7 +51,7 @@ unescape-byte b (x ∷ []) h = refl
 unescape-byte b (x ∷ h ∷ []) e = refl
 unescape-byte b (x ∷ h ∷ l ∷ rest) e = cond-false (b == 92) _ _ e
 
--- a backslash takes three bytes more
+-- a backslash is unescaped together with the three bytes after it
 pub unescape-backslash : (x h l : ℕ) (rest : List ℕ) → unescape (92 ∷ x ∷ h ∷ l ∷ rest) ≡ put_first (unescaped_four x h l) (unescape rest)
 unfolding unescape
 unescape-backslash x h l rest = refl
@@ -86,7 +83,7 @@ unescape-hex : (b : ℕ) (rest : List ℕ) → b < 256 → unescape (hex_escape 
 unfolding hex_escape
 unescape-hex b rest h = unescape-backslash 120 _ _ rest ∙ ap (λ o. put_first o (unescape rest)) (hex_byte_of b h)
 
--- a byte that a test refuses isn't one that passes
+-- a byte that fails a test differs from one that passes
 differs : (q : ℕ → Bool) (b k : ℕ) → q b ≡ true → q k ≡ false → (b == k) ≡ false
 differs q b k h e = step (b == k) refl
   where
@@ -137,7 +134,7 @@ escapes_are_undone (b ∷ v) h =
 pub escapes_differ : EscapesDiffer
 escapes_differ v w h k e = same_Some v w (sym (escapes_are_undone v h) ∙ ap unescape e ∙ escapes_are_undone w k)
 
--- the bytes of escapes
+-- the bytes of escaped text
 kept_spells : (b : ℕ) → is_kept b ≡ true → is_spelling b ≡ true
 kept_spells b h = or_left _ _ (or_left _ _ h)
 

@@ -1,10 +1,10 @@
--- Bytes that are spelled by the bytes of names.
+-- Escaping of bytes in unit names.
 -- Source: systemd.unit(5), "String Escaping for Inclusion in Unit Names"; systemd-escape(1).
-use Rattle.std.specs.Prelude.{ℕ, ◌+◌, ◌*◌, ◌/◌, ◌%◌, ◌==◌, nat_lt, Bool, ◌&&◌, ◌||◌, if◌then◌else◌, Option, Some, None, List, [], ◌∷◌, ◌++◌}
+use Rattle.std.proofs.Common.{[], ◌%◌, ◌&&◌, ◌*◌, ◌++◌, ◌+◌, ◌/◌, ◌==◌, ◌||◌, ◌∷◌, Bool, if◌then◌else◌, List, nat_lt, None, Option, Some, ℕ}
+use Rattle.std.specs.Char.{digit_char, digit_value, is_ascii_alphanumeric}
 use Rattle.std.specs.List.{flat_map}
-use Rattle.std.specs.Char.{is_ascii_alphanumeric, digit_char, digit_value}
 
--- a letter, a digit, : _ or .
+-- a letter, a digit, or one of : _ .
 unfoldable pub is_kept : ℕ → Bool
 is_kept b = is_ascii_alphanumeric b || b == 58 || b == 95 || b == 46
 
@@ -12,29 +12,29 @@ is_kept b = is_ascii_alphanumeric b || b == 58 || b == 95 || b == 46
 unfoldable pub hex_escape : ℕ → List ℕ
 hex_escape b = 92 ∷ 120 ∷ digit_char (b / 16) ∷ digit_char (b % 16) ∷ []
 
--- what spells a byte that isn't the first
+-- the escaped form of a byte that isn't the first
 unfoldable pub escaped_byte : ℕ → List ℕ
 escaped_byte b = if b == 47 then 45 ∷ [] else if is_kept b then b ∷ [] else hex_escape b
 
--- what spells the first byte: a dot is spelled out there
+-- the escaped form of the first byte, where a dot is escaped too
 abbrev pub escaped_first : ℕ → List ℕ
 escaped_first b = if b == 46 then hex_escape b else escaped_byte b
 
--- what spells these bytes
+-- the escaped form of these bytes
 unfoldable pub escape : List ℕ → List ℕ
 escape [] = []
 escape (b ∷ bs) = escaped_first b ++ flat_map escaped_byte bs
 
--- the byte of two hexadecimal digits
+-- the byte with these two hexadecimal digits
 abbrev pub hex_byte : ℕ → ℕ → Option ℕ
 hex_byte h l = if nat_lt (digit_value h) 16 && nat_lt (digit_value l) 16 then Some (16 * digit_value h + digit_value l) else None
 
--- the byte before the others, if there are both
+-- the byte before the others, if both exist
 abbrev pub put_first : Option ℕ → Option (List ℕ) → Option (List ℕ)
 put_first (Some b) (Some bs) = Some (b ∷ bs)
 put_first o p = None
 
--- what a byte that is no backslash spells
+-- the byte that a byte other than a backslash spells
 abbrev pub unescaped_byte : ℕ → Option ℕ
 unescaped_byte b = if b == 92 then None else if b == 45 then Some 47 else Some b
 
@@ -42,7 +42,7 @@ unescaped_byte b = if b == 92 then None else if b == 45 then Some 47 else Some b
 abbrev pub unescaped_four : ℕ → ℕ → ℕ → Option ℕ
 unescaped_four x h l = if x == 120 then hex_byte h l else None
 
--- the bytes that a text spells: a backslash takes three bytes more, every other byte stands alone
+-- the bytes that a text spells: a backslash takes the three bytes after it, every other byte stands for itself
 unfoldable pub unescape : List ℕ → Option (List ℕ)
 unescape [] = Some []
 unescape (b ∷ x ∷ h ∷ l ∷ rest) =

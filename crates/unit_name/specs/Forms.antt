@@ -1,10 +1,8 @@
--- Names that are put together from parts.
+-- Names put together from parts.
 -- Source: systemd.unit(5), "Description"; which bytes an instance may have is this project's own.
-use Rattle.std.specs.Prelude.{ℕ, nat_le, Bool, ◌&&◌, not, if◌then◌else◌, Option, Some, None, List, ◌∷◌, ◌++◌, length}
+use Rattle.std.proofs.Common.{◌&&◌, ◌++◌, ◌∷◌, Bool, if◌then◌else◌, length, List, nat_le, None, not, Option, Some, ℕ}
 use Rattle.std.specs.List.{list_all}
-use Rattle.unit_name.specs.declared.names.Shape.{Shape}
-use Rattle.unit_name.specs.declared.names.Shape.TheVariants.{Plain, Template, Instance}
-use Rattle.unit_name.specs.Names.{Name, is_empty, is_name_byte, prefix, suffix, shape}
+use Rattle.unit_name.specs.{declared.names.Shape.Shape, declared.names.Shape.TheVariants.Instance, declared.names.Shape.TheVariants.Plain, declared.names.Shape.TheVariants.Template, Names.is_empty, Names.is_name_byte, Names.Name, Names.prefix, Names.shape, Names.suffix}
 
 abbrev pub plain_name : List ℕ → List ℕ → Name
 plain_name p k = p ++ 46 ∷ k
@@ -15,7 +13,7 @@ template_name p k = p ++ 64 ∷ 46 ∷ k
 abbrev pub instance_name : List ℕ → List ℕ → List ℕ → Name
 instance_name p i k = p ++ 64 ∷ i ++ 46 ∷ k
 
--- the name of this shape with this prefix, instance and suffix
+-- the name with this shape, prefix, instance and suffix
 abbrev pub name_with : Shape → List ℕ → List ℕ → List ℕ → Name
 name_with Plain p i k = plain_name p k
 name_with Template p i k = template_name p k
@@ -26,11 +24,11 @@ template_at Plain n = None
 template_at Template n = None
 template_at Instance n = Some (template_name (prefix n) (suffix n))
 
--- an instance's template; none of other names
+-- the template of an instance; `None` for other names
 abbrev pub template_of : Name → Option Name
 template_of n = template_at (shape n) n
 
--- whether a template may have this instance: some bytes, and each a name's
+-- whether a template may have this instance: not empty, and only bytes allowed in names
 abbrev pub is_instance : List ℕ → Bool
 is_instance i = not (is_empty i) && list_all is_name_byte i
 
@@ -43,6 +41,6 @@ instance_at Plain n i = None
 instance_at Template n i = if is_instance i then if_short (instance_name (prefix n) i (suffix n)) else None
 instance_at Instance n i = None
 
--- a template's name with this instance; none of other names, for other bytes, or where it is too long
+-- a template's name with this instance; `None` for other names, for invalid instances, or if it is too long
 abbrev pub with_instance : Name → List ℕ → Option Name
 with_instance n i = instance_at (shape n) n i

@@ -1,48 +1,39 @@
--- Laws of names: what they are made of, and what their parts are.
-use Rattle.std.proofs.Common.{◌≡◌, ℕ, ◌-◌, ◌<◌, ◌≤◌, Bool, true, false, not, cond, ◌||◌, ltb, leb, List, [], ◌∷◌, ◌++◌, length, drop, append_assoc, length-append, Option, Some, None, is_none, Result, Ok, Err, is_ok, refl, ap, sym, ◌∙◌, subst, inl, inr, arith, le-leb}
-use Rattle.std.specs.Prelude.{◌↔◌, ◌⊎◌, if◌then◌else◌}
-use Rattle.std.specs.List.{list_all, list_any, suffix_len, before_first, after_first}
-use Rattle.std.specs.Str.{bytes_eq}
-use Rattle.std.specs.Bool.{Decides}
-use Rattle.std.specs.declared.cmp.Ordering.{Ordering}
-use Rattle.std.specs.declared.cmp.Ordering.TheVariants.{Less, Equal, Greater}
-use Rattle.std.specs.Ordering.{eq_by_cmp, is_eq}
-use Rattle.std.specs.Cmp.Lexicographic.{nat_list_cmp_total}
-use Rattle.std.specs.FinMap.{IsAntisymmetric, slice_cmp-IsAntisymmetric, nat_cmp-IsAntisymmetric}
+-- Laws of names: their form, and their parts.
+use Rattle.std.proofs.Common.{[], ◌++◌, ◌-◌, ◌<◌, ◌||◌, ◌↔◌, ◌∙◌, ◌∷◌, ◌≡◌, ◌≤◌, ◌⊎◌, ap, append-nil, append_assoc, arith, Bool, cond, drop, Err, false, if◌then◌else◌, inl, inr, is_none, is_ok, le-leb, leb, length, length-append, List, ltb, None, not, Ok, Option, refl, Result, Some, subst, sym, true, ℕ}
+use Rattle.std.proofs.lemmas.Bool.{and_from, and_parts, cases_lt, cond-false, cond-true, eqb-true, le-ltb, leb-true, ltb-false, not-false, not-true, or_from, or_parts, or_right, true≢false}
 use Rattle.std.proofs.lemmas.Cmp.{tied_itself}
-use Rattle.std.proofs.lemmas.Bool.{true≢false, and_parts, and_from, or_parts, or_from, or_right, cond-true, cond-false, eqb-true, ltb-false, le-ltb, leb-true, cases_lt, not-true, not-false}
-use Rattle.std.proofs.lemmas.List.Folds.{list_any-append, list_all-append}
-use Rattle.std.proofs.lemmas.List.{append-nil}
-use Rattle.std.proofs.lemmas.List.Sums.{take_while-cons, split_at_first, passes_at_first}
+use Rattle.std.proofs.lemmas.List.Folds.{list_all-append, list_any-append}
+use Rattle.std.proofs.lemmas.List.Sums.{passes_at_first, split_at_first, take_while-cons}
+use Rattle.std.proofs.lemmas.Option.{cond_some, none-some, same_Some}
 use Rattle.std.proofs.lemmas.Slice.Eq.{bytes_eq-Decides}
-use Rattle.std.proofs.lemmas.Option.{none-some, same_Some, cond_some}
-use Rattle.unit_name.specs.declared.kinds.Kind.{Kind}
-use Rattle.unit_name.specs.declared.kinds.Kind.TheVariants.{Service, Socket, Device, Mount, Automount, Swap, Target, Path, Timer, Slice, Scope}
-use Rattle.unit_name.specs.declared.names.Shape.{Shape}
-use Rattle.unit_name.specs.declared.names.Shape.TheVariants.{Plain, Template, Instance}
-use Rattle.unit_name.specs.declared.names.NameFault.{NameFault}
-use Rattle.unit_name.specs.declared.names.NameFault.TheVariants.{Length, Kind as NoKind, EmptyPrefix}
-use Rattle.unit_name.specs.Names.{Name, name_cmp, is_dot, is_at, is_empty, stem, suffix, prefix, instance, shape, word, kinds, kind_of, kind, is_name_byte, bad_place, unless_bad, name_of, IsName}
-use Rattle.unit_name.specs.Forms.{template_name, instance_name, name_with, template_at, template_of, is_instance, if_short, instance_at, with_instance}
-use Rattle.unit_name.specs.PartLaws.{before_first_put, after_first_put, before_last_put, after_last_put, before_first_all, after_first_none, before_first_fails, all_take, all_drop, all_append, any_fails, position_none, none_passes, find_passes, split_at_last, place_within}
+use Rattle.std.specs.Bool.{Decides}
+use Rattle.std.specs.Cmp.Lexicographic.{nat_list_cmp_total}
+use Rattle.std.specs.FinMap.{IsAntisymmetric, nat_cmp-IsAntisymmetric, slice_cmp-IsAntisymmetric}
+use Rattle.std.specs.List.{after_first, before_first, list_all, list_any, suffix_len}
+use Rattle.std.specs.Ordering.{eq_by_cmp, is_eq}
+use Rattle.std.specs.Str.{bytes_eq}
+use Rattle.std.specs.declared.cmp.Ordering.{Ordering}
+use Rattle.std.specs.declared.cmp.Ordering.TheVariants.{Equal, Greater, Less}
+use Rattle.unit_name.specs.{declared.kinds.Kind.Kind, declared.kinds.Kind.TheVariants.Automount, declared.kinds.Kind.TheVariants.Device, declared.kinds.Kind.TheVariants.Mount, declared.kinds.Kind.TheVariants.Path, declared.kinds.Kind.TheVariants.Scope, declared.kinds.Kind.TheVariants.Service, declared.kinds.Kind.TheVariants.Slice, declared.kinds.Kind.TheVariants.Socket, declared.kinds.Kind.TheVariants.Swap, declared.kinds.Kind.TheVariants.Target, declared.kinds.Kind.TheVariants.Timer, declared.names.NameFault.NameFault, declared.names.NameFault.TheVariants.EmptyPrefix, declared.names.NameFault.TheVariants.Kind as NoKind, declared.names.NameFault.TheVariants.Length, declared.names.Shape.Shape, declared.names.Shape.TheVariants.Instance, declared.names.Shape.TheVariants.Plain, declared.names.Shape.TheVariants.Template, Forms.if_short, Forms.instance_at, Forms.instance_name, Forms.is_instance, Forms.name_with, Forms.template_at, Forms.template_name, Forms.template_of, Forms.with_instance, Names.bad_place, Names.instance, Names.is_at, Names.is_dot, Names.is_empty, Names.is_name_byte, Names.IsName, Names.kind, Names.kind_of, Names.kinds, Names.Name, Names.name_cmp, Names.name_of, Names.prefix, Names.shape, Names.stem, Names.suffix, Names.unless_bad, Names.word, PartLaws.after_first_none, PartLaws.after_first_put, PartLaws.after_last_put, PartLaws.all_append, PartLaws.all_drop, PartLaws.all_take, PartLaws.any_fails, PartLaws.before_first_all, PartLaws.before_first_fails, PartLaws.before_first_put, PartLaws.before_last_put, PartLaws.find_passes, PartLaws.none_passes, PartLaws.place_within, PartLaws.position_none, PartLaws.split_at_last}
 
--- a stem may begin with this: there is a first byte, and it is no at sign
+-- a stem may begin like this: it isn't empty and its first byte isn't an at sign
 abbrev pub begins_well : List ℕ → Bool
 begins_well [] = false
 begins_well (b ∷ bs) = not (is_at b)
 
--- a name is a stem, a dot and a kind's word: the stem has the bytes of names alone and begins well; all is at most 255 bytes
+-- a name is a stem, a dot and a kind's suffix; the stem has only bytes allowed in names and begins well; together at
+-- most 255 bytes
 pub record IsMadeOf (n s : List ℕ) (k : Kind) : Type 0 where
   pub made : n ≡ s ++ 46 ∷ word k
   pub begins : begins_well s ≡ true
   pub bytes : list_all is_name_byte s ≡ true
   pub short : length n ≤ 255
 
--- the names are just what is made of a stem and a kind
+-- names are exactly what can be made of a stem and a kind
 abbrev pub NamesAreMade : Type 0
 NamesAreMade = (n : List ℕ) → IsName n ↔ ((s : List ℕ) × (k : Kind) × IsMadeOf n s k)
 
--- what is tested in turn
+-- the tests, in order
 tested : Bool → Bool → Bool → Option ℕ → Name → Result Name NameFault
 tested t u v o n = if t then Err Length else if u then Err NoKind else if v then Err EmptyPrefix else unless_bad o n
 
@@ -85,7 +76,7 @@ word_dotless Timer = refl
 word_dotless Slice = refl
 word_dotless Scope = refl
 
--- a kind's word is that kind's
+-- the kind of a kind's suffix is that kind
 pub kind_of-word : (k : Kind) → kind_of (word k) ≡ Some k
 unfolding kind_of
 kind_of-word Service = refl
@@ -104,7 +95,7 @@ pub word_of_kind : (w : List ℕ) (k : Kind) → kind_of w ≡ Some k → w ≡ 
 unfolding kind_of
 word_of_kind w k h = sym ((bytes_eq-Decides (word k) w).0 (find_passes (λ j. bytes_eq (word j) w) kinds k h))
 
--- the parts of a stem, a dot and a kind's word
+-- the parts of a stem, a dot and a kind's suffix
 pub stem_of_made : (s : List ℕ) (k : Kind) → stem (s ++ 46 ∷ word k) ≡ s
 stem_of_made s k = before_last_put is_dot s 46 (word k) (word_dotless k) refl
 
@@ -159,7 +150,7 @@ dotless_any : (p : ℕ → Bool) (xs : List ℕ) → list_all (λ b. not (p b)) 
 dotless_any p [] h = refl
 dotless_any p (x ∷ xs) h = let s = and_parts (not (p x)) (list_all (λ b. not (p b)) xs) h in or_from _ _ (not-true _ s.0) (dotless_any p xs s.1)
 
--- a word has no dot, so what has one is more than the word
+-- a suffix has no dot, so bytes with a dot are more than the suffix
 more_than_word : (n : Name) (k : Kind) → list_any is_dot n ≡ true → suffix n ≡ word k → suffix_len (λ b. not (is_dot b)) n < length n
 more_than_word n k d w = step (cases_lt (suffix_len (λ b. not (is_dot b)) n) (length n))
   where
@@ -206,7 +197,7 @@ names_are_made n = (there, back)
     back : (s : List ℕ) × (k : Kind) × IsMadeOf n s k → IsName n
     back (s, k, m) = ap is_ok (name_of-made n s k m)
 
--- the shape, the prefix and the instance of a name: a prefix that isn't empty and has no at sign, an instance for instances alone
+-- valid parts of a name: the prefix isn't empty and has no at sign, and only instances have an instance
 abbrev pub fits : Shape → List ℕ → Bool
 fits Plain i = is_empty i
 fits Template i = is_empty i
@@ -227,15 +218,15 @@ pub record HasParts (n : Name) (s : Shape) (p i : List ℕ) (k : Kind) : Type 0 
   pub suffix_is : suffix n ≡ word k
   pub kind_is : kind n ≡ Some k
 
--- fitting parts that are put together are a name, and the parts of that name, if it isn't too long
+-- putting valid parts together gives a name with these parts, if it isn't too long
 abbrev pub PartsMakeNames : Type 0
 PartsMakeNames = (s : Shape) (p i : List ℕ) (k : Kind) → AreParts s p i → length (name_with s p i (word k)) ≤ 255 → HasParts (name_with s p i (word k)) s p i k
 
--- a name's parts fit
+-- the parts of a name are valid
 abbrev pub PartsOfNamesFit : Type 0
 PartsOfNamesFit = (n : Name) → IsName n → AreParts (shape n) (prefix n) (instance n)
 
--- a name's parts put together are the name
+-- putting the parts of a name together gives the name
 abbrev pub NamesAreTheirParts : Type 0
 NamesAreTheirParts = (n : Name) → IsName n → name_with (shape n) (prefix n) (instance n) (suffix n) ≡ n
 
@@ -247,7 +238,7 @@ begins_with : (p w : List ℕ) → is_empty p ≡ false → list_all (λ b. not 
 begins_with [] w h t = cc
 begins_with (x ∷ p) w h t = (and_parts _ _ t).0
 
--- what is made of fitting parts round a stem
+-- a name made of valid parts around a stem
 has_parts : (s : Shape) (p i st : List ℕ) (k : Kind) (n : Name) → AreParts s p i → n ≡ st ++ 46 ∷ word k → length n ≤ 255
     → begins_well st ≡ true → list_all is_name_byte st ≡ true → shape n ≡ s → before_first is_at st ≡ p → after_first is_at st ≡ i → HasParts n s p i k
 has_parts s p i st k n a made short begins bytes sh pre ins =
@@ -343,11 +334,11 @@ names_are_their_parts n h =
     suffix_word : (n : Name) (k : Kind) → kind n ≡ Some k → suffix n ≡ word k
     suffix_word n k e = word_of_kind (suffix n) k (kind_parts n k e).1
 
--- the template of a name keeps its prefix and its kind
+-- the template of a name has the same prefix and kind
 abbrev pub TemplatesKeepParts : Type 0
 TemplatesKeepParts = (n t : Name) → IsName n → template_of n ≡ Some t → (k : Kind) × (kind n ≡ Some k) × HasParts t Template (prefix n) [] k
 
--- a template's instances are the names that have this template and this instance
+-- the instances of a template are the names that have this template and this instance
 abbrev pub InstancesHaveTheTemplate : Type 0
 InstancesHaveTheTemplate = (t i n : Name) → IsName t → (with_instance t i ≡ Some n) ↔ (IsName n × (template_of n ≡ Some t) × (instance n ≡ i))
 
@@ -356,7 +347,7 @@ template_some Plain n t h = absurd (none-some _ h)
 template_some Template n t h = absurd (none-some _ h)
 template_some Instance n t h = (refl, sym (same_Some _ _ h))
 
--- a name's suffix is the word of its kind
+-- the suffix of a name is that of its kind
 pub suffix_is_word : (n : Name) (k : Kind) → kind n ≡ Some k → suffix n ≡ word k
 suffix_is_word n k e = word_of_kind (suffix n) k (kind_parts n k e).1
 
@@ -447,7 +438,7 @@ instances_have_the_template t i n h = (there, back)
         ∙ ap (instance_name (prefix t) i) (suffix_is_word n q.0 q.1 ∙ sym q.2.suffix_is) in
         some_taken t i n (record { shape_is = q.2.shape_is; fitting = f; short = le-leb _ _ (name_short n g); put = put })
 
--- a prefix may be cut anywhere behind its first byte
+-- a prefix may be cut anywhere after its first byte
 abbrev pub PrefixesMayBeCut : Type 0
 PrefixesMayBeCut = (n p w : Name) → IsName n → prefix n ≡ p ++ w → is_empty p ≡ false → (k : Kind) × (kind n ≡ Some k) × HasParts (name_with (shape n) p (instance n) (suffix n)) (shape n) p (instance n) k
 
@@ -474,7 +465,7 @@ prefixes_may_be_cut n p w h e full =
           (parts_make_names (shape n) p (instance n) m.0 fit (subst (λ x. length (name_with (shape n) p (instance n) x) ≤ 255) word_is short)),
     )
 
--- a name's prefix may be an instance, and an instance's instance may
+-- the prefix of a name is a valid instance, and so is the instance of an instance
 pub prefix_is_instance : (n : Name) → IsName n → is_instance (prefix n) ≡ true
 prefix_is_instance n h = let a = parts_of_names_fit n h in and_from _ _ (ap not a.prefix_there) a.prefix_bytes
 
@@ -495,17 +486,17 @@ word_bytes Timer = refl
 word_bytes Slice = refl
 word_bytes Scope = refl
 
--- a name's bytes, the last dot and the kind's word too
+-- all bytes of a name are allowed, in the suffix too
 pub name_bytes : (n : Name) → IsName n → list_all is_name_byte n ≡ true
 name_bytes n h =
     let m = made_of_name n h in
     ap (list_all is_name_byte) m.2.made ∙ all_append is_name_byte (stem n) (46 ∷ word m.0) m.2.bytes (word_bytes m.0)
 
--- the order tells different names apart
+-- names that compare as equal are equal
 pub name_cmp-IsAntisymmetric : IsAntisymmetric name_cmp
 name_cmp-IsAntisymmetric = slice_cmp-IsAntisymmetric nat_cmp-IsAntisymmetric
 
--- equal names are the same name
+-- comparing as equal is being the same name
 pub name_eq-Decides : (a b : Name) → Decides (eq_by_cmp name_cmp a b) (a ≡ b)
 name_eq-Decides a b = (same, equal)
   where

@@ -1,23 +1,19 @@
--- The parts of a unit name, and which bytes are one. A name is its bytes.
+-- The parts of a unit name, and which bytes form a name. A name is its bytes.
 -- Source: systemd.unit(5), "Description"; the order of the faults is this project's own.
-use Rattle.std.specs.Prelude.{ℕ, ◌==◌, nat_lt, Bool, true, false, ◌||◌, not, if◌then◌else◌, IsTrue, Option, Some, None, is_none, Result, Ok, Err, IsOk, is_ok, ◌≡◌, List, [], ◌∷◌, length, codes, position, find}
-use Rattle.std.specs.List.{before_first, after_first, before_last, after_last, list_any}
+use Rattle.std.proofs.Common.{[], ◌==◌, ◌||◌, ◌∷◌, ◌≡◌, Bool, codes, Err, false, if◌then◌else◌, is_none, is_ok, IsTrue, length, List, nat_lt, None, not, Ok, Option, position, Result, Some, true, ℕ}
 use Rattle.std.specs.Char.{is_ascii_alphanumeric}
+use Rattle.std.specs.Cmp.Lexicographic.{slice_cmp}
+use Rattle.std.specs.List.{after_first, after_last, before_first, before_last, list_any}
+use Rattle.std.specs.Ordering.{nat_cmp}
+use Rattle.std.specs.Prelude.{find, IsOk}
 use Rattle.std.specs.Str.{bytes_eq}
 use Rattle.std.specs.declared.cmp.Ordering.{Ordering}
-use Rattle.std.specs.Ordering.{nat_cmp}
-use Rattle.std.specs.Cmp.Lexicographic.{slice_cmp}
-use Rattle.unit_name.specs.declared.kinds.Kind.{Kind}
-use Rattle.unit_name.specs.declared.kinds.Kind.TheVariants.{Service, Socket, Device, Mount, Automount, Swap, Target, Path, Timer, Slice, Scope}
-use Rattle.unit_name.specs.declared.names.Shape.{Shape}
-use Rattle.unit_name.specs.declared.names.Shape.TheVariants.{Plain, Template, Instance}
-use Rattle.unit_name.specs.declared.names.NameFault.{NameFault}
-use Rattle.unit_name.specs.declared.names.NameFault.TheVariants.{Length, Kind as NoKind, EmptyPrefix, BadByte, Memory}
+use Rattle.unit_name.specs.{declared.kinds.Kind.Kind, declared.kinds.Kind.TheVariants.Automount, declared.kinds.Kind.TheVariants.Device, declared.kinds.Kind.TheVariants.Mount, declared.kinds.Kind.TheVariants.Path, declared.kinds.Kind.TheVariants.Scope, declared.kinds.Kind.TheVariants.Service, declared.kinds.Kind.TheVariants.Slice, declared.kinds.Kind.TheVariants.Socket, declared.kinds.Kind.TheVariants.Swap, declared.kinds.Kind.TheVariants.Target, declared.kinds.Kind.TheVariants.Timer, declared.names.NameFault.NameFault, declared.names.NameFault.TheVariants.BadByte, declared.names.NameFault.TheVariants.EmptyPrefix, declared.names.NameFault.TheVariants.Kind as NoKind, declared.names.NameFault.TheVariants.Length, declared.names.NameFault.TheVariants.Memory, declared.names.Shape.Shape, declared.names.Shape.TheVariants.Instance, declared.names.Shape.TheVariants.Plain, declared.names.Shape.TheVariants.Template}
 
 abbrev pub Name : Type 0
 Name = List ℕ
 
--- byte order, a proper front first
+-- byte order; a proper prefix comes first
 abbrev pub name_cmp : Name → Name → Ordering
 name_cmp = slice_cmp nat_cmp
 
@@ -31,27 +27,27 @@ abbrev pub is_empty : List ℕ → Bool
 is_empty [] = true
 is_empty (b ∷ bs) = false
 
--- what stands before the last dot
+-- the bytes before the last dot
 abbrev pub stem : Name → List ℕ
 stem n = before_last is_dot n
 
--- what stands behind the last dot
+-- the bytes after the last dot
 abbrev pub suffix : Name → List ℕ
 suffix n = after_last is_dot n
 
--- what stands before the first at sign of the stem, or the whole stem
+-- the bytes before the first at sign of the stem, or the whole stem
 abbrev pub prefix : Name → List ℕ
 prefix n = before_first is_at (stem n)
 
--- what stands behind the first at sign of the stem, or nothing
+-- the bytes after the first at sign of the stem, or nothing
 abbrev pub instance : Name → List ℕ
 instance n = after_first is_at (stem n)
 
--- plain without an at sign, a template with nothing behind it, else an instance
+-- plain without an at sign, a template with nothing after it, else an instance
 abbrev pub shape : Name → Shape
 shape n = if not (list_any is_at (stem n)) then Plain else if is_empty (instance n) then Template else Instance
 
--- the word that a kind has in names
+-- the suffix of a kind's names
 abbrev pub word : Kind → List ℕ
 word Service = codes "service"
 word Socket = codes "socket"
@@ -68,19 +64,19 @@ word Scope = codes "scope"
 abbrev pub kinds : List Kind
 kinds = Service ∷ Socket ∷ Device ∷ Mount ∷ Automount ∷ Swap ∷ Target ∷ Path ∷ Timer ∷ Slice ∷ Scope ∷ []
 
--- the kind that has this word
+-- the kind with this suffix
 unfoldable pub kind_of : List ℕ → Option Kind
 kind_of w = find (λ k. bytes_eq (word k) w) kinds
 
--- the kind of a name: its suffix says it, if there is a dot
+-- the kind that the suffix says, if there is a dot
 abbrev pub kind : Name → Option Kind
 kind n = if list_any is_dot n then kind_of (suffix n) else None
 
--- a letter, a digit, : - _ . \ or @
+-- a letter, a digit, or one of : - _ . \ @
 unfoldable pub is_name_byte : ℕ → Bool
 is_name_byte b = is_ascii_alphanumeric b || b == 58 || b == 45 || b == 95 || b == 46 || b == 92 || b == 64
 
--- the first byte that no stem has
+-- the index of the first byte that isn't allowed in a stem
 abbrev pub bad_place : List ℕ → Option ℕ
 bad_place s = position (λ b. not (is_name_byte b)) s
 
@@ -89,7 +85,7 @@ abbrev pub unless_bad : Option ℕ → List ℕ → Result Name NameFault
 unless_bad None b = Ok b
 unless_bad (Some place) b = Err (BadByte place)
 
--- the name that these bytes are, or the first thing that is wrong with them
+-- the name that these bytes are, or the first fault in them
 unfoldable pub name_of : List ℕ → Result Name NameFault
 name_of b =
     if is_empty b || nat_lt 255 (length b) then Err Length
@@ -104,7 +100,7 @@ is_name b = is_ok (name_of b)
 abbrev pub IsName : List ℕ → Type 0
 IsName b = IsTrue (is_name b)
 
--- the fault is what is wrong with the bytes; memory is asked for only where nothing is
+-- the fault is the first one in the bytes; `Memory` only if they have none
 abbrev pub IsFaultOf : List ℕ → NameFault → Type 0
 IsFaultOf b Length = name_of b ≡ Err Length
 IsFaultOf b NoKind = name_of b ≡ Err NoKind

@@ -1,13 +1,13 @@
--- What stands round the first and the last byte that passes a test.
-use Rattle.std.proofs.Common.{◌≡◌, ℕ, zero, suc, ◌-◌, ◌+◌, ◌<◌, Bool, true, false, not, cond, ◌&&◌, ◌||◌, ltb, List, [], ◌∷◌, ◌++◌, length, take, drop, get_or, reverse, append_assoc, length-append, Some, None, refl, ap, sym, ◌∙◌, arith, lt-ltb}
-use Rattle.std.specs.Prelude.{position, find}
-use Rattle.std.specs.List.{list_all, list_any, prefix_len, suffix_len, position_or_len, before_first, after_first, before_last, after_last}
-use Rattle.std.proofs.lemmas.Bool.{and_parts, and_from, or_parts, cond-true, ltb-true}
-use Rattle.std.proofs.lemmas.List.{reverse-append, length-reverse, get_or-reverse, take-append-drop, drop_more, take_all, drop_all}
-use Rattle.std.proofs.lemmas.List.Sums.{take_while-cons, prefix_len_stops}
+-- The parts of bytes before and after the first or last byte that passes a test.
+use Rattle.std.proofs.Common.{[], ◌&&◌, ◌++◌, ◌+◌, ◌-◌, ◌<◌, ◌||◌, ◌∙◌, ◌∷◌, ◌≡◌, ap, append_assoc, arith, Bool, cond, drop, false, get_or, length, length-append, List, lt-ltb, ltb, None, not, position, refl, reverse, Some, suc, sym, take, true, zero, ℕ}
+use Rattle.std.proofs.lemmas.Bool.{and_from, and_parts, cond-true, ltb-true, or_parts}
+use Rattle.std.proofs.lemmas.List.{drop_all, drop_more, get_or-reverse, length-reverse, reverse-append, take-append-drop, take_all}
+use Rattle.std.proofs.lemmas.List.Sums.{prefix_len_stops, take_while-cons}
 use Rattle.std.proofs.lemmas.Option.{none-some, same_Some}
+use Rattle.std.specs.List.{after_first, after_last, before_first, before_last, list_all, list_any, position_or_len, prefix_len, suffix_len}
+use Rattle.std.specs.Prelude.{find}
 
--- the first byte that fails ends the front that passes
+-- the first byte that fails ends the passing prefix
 stops : (q : ℕ → Bool) (u : List ℕ) (d : ℕ) (w : List ℕ) → list_all q u ≡ true → q d ≡ false → prefix_len q (u ++ d ∷ w) ≡ length u
 stops q [] d w h f = ap (λ b. cond b (1 + prefix_len q w) 0) f
 stops q (x ∷ u) d w h f =
@@ -15,22 +15,22 @@ stops q (x ∷ u) d w h f =
     let r : prefix_len q (u ++ d ∷ w) ≡ length u = stops q u d w t.1 f in
     ap (λ b. cond b (1 + prefix_len q (u ++ d ∷ w)) 0) t.0 ∙ omega arith
 
-take_front : (u w : List ℕ) → take (length u) (u ++ w) ≡ u
-take_front [] w = refl
-take_front (x ∷ u) w = ap (λ y. x ∷ y) (take_front u w)
+take_start : (u w : List ℕ) → take (length u) (u ++ w) ≡ u
+take_start [] w = refl
+take_start (x ∷ u) w = ap (λ y. x ∷ y) (take_start u w)
 
-drop_front : (u : List ℕ) (d : ℕ) (w : List ℕ) → drop (suc (length u)) (u ++ d ∷ w) ≡ w
-drop_front [] d w = refl
-drop_front (x ∷ u) d w = drop_front u d w
+drop_start : (u : List ℕ) (d : ℕ) (w : List ℕ) → drop (suc (length u)) (u ++ d ∷ w) ≡ w
+drop_start [] d w = refl
+drop_start (x ∷ u) d w = drop_start u d w
 
--- the parts of bytes that are put together round the first byte that passes
+-- the parts of bytes that are put together around the first byte that passes
 pub before_first_put : (p : ℕ → Bool) (u : List ℕ) (d : ℕ) (w : List ℕ) → list_all (λ b. not (p b)) u ≡ true → p d ≡ true → before_first p (u ++ d ∷ w) ≡ u
-before_first_put p u d w h t = ap (λ n. take n (u ++ d ∷ w)) (stops (λ b. not (p b)) u d w h (ap not t)) ∙ take_front u (d ∷ w)
+before_first_put p u d w h t = ap (λ n. take n (u ++ d ∷ w)) (stops (λ b. not (p b)) u d w h (ap not t)) ∙ take_start u (d ∷ w)
 
 pub after_first_put : (p : ℕ → Bool) (u : List ℕ) (d : ℕ) (w : List ℕ) → list_all (λ b. not (p b)) u ≡ true → p d ≡ true → after_first p (u ++ d ∷ w) ≡ w
 after_first_put p u d w h t =
     let e : length u + 1 ≡ suc (length u) = omega arith in
-    ap (λ n. drop (n + 1) (u ++ d ∷ w)) (stops (λ b. not (p b)) u d w h (ap not t)) ∙ ap (λ n. drop n (u ++ d ∷ w)) e ∙ drop_front u d w
+    ap (λ n. drop (n + 1) (u ++ d ∷ w)) (stops (λ b. not (p b)) u d w h (ap not t)) ∙ ap (λ n. drop n (u ++ d ∷ w)) e ∙ drop_start u d w
 
 reverse_cons : (x : ℕ) (k : List ℕ) → reverse (x ∷ k) ≡ reverse k ++ x ∷ []
 reverse_cons x k = reverse-append (x ∷ []) k
@@ -43,27 +43,27 @@ all_reverse : (q : ℕ → Bool) (u : List ℕ) → list_all q u ≡ true → li
 all_reverse q [] h = refl
 all_reverse q (x ∷ u) h = let s = and_parts (q x) (list_all q u) h in ap (list_all q) (reverse_cons x u) ∙ all_push q (reverse u) x (all_reverse q u s.1) s.0
 
-behind : (p : ℕ → Bool) (a : List ℕ) (d : ℕ) (k : List ℕ) → list_all (λ b. not (p b)) k ≡ true → p d ≡ true → suffix_len (λ b. not (p b)) (a ++ d ∷ k) ≡ length k
-behind p a d k h t =
+after : (p : ℕ → Bool) (a : List ℕ) (d : ℕ) (k : List ℕ) → list_all (λ b. not (p b)) k ≡ true → p d ≡ true → suffix_len (λ b. not (p b)) (a ++ d ∷ k) ≡ length k
+after p a d k h t =
     let r : reverse (a ++ d ∷ k) ≡ reverse k ++ d ∷ reverse a = reverse-append a (d ∷ k) ∙ ap (λ l. l ++ reverse a) (reverse_cons d k) ∙ append_assoc (reverse k) (d ∷ []) (reverse a) in
     ap (prefix_len (λ b. not (p b))) r ∙ stops (λ b. not (p b)) (reverse k) d (reverse a) (all_reverse (λ b. not (p b)) k h) (ap not t) ∙ length-reverse k
 
--- the parts of bytes that are put together round the last byte that passes
+-- the parts of bytes that are put together around the last byte that passes
 pub after_last_put : (p : ℕ → Bool) (a : List ℕ) (d : ℕ) (k : List ℕ) → list_all (λ b. not (p b)) k ≡ true → p d ≡ true → after_last p (a ++ d ∷ k) ≡ k
 after_last_put p a d k h t =
-    let s = behind p a d k h t in
+    let s = after p a d k h t in
     let l : length (a ++ d ∷ k) ≡ length a + length (d ∷ k) = length-append a (d ∷ k) in
     let n : length (a ++ d ∷ k) - suffix_len (λ b. not (p b)) (a ++ d ∷ k) ≡ suc (length a) = ap (λ m. length (a ++ d ∷ k) - m) s ∙ omega arith in
-    ap (λ m. drop m (a ++ d ∷ k)) n ∙ drop_front a d k
+    ap (λ m. drop m (a ++ d ∷ k)) n ∙ drop_start a d k
 
 pub before_last_put : (p : ℕ → Bool) (a : List ℕ) (d : ℕ) (k : List ℕ) → list_all (λ b. not (p b)) k ≡ true → p d ≡ true → before_last p (a ++ d ∷ k) ≡ a
 before_last_put p a d k h t =
-    let s = behind p a d k h t in
+    let s = after p a d k h t in
     let l : length (a ++ d ∷ k) ≡ length a + length (d ∷ k) = length-append a (d ∷ k) in
     let n : length (a ++ d ∷ k) - suffix_len (λ b. not (p b)) (a ++ d ∷ k) - 1 ≡ length a = ap (λ m. length (a ++ d ∷ k) - m - 1) s ∙ omega arith in
-    ap (λ m. take m (a ++ d ∷ k)) n ∙ take_front a (d ∷ k)
+    ap (λ m. take m (a ++ d ∷ k)) n ∙ take_start a (d ∷ k)
 
--- some byte passes exactly where the first place is within
+-- some byte passes exactly if the first index is less than the length
 pub place_within : (p : ℕ → Bool) (xs : List ℕ) → list_any p xs ≡ true → position_or_len p xs < length xs
 place_within p [] h = cc
 place_within p (x ∷ xs) h = step (p x) refl (place_within p xs)
@@ -82,7 +82,7 @@ place_past p (x ∷ xs) h =
     let s : position_or_len p xs ≡ length xs = place_past p xs e.1 in
     omega arith
 
--- without a byte that passes all stands before, and nothing behind
+-- if no byte passes, all bytes are before it and none after it
 pub before_first_all : (p : ℕ → Bool) (xs : List ℕ) → list_any p xs ≡ false → before_first p xs ≡ xs
 before_first_all p xs h = let e = place_past p xs h in take_all (position_or_len p xs) xs (omega arith)
 
@@ -98,7 +98,7 @@ before_first_fails p (x ∷ xs) = ap (list_all (λ b. not (p b))) (take_while-co
     step true e more = and_from _ _ e more
     step false e more = refl
 
--- what passes for a whole list passes for a part of it
+-- if a whole list passes, so does a part of it
 pub all_take : (p : ℕ → Bool) (n : ℕ) (xs : List ℕ) → list_all p xs ≡ true → list_all p (take n xs) ≡ true
 all_take p zero xs h = refl
 all_take p (suc n) [] h = refl
@@ -113,7 +113,7 @@ pub all_append : (p : ℕ → Bool) (xs ys : List ℕ) → list_all p xs ≡ tru
 all_append p [] ys h k = k
 all_append p (x ∷ xs) ys h k = let s = and_parts (p x) (list_all p xs) h in and_from _ _ s.0 (all_append p xs ys s.1 k)
 
--- each passes exactly where none fails
+-- all pass exactly if none fails
 pub any_fails : (p : ℕ → Bool) (xs : List ℕ) → list_any (λ b. not (p b)) xs ≡ not (list_all p xs)
 any_fails p [] = refl
 any_fails p (x ∷ xs) = step (p x) (any_fails p xs)
@@ -122,7 +122,7 @@ any_fails p (x ∷ xs) = step (p x) (any_fails p xs)
     step true more = more
     step false more = refl
 
--- there is a first place exactly where some byte passes
+-- there is a first index exactly if some byte passes
 pub position_none : (p : ℕ → Bool) (xs : List ℕ) → list_any p xs ≡ false → position p xs ≡ None
 position_none p xs h = let e = place_past p xs h in step (ltb (position_or_len p xs) (length xs)) refl e
   where
@@ -137,7 +137,7 @@ none_passes p xs h = step (list_any p xs) refl
     step true e = absurd (none-some _ (sym h ∙ cond-true _ _ _ (lt-ltb _ _ (place_within p xs e))))
     step false e = refl
 
--- what is found passes
+-- an element that is found passes
 pub find_passes : {X : Type 0} (p : X → Bool) (xs : List X) (x : X) → find p xs ≡ Some x → p x ≡ true
 find_passes p [] x h = absurd (none-some _ h)
 find_passes p (y ∷ ys) x h = step (p y) refl h (find_passes p ys x)
@@ -146,7 +146,7 @@ find_passes p (y ∷ ys) x h = step (p y) refl h (find_passes p ys x)
     step true e s more = sym (ap p (same_Some y x s)) ∙ e
     step false e s more = more s
 
--- bytes are what stands before the last byte that passes, that byte, and what stands behind it
+-- bytes are those before the last byte that passes, that byte, and those after it
 pub split_at_last : (p : ℕ → Bool) (d : ℕ) (xs : List ℕ) → ((b : ℕ) → p b ≡ true → b ≡ d) → suffix_len (λ b. not (p b)) xs < length xs → xs ≡ before_last p xs ++ d ∷ after_last p xs
 split_at_last p d xs only h =
     let m = suffix_len (λ b. not (p b)) xs in

@@ -1,26 +1,25 @@
 -- Laws of expansion.
-use Rattle.std.proofs.Common.{◌≡◌, ℕ, ◌==◌, Bool, false, List, [], ◌∷◌, ◌++◌, append-nil, Option, Some, None, refl, ap, sym, ◌∙◌}
+use Rattle.std.proofs.Common.{[], ◌++◌, ◌==◌, ◌∙◌, ◌∷◌, ◌≡◌, ap, append-nil, Bool, false, List, None, Option, refl, Some, sym, ℕ}
+use Rattle.std.proofs.lemmas.Bool.{cond-false, or_parts}
 use Rattle.std.specs.List.{list_any}
-use Rattle.std.proofs.lemmas.Bool.{or_parts, cond-false}
-use Rattle.unit_name.specs.Names.{Name}
-use Rattle.unit_name.specs.Specifiers.{specifier, put_before, expand}
+use Rattle.unit_name.specs.{Names.Name, Specifiers.expand, Specifiers.put_before, Specifiers.specifier}
 
 abbrev pub is_percent : ℕ → Bool
 is_percent b = b == 37
 
--- a text without percent signs stands for itself
+-- a text without percent signs is unchanged
 abbrev pub PlainTextsStay : Type 0
 PlainTextsStay = (v : List ℕ) (n : Name) → list_any is_percent v ≡ false → expand v n ≡ Some v
 
--- and it stays before whatever follows it
-abbrev pub PlainFrontsStay : Type 0
-PlainFrontsStay = (v w : List ℕ) (n : Name) → list_any is_percent v ≡ false → expand (v ++ w) n ≡ put_before (Some v) (expand w n)
+-- so is a prefix without percent signs, whatever follows it
+abbrev pub PlainStartsStay : Type 0
+PlainStartsStay = (v w : List ℕ) (n : Name) → list_any is_percent v ≡ false → expand (v ++ w) n ≡ put_before (Some v) (expand w n)
 
--- a percent sign and the next byte are replaced, and what follows is expanded by itself
+-- a percent sign and the next byte are replaced, and the rest is expanded by itself
 abbrev pub PairsAreReplaced : Type 0
 PairsAreReplaced = (c : ℕ) (w : List ℕ) (n : Name) → expand (37 ∷ c ∷ w) n ≡ put_before (specifier c n) (expand w n)
 
--- a percent sign at the end stays
+-- a percent sign at the end is kept
 abbrev pub LastPercentStays : Type 0
 LastPercentStays = (n : Name) → expand (37 ∷ []) n ≡ Some (37 ∷ [])
 
@@ -28,7 +27,7 @@ pub expand-nil : (n : Name) → expand [] n ≡ Some []
 unfolding expand
 expand-nil n = refl
 
--- a byte that is no percent sign stands for itself
+-- a byte other than a percent sign is kept
 pub expand-byte : (b : ℕ) (rest : List ℕ) (n : Name) → is_percent b ≡ false → expand (b ∷ rest) n ≡ put_before (Some (b ∷ [])) (expand rest n)
 unfolding expand
 expand-byte b [] n h = refl
@@ -53,12 +52,12 @@ put_both : (b : ℕ) (v : List ℕ) (o : Option (List ℕ)) → put_before (Some
 put_both b v None = refl
 put_both b v (Some w) = refl
 
-pub plain_fronts_stay : PlainFrontsStay
-plain_fronts_stay [] w n h = sym (put_nothing (expand w n))
-plain_fronts_stay (b ∷ v) w n h =
+pub plain_starts_stay : PlainStartsStay
+plain_starts_stay [] w n h = sym (put_nothing (expand w n))
+plain_starts_stay (b ∷ v) w n h =
     let p = or_parts (is_percent b) (list_any is_percent v) h in
-    expand-byte b (v ++ w) n p.0 ∙ ap (put_before (Some (b ∷ []))) (plain_fronts_stay v w n p.1) ∙ put_both b v (expand w n)
+    expand-byte b (v ++ w) n p.0 ∙ ap (put_before (Some (b ∷ []))) (plain_starts_stay v w n p.1) ∙ put_both b v (expand w n)
 
 pub plain_texts_stay : PlainTextsStay
 plain_texts_stay v n h =
-    sym (ap (λ x. expand x n) (append-nil v)) ∙ plain_fronts_stay v [] n h ∙ ap (put_before (Some v)) (expand-nil n) ∙ ap (λ x. Some x) (append-nil v)
+    sym (ap (λ x. expand x n) (append-nil v)) ∙ plain_starts_stay v [] n h ∙ ap (put_before (Some v)) (expand-nil n) ∙ ap (λ x. Some x) (append-nil v)

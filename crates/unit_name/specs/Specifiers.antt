@@ -1,20 +1,17 @@
 -- Values with the specifiers of a unit's name.
 -- Source: systemd.unit(5), "Specifiers", those of the unit's name; what stays as written is this project's own.
-use Rattle.std.specs.Prelude.{◌≡◌, ℕ, ◌==◌, Bool, if◌then◌else◌, Option, Some, None, IsSome, List, [], ◌∷◌, ◌++◌}
-use Rattle.unit_name.specs.declared.specifiers.ExpandFault.{ExpandFault}
-use Rattle.unit_name.specs.declared.specifiers.ExpandFault.TheVariants.{BadEscape, Memory}
+use Rattle.std.proofs.Common.{[], ◌++◌, ◌==◌, ◌∷◌, ◌≡◌, Bool, if◌then◌else◌, IsSome, List, None, Option, Some, ℕ}
 use Rattle.std.specs.List.{after_last}
-use Rattle.unit_name.specs.Names.{Name, stem, prefix, instance}
-use Rattle.unit_name.specs.Escapes.{unescape}
+use Rattle.unit_name.specs.{declared.specifiers.ExpandFault.ExpandFault, declared.specifiers.ExpandFault.TheVariants.BadEscape, declared.specifiers.ExpandFault.TheVariants.Memory, Escapes.unescape, Names.instance, Names.Name, Names.prefix, Names.stem}
 
 abbrev pub is_dash : ℕ → Bool
 is_dash b = b == 45
 
--- what stands behind the prefix's last dash, or the whole prefix
+-- the part of the prefix after its last dash, or the whole prefix
 abbrev pub last_part : Name → List ℕ
 last_part n = after_last is_dash (prefix n)
 
--- what a percent sign and this letter stand for; none where what is to be unescaped is malformed
+-- the replacement of a percent sign and this letter; `None` if a text to be unescaped is malformed
 unfoldable pub specifier : ℕ → Name → Option (List ℕ)
 specifier c n =
     if c == 110 then Some n
@@ -28,7 +25,7 @@ specifier c n =
     else if c == 37 then Some (37 ∷ [])
     else Some (37 ∷ c ∷ [])
 
--- the one before the other, if there are both
+-- the one before the other, if both exist
 abbrev pub put_before : Option (List ℕ) → Option (List ℕ) → Option (List ℕ)
 put_before (Some a) (Some b) = Some (a ++ b)
 put_before o p = None
@@ -40,7 +37,7 @@ expand (b ∷ c ∷ rest) n =
     if b == 37 then put_before (specifier c n) (expand rest n) else put_before (Some (b ∷ [])) (expand (c ∷ rest) n)
 expand (b ∷ []) n = Some (b ∷ [])
 
--- an escape is at fault where the value can't be expanded, and memory only where it can
+-- `BadEscape` means that the value can't be expanded, `Memory` that it can
 abbrev pub IsExpandFault : List ℕ → Name → ExpandFault → Type 0
 IsExpandFault v n BadEscape = expand v n ≡ None
 IsExpandFault v n Memory = IsSome (expand v n)

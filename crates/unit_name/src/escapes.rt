@@ -1,12 +1,12 @@
-//! Bytes that are spelled by the bytes of names (systemd.unit(5), "String Escaping for Inclusion in Unit Names").
+//! Escaping of bytes in unit names (systemd.unit(5), "String Escaping for Inclusion in Unit Names").
 ghost use Rattle.std.specs.Prelude.{◌≡◌, ◌<◌, ◌≤◌, ◌∷◌, ◌++◌, [], length, true, false, is_some, IfOk, OnOk, IfSome, MatchOption};
 ghost use Rattle.std.specs.Char.{digit_char};
 ghost use Rattle.unit_name.specs.Escapes.{is_kept, hex_escape, escaped_byte, escaped_first, escape, hex_byte, put_first, unescape};
 
 use std::alloc::{AllocError, Global};
 
-/// What spells these bytes in a name. `/` becomes `-`. ASCII letters and digits, `:`, `_` and `.` stay as they are. Of any
-/// other byte, and of a `.` at the very start, come a backslash, an `x` and two lower-case hexadecimal digits.
+/// Escapes bytes so that they can be part of a unit name. `/` becomes `-`. ASCII letters and digits, `:`, `_` and `.`
+/// are kept. Every other byte, and a `.` at the very start, becomes `\x` and two lower-case hexadecimal digits.
 pub fn escape(alloc: Global, text: &[u8]) -> Result<Vec<u8>, AllocError>
     ensures escaped { IfOk result (λ escaped. escaped.items ≡ escape text.now) }
 {
@@ -20,7 +20,7 @@ pub fn escape(alloc: Global, text: &[u8]) -> Result<Vec<u8>, AllocError>
     Ok(escaped)
 }
 
-// A dot that comes first is spelled out.
+// Appends the first byte, which is escaped if it is a dot.
 fn push_first(out: &mut Vec<u8>, byte: u8) -> Result<(), AllocError>
     ensures escaped { OnOk result (out.new.items ≡ out.old.items ++ escaped_first byte) }
 {
@@ -74,8 +74,9 @@ fn hex_digit(digit: u8) -> u8
     }
 }
 
-/// The bytes that a text spells, the other way round of `escape`: `-` is `/`, `\xHH` is the byte of two hexadecimal digits of
-/// either case, and other bytes stay. None where a backslash stands otherwise (systemd-escape(1), `--unescape`).
+/// Returns the bytes that an escaped text spells, the inverse of `escape`: `-` is `/`, `\xHH` is the byte with these
+/// two hexadecimal digits of either case, and other bytes are kept. Returns `None` if a backslash is used in any other
+/// way (systemd-escape(1), `--unescape`).
 pub fn unescape(alloc: Global, text: &[u8]) -> Result<Option<Vec<u8>>, AllocError>
     ensures unescaped { IfOk result
         (λ found. MatchOption found (unescape text.now ≡ None) (λ bytes.
@@ -86,7 +87,8 @@ pub fn unescape(alloc: Global, text: &[u8]) -> Result<Option<Vec<u8>>, AllocErro
     Ok(if is_whole { Some(bytes) } else { None })
 }
 
-/// Adds the bytes that a text spells, and says whether it spells any. Where it doesn't, some bytes may have been added.
+/// Appends the bytes that an escaped text spells, and returns whether the text is valid. If it isn't, some bytes may
+/// have been appended.
 pub(crate) fn push_unescaped(out: &mut Vec<u8>, text: &[u8]) -> Result<bool, AllocError>
     ensures unescaped { IfOk result (λ is_whole. MatchOption (unescape text.now) (is_whole ≡ false)
         (λ bytes. (is_whole ≡ true) × (out.new.items ≡ out.old.items ++ bytes))) }
@@ -102,7 +104,7 @@ pub(crate) fn push_unescaped(out: &mut Vec<u8>, text: &[u8]) -> Result<bool, All
     Ok(true)
 }
 
-/// Whether a text spells bytes. It takes no memory.
+/// Returns whether a text is a valid escaped text. Allocates nothing.
 pub(crate) fn spells_bytes(text: &[u8]) -> bool
     ensures test { result ≡ is_some (unescape text.now) }
 {
@@ -116,7 +118,7 @@ pub(crate) fn spells_bytes(text: &[u8]) -> bool
     true
 }
 
-// The first byte that a text spells, and the text behind what spells it.
+// Returns the first byte that a text spells, and the text after its spelling.
 fn first_unescaped(text: &[u8]) -> Option<(u8, &[u8])>
     requires { 0 < length text.now }
     ensures first { MatchOption result (unescape text.now ≡ None)
@@ -134,7 +136,7 @@ fn first_unescaped(text: &[u8]) -> Option<(u8, &[u8])>
 }
 
 #[tactic(auto, unfolding(crate::specs::Escapes::unescape))]
-// The byte that is spelled by a backslash and what stands behind it, and the text behind that.
+// Returns the byte spelled by a backslash and the given text after it, and the text after that.
 fn after_backslash(text: &[u8]) -> Option<(u8, &[u8])>
     ensures first { MatchOption result (unescape (92 ∷ text.now) ≡ None)
         (λ first. unescape (92 ∷ text.now) ≡ put_first (Some first.0) (unescape first.1.now)) }
@@ -149,7 +151,7 @@ fn after_backslash(text: &[u8]) -> Option<(u8, &[u8])>
     Some((hex_byte(*high, *low)?, text))
 }
 
-// The byte of two hexadecimal digits.
+// Returns the byte with these two hexadecimal digits.
 fn hex_byte(high: u8, low: u8) -> Option<u8>
     ensures byte { result ≡ hex_byte high low }
 {

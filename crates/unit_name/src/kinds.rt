@@ -2,7 +2,7 @@
 ghost use Rattle.std.specs.Prelude.{◌≡◌};
 ghost use Rattle.unit_name.specs.Names.{word, kind_of};
 
-/// What a unit is, as the suffix of its name says (systemd.unit(5), "Description").
+/// The kind of a unit, which the suffix of its name says (systemd.unit(5), "Description").
 #[derive(Clone, Copy, Debug, PartialEq, Eq)]
 pub enum Kind {
     Service,
@@ -33,7 +33,7 @@ const KINDS: [Kind; 11] = [
 ];
 
 impl Kind {
-    /// The word that names have behind their last dot.
+    /// Returns the suffix of names of this kind, without the dot.
     pub fn word(self) -> &'static [u8]
         ensures word { result.now ≡ word self }
     {
@@ -53,7 +53,7 @@ impl Kind {
     }
 }
 
-/// The kind that has this word.
+/// Returns the kind with this suffix.
 #[tactic(auto, unfolding(crate::specs::Names::kind_of))]
 pub(crate) fn kind_of_word(word: &[u8]) -> Option<Kind>
     ensures kind { result ≡ kind_of word.now }

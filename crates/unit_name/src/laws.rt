@@ -1,9 +1,9 @@
-//! What is true of all names, escapes and expanded values: laws, each the contract of a function that does nothing.
+//! Laws of names, escapes and expanded values. Each law is the contract of a function that does nothing.
 ghost use Rattle.unit_name.specs.NameLaws.{NamesAreMade, PartsMakeNames, PartsOfNamesFit, NamesAreTheirParts, TemplatesKeepParts, InstancesHaveTheTemplate, PrefixesMayBeCut};
 ghost use Rattle.unit_name.specs.EscapeLaws.{EscapesAreUndone, EscapesDiffer, EscapesAreSpellings, EscapesAreInstances};
-ghost use Rattle.unit_name.specs.SpecifierLaws.{PlainTextsStay, PlainFrontsStay, PairsAreReplaced, LastPercentStays};
+ghost use Rattle.unit_name.specs.SpecifierLaws.{PlainTextsStay, PlainStartsStay, PairsAreReplaced, LastPercentStays};
 
-/// The names are just what is made of a stem, a dot and the word of a kind; and a name's parts put together are the name.
+/// A name is exactly a stem, a dot and the suffix of a kind; and putting the parts of a name together gives the name.
 pub fn name_laws()
     ensures made { NamesAreMade }
     ensures names { PartsMakeNames }
@@ -12,13 +12,14 @@ pub fn name_laws()
     ensures cut { PrefixesMayBeCut }
 {}
 
-/// A template has its instance's prefix and kind, and its instances are just the names that have it as their template.
+/// A template has the prefix and kind of its instances, and the instances of a template are exactly the names that have
+/// it as their template.
 pub fn template_laws()
     ensures templates { TemplatesKeepParts }
     ensures instances { InstancesHaveTheTemplate }
 {}
 
-/// What `escape` gives spells the same bytes, and may stand in a name.
+/// Unescaping the result of `escape` gives the original bytes, and the result is valid in a name.
 pub fn escape_laws()
     ensures undone { EscapesAreUndone }
     ensures differ { EscapesDiffer }
@@ -26,10 +27,10 @@ pub fn escape_laws()
     ensures instances { EscapesAreInstances }
 {}
 
-/// What is no specifier stays as it is, and each specifier is replaced by itself.
+/// Text without specifiers is unchanged, and each specifier is replaced independently of the others.
 pub fn specifier_laws()
     ensures texts { PlainTextsStay }
-    ensures fronts { PlainFrontsStay }
+    ensures starts { PlainStartsStay }
     ensures pairs { PairsAreReplaced }
     ensures last { LastPercentStays }
 {}

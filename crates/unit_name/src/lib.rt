@@ -1,7 +1,13 @@
-//! The names of systemd's units: their parts, escapes and specifiers, as systemd.unit(5) has them. A name is read
-//! from its bytes, or the first thing wrong with it is told.
+//! The names of systemd units: their parts, escaping and specifiers, as in systemd.unit(5). A name is parsed from
+//! bytes, or the first fault in them is returned.
 //!
 //! Promise: names and files are read exactly.
+//!
+//! - `UnitName`: a parsed name with its `Kind` and `Shape` (plain, template or instance); `NameFault` says why bytes
+//!   aren't a name.
+//! - `escape` and `unescape`: bytes to escaped text and back.
+//! - `expand`: replaces specifiers such as `%n` and `%i` in a value.
+//! - `name_laws`, `template_laws`, `escape_laws`, `specifier_laws`: the laws.
 #![tactic(auto)]
 
 mod escapes;

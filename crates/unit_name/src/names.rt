@@ -11,21 +11,22 @@ use std::cmp::Ordering;
 use std::marker::Model;
 use thiserror::Error;
 
-/// The most bytes that a name has.
+/// The most bytes in a name.
 const LONGEST: usize = 255;
 
-/// What a name's stem has behind its first at sign (systemd.unit(5), "Description").
+/// Whether and how a name's stem continues after its first at sign (systemd.unit(5), "Description").
 #[derive(Clone, Copy, Debug, PartialEq, Eq)]
 pub enum Shape {
     /// There is no at sign.
     Plain,
-    /// There is nothing.
+    /// Nothing follows the at sign.
     Template,
-    /// There is the instance.
+    /// An instance follows the at sign.
     Instance,
 }
 
-/// Why bytes are no name. The first that applies is answered, in this order; `Memory` comes only for bytes that are one.
+/// Why bytes aren't a name. The first fault that applies is returned, in the order below; `Memory` only for a valid
+/// name.
 #[derive(Clone, Copy, Debug, PartialEq, Eq, Error)]
 pub enum NameFault {
     #[error("N1 Length: a name has 1 to 255 bytes")]
@@ -34,15 +35,17 @@ pub enum NameFault {
     Kind,
     #[error("N3 EmptyPrefix: nothing stands before the at sign or the last dot")]
     EmptyPrefix,
-    /// The place of the first byte before the last dot that is no ASCII letter or digit, `:`, `-`, `_`, `.`, `\` or `@`.
+    /// The index of the first byte before the last dot that isn't an ASCII letter or digit, `:`, `-`, `_`, `.`, `\` or
+    /// `@`.
     #[error("N4 BadByte: byte {0} is none of a name")]
     BadByte(usize),
     #[error("out of memory")]
     Memory,
 }
 
-/// A name of 1 to 255 bytes: a stem, a dot and the word of a kind (systemd.unit(5), "Description"). Names are compared by
-/// bytes, a front of a name being less. What a name tells of itself costs a walk over its bytes and no memory.
+/// A name of 1 to 255 bytes: a stem, a dot and the suffix of a kind (systemd.unit(5), "Description"). Names are ordered
+/// by bytes; a proper prefix of a name is less. Methods that inspect a name are linear in its bytes and allocate
+/// nothing.
 #[derive(Debug, Drop)]
 pub struct UnitName {
     bytes: Bytes,
@@ -60,8 +63,8 @@ impl Model for UnitName {
 }
 
 impl UnitName {
-    /// Reads a name. Of what is wrong with the bytes the first of `Length`, `Kind`, `EmptyPrefix` and `BadByte` is answered;
-    /// memory is asked for only where nothing is. An instance may have further at signs and dots.
+    /// Parses a name. Returns the first fault of `Length`, `Kind`, `EmptyPrefix` and `BadByte`; `Memory` if memory runs
+    /// out, which happens only for a valid name. An instance may contain more at signs and dots.
     pub fn parse(alloc: Global, bytes: &[u8]) -> Result<UnitName, NameFault>
         ensures name { IfOk result (λ name. name_of bytes.now ≡ Ok name) }
         ensures same { IfOk result (λ name. name ≡ bytes.now) }
@@ -74,26 +77,26 @@ impl UnitName {
         }
     }
 
-    /// The bytes of the whole name.
+    /// Borrows the bytes of the whole name.
     pub fn bytes(&self) -> &[u8]
         ensures bytes { result.now ≡ self.now }
-        ensures lawful { IsName self.now }
+        ensures well_formed { IsName self.now }
     {
         self.bytes.as_slice()
     }
 
-    /// The kind that stands behind the last dot.
+    /// Returns the kind, which the suffix after the last dot says.
     pub fn kind(&self) -> Kind
         ensures kind { kind self.now ≡ Some result }
-        ensures lawful { IsName self.now }
+        ensures well_formed { IsName self.now }
     {
         kind_in(self.bytes.as_slice()).unwrap()
     }
 
-    /// Whether the name is plain, a template or an instance.
+    /// Returns whether the name is plain, a template or an instance.
     pub fn shape(&self) -> Shape
         ensures shape { result ≡ shape self.now }
-        ensures lawful { IsName self.now }
+        ensures well_formed { IsName self.now }
     {
         if !stem_of(self.bytes.as_slice()).contains(&b'@') {
             Shape::Plain
@@ -104,35 +107,35 @@ impl UnitName {
         }
     }
 
-    /// Whether the name is a template.
+    /// Returns whether the name is a template.
     pub fn is_template(&self) -> bool
         ensures template { IsTrue result ↔ (shape self.now ≡ Shape.Template) }
-        ensures lawful { IsName self.now }
+        ensures well_formed { IsName self.now }
     {
         self.shape() == Shape::Template
     }
 
-    /// What stands before the first at sign, or before the last dot where there is none. It isn't empty.
+    /// Returns the part before the first at sign, or before the last dot if there is no at sign. It isn't empty.
     pub fn prefix(&self) -> &[u8]
         ensures prefix { result.now ≡ prefix self.now }
-        ensures lawful { IsName self.now }
+        ensures well_formed { IsName self.now }
     {
         prefix_of(self.bytes.as_slice())
     }
 
-    /// What stands between the first at sign and the last dot: nothing where the name is plain or a template.
+    /// Returns the part between the first at sign and the last dot. It is empty if the name is plain or a template.
     pub fn instance(&self) -> &[u8]
         ensures instance { result.now ≡ instance self.now }
-        ensures lawful { IsName self.now }
+        ensures well_formed { IsName self.now }
     {
         instance_of(self.bytes.as_slice())
     }
 
-    /// The template of an instance: the same name without its instance. None for other names.
+    /// Returns the template of an instance: the same name without the instance. `None` for other names.
     pub fn template_of(&self) -> Result<Option<UnitName>, AllocError>
         ensures template { IfOk result (λ template. template ≡ template_of self.now) }
         ensures memory { OnErr result (IsSome (template_of self.now)) }
-        ensures lawful { IsName self.now }
+        ensures well_formed { IsName self.now }
     {
         match self.shape() {
             Shape::Plain | Shape::Template => Ok(None),
@@ -148,12 +151,12 @@ impl UnitName {
         }
     }
 
-    /// The name of this template with an instance. None where this is no template, where the instance is empty or has a byte
-    /// that names don't have, and where the name would have more than 255 bytes.
+    /// Returns the name of this template with an instance. `None` if this isn't a template, if the instance is empty or
+    /// has a byte that isn't allowed in names, and if the name would have more than 255 bytes.
     pub fn with_instance(&self, instance: &[u8]) -> Result<Option<UnitName>, AllocError>
         ensures named { IfOk result (λ named. named ≡ with_instance self.now instance.now) }
         ensures memory { OnErr result (IsSome (with_instance self.now instance.now)) }
-        ensures lawful { IsName self.now }
+        ensures well_formed { IsName self.now }
     {
         if !self.takes(instance) {
             return Ok(None);
@@ -167,10 +170,10 @@ impl UnitName {
         Ok(Some(UnitName { bytes }))
     }
 
-    // Whether this is a template that may have this instance.
+    // Returns whether this is a template that may have this instance.
     fn takes(&self, instance: &[u8]) -> bool
         ensures test { result ≡ is_some (with_instance self.now instance.now) }
-        ensures lawful { IsName self.now }
+        ensures well_formed { IsName self.now }
     {
         match self.shape() {
             Shape::Plain | Shape::Instance => false,
@@ -179,7 +182,7 @@ impl UnitName {
         }
     }
 
-    /// The same name again.
+    /// Returns an equal name.
     pub fn try_clone(&self) -> Result<UnitName, AllocError>
         ensures copy { IfOk result (λ copy. copy ≡ self.now) }
     {
@@ -189,7 +192,7 @@ impl UnitName {
     }
 }
 
-// Whether bytes are a name.
+// Checks whether bytes are a name.
 #[tactic(auto, unfolding(crate::specs::Names::name_of))]
 fn check(bytes: &[u8]) -> Result<(), NameFault>
     ensures name { OnOk result (name_of bytes.now ≡ Ok bytes.now) }
@@ -210,7 +213,7 @@ fn check(bytes: &[u8]) -> Result<(), NameFault>
     }
 }
 
-// Whether a template may have this instance.
+// Returns whether a template may have this instance.
 fn is_instance(instance: &[u8]) -> bool
     ensures test { result ≡ is_instance instance.now }
 {
@@ -223,7 +226,7 @@ fn are_name_bytes(bytes: &[u8]) -> bool
     bytes.iter().all(|byte| is_name_byte(*byte))
 }
 
-// The bytes of an instance's name.
+// Returns the bytes of an instance's name.
 fn instance_bytes(
     alloc: Global,
     prefix: &[u8],

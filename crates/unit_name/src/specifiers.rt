@@ -1,4 +1,4 @@
-//! Values with the specifiers of a unit's name (systemd.unit(5), "Specifiers").
+//! Expanding the specifiers of a unit's name in values (systemd.unit(5), "Specifiers").
 ghost use Rattle.std.specs.Prelude.{◌≡◌, ◌++◌, IfOk, IfErr, OnOk, MatchOption, Some, None, IsSome, is_some};
 ghost use Rattle.unit_name.specs.{Escapes.{unescape}, Specifiers.{specifier, last_part, expand, IsExpandFault}};
 
@@ -8,7 +8,7 @@ use crate::parts::{after_last, stem_of};
 use std::alloc::{AllocError, Global};
 use thiserror::Error;
 
-/// Why a value isn't expanded. `BadEscape` comes just where it can't be, and `Memory` only where it can.
+/// Why a value isn't expanded: `BadEscape` exactly if it can't be, and `Memory` only if it can.
 #[derive(Clone, Copy, Debug, PartialEq, Eq, Error)]
 pub enum ExpandFault {
     #[error("S1 BadEscape: the part of the name is no escaped text")]
@@ -17,12 +17,13 @@ pub enum ExpandFault {
     Memory,
 }
 
-/// The value with each specifier replaced: `%n` by the name, `%N` by what stands before its last dot, `%p` by the prefix,
-/// `%i` by the instance or nothing, `%j` by what stands behind the prefix's last `-` (the whole prefix where there is none),
-/// `%P`, `%I` and `%J` by the unescaped `%p`, `%i` and `%j`, and `%%` by one `%`. Any other pair and a `%` at the end stay.
+/// Returns the value with each specifier replaced: `%n` by the name, `%N` by the name without its suffix, `%p` by the
+/// prefix, `%i` by the instance (which may be empty), `%j` by the part of the prefix after its last `-` (the whole
+/// prefix if there is none), `%P`, `%I` and `%J` by the unescaped `%p`, `%i` and `%j`, and `%%` by a single `%`. Any
+/// other pair, and a `%` at the end, are kept.
 ///
-/// `BadEscape` comes just where one of `%P`, `%I` and `%J` stands for a text that `unescape` answers None for: that is looked
-/// for first, and memory is asked for only where it isn't so. The cost is linear in the value and what it stands for.
+/// Returns `BadEscape` exactly if one of `%P`, `%I` and `%J` needs a text for which `unescape` returns `None`. This is
+/// checked first, so `Memory` comes only for a value that can be expanded. Linear in the value and the replacements.
 pub fn expand(alloc: Global, value: &[u8], name: &UnitName) -> Result<Vec<u8>, ExpandFault>
     ensures expanded { IfOk result (λ bytes. expand value.now name.now ≡ Some bytes.items) }
     ensures fault { IfErr result (IsExpandFault value.now name.now) }
@@ -36,7 +37,7 @@ pub fn expand(alloc: Global, value: &[u8], name: &UnitName) -> Result<Vec<u8>, E
     }
 }
 
-// The same where each specifier stands for bytes: it fails for want of memory alone.
+// The same for a value that can be expanded. Fails only if memory runs out.
 fn expanded(alloc: Global, value: &[u8], name: &UnitName) -> Result<Vec<u8>, AllocError>
     requires possible { IsSome (expand value.now name.now) }
     ensures expanded { IfOk result (λ bytes. expand value.now name.now ≡ Some bytes.items) }
@@ -56,7 +57,7 @@ fn expanded(alloc: Global, value: &[u8], name: &UnitName) -> Result<Vec<u8>, All
     Ok(expanded)
 }
 
-// Whether each specifier of a value stands for bytes.
+// Returns whether each specifier of a value can be replaced.
 fn can_expand(value: &[u8], name: &UnitName) -> bool
     ensures test { result ≡ is_some (expand value.now name.now) }
 {
@@ -76,14 +77,14 @@ fn can_expand(value: &[u8], name: &UnitName) -> bool
     true
 }
 
-// What stands behind the prefix's last dash, or the whole prefix.
+// Returns the part of the prefix after its last dash, or the whole prefix.
 fn last_part(name: &UnitName) -> &[u8]
     ensures part { result.now ≡ last_part name.now }
 {
     after_last(name.prefix(), b'-')
 }
 
-// Whether a percent sign and this letter stand for bytes.
+// Returns whether the specifier with this letter can be replaced.
 #[tactic(auto, unfolding(crate::specs::Specifiers::specifier))]
 fn stands(letter: u8, name: &UnitName) -> bool
     ensures test { result ≡ is_some (specifier letter name.now) }
@@ -96,7 +97,7 @@ fn stands(letter: u8, name: &UnitName) -> bool
     }
 }
 
-// Adds what a percent sign and this letter stand for.
+// Appends the replacement of the specifier with this letter.
 #[tactic(auto, unfolding(crate::specs::Specifiers::specifier))]
 fn push_specifier(out: &mut Vec<u8>, letter: u8, name: &UnitName) -> Result<(), AllocError>
     requires some { IsSome (specifier letter name.now) }
@@ -118,7 +119,7 @@ fn push_specifier(out: &mut Vec<u8>, letter: u8, name: &UnitName) -> Result<(), 
     Ok(())
 }
 
-// Adds the bytes that a text spells.
+// Appends the bytes that an escaped text spells.
 fn push_spelled(out: &mut Vec<u8>, text: &[u8]) -> Result<(), AllocError>
     requires some { IsSome (unescape text.now) }
     ensures pushed { OnOk result (MatchOption (unescape text.now) ⊥ (λ bytes.

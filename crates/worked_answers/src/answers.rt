@@ -1,9 +1,9 @@
-//! The answers of lines.
+//! The answers to lines.
 use crate::asking::{again, ask, world};
-use crate::edits::{Asked, Done, Looker, asked_of};
+use crate::edits::{Asked, Done, Viewer, asked_of};
 use crate::graphs::graph;
 use crate::refreshing::{footprint, refresh};
-use crate::tellings::{append_load, append_looked_up, append_unit, is_same_load};
+use crate::rendering::{append_load, append_looked_up, append_unit, is_same_load};
 use parallel_load::{LoadFault, Loaded, load_fleet, load_here, load_one};
 use std::thread::Threads;
 use std::time::Clock;
@@ -11,7 +11,7 @@ use unit_name::UnitName;
 use worked_lines::{Answer, CountingGate, Meeting, Words, asked_of as call_of, match_word};
 use worker_rounds::{Gate, OpenGate};
 
-// Writes a load with what it has at names, or why there is none.
+// Writes a load with what it has for some names, or why there is no load.
 fn append_here(out: &mut Answer, here: &Result<Loaded, LoadFault>, looked: &[UnitName]) -> Done {
     let load = match here {
         Ok(load) => load,
@@ -40,7 +40,7 @@ fn append_compared(
     }
 }
 
-// Loads by one thread, looks at names, and writes how the loads by each number of workers compare with it.
+// Loads by one thread, looks up names, and writes how the loads by each number of workers compare with it.
 fn load_by_each<R: Threads + Sync, G: Gate + Sync>(
     rt: &R,
     out: &mut Answer,
@@ -69,15 +69,16 @@ fn load_by_each<R: Threads + Sync, G: Gate + Sync>(
 }
 
 // Loads by one thread and by each number of workers.
-fn load<R: Threads + Sync>(rt: &R, words: &mut Words, host: Looker, out: &mut Answer) -> Done {
+fn load<R: Threads + Sync>(rt: &R, words: &mut Words, host: Viewer, out: &mut Answer) -> Done {
     let workers = words.numbers()?;
     let asked = asked_of(words, host)?;
     let looked = words.names()?;
     load_by_each(rt, out, &asked, &looked, &workers, &OpenGate)
 }
 
-// Loads as `load` does, at a gate that turns each piece away so often; and how often it was asked for each.
-fn gate<R: Threads + Sync>(rt: &R, words: &mut Words, host: Looker, out: &mut Answer) -> Done {
+// Loads as `load` does, at a gate that refuses each chunk a given number of times. Then writes how often the gate was
+// asked for each.
+fn gate<R: Threads + Sync>(rt: &R, words: &mut Words, host: Viewer, out: &mut Answer) -> Done {
     let gate = CountingGate::new(words.alloc, words.index()?)?;
     let workers = words.numbers()?;
     let asked = asked_of(words, host)?;
@@ -86,11 +87,11 @@ fn gate<R: Threads + Sync>(rt: &R, words: &mut Words, host: Looker, out: &mut An
     gate.append_to(out)
 }
 
-// Loads by two workers who wait for one another.
+// Loads by two workers that wait for each other.
 fn meet<R: Threads + Clock + Sync>(
     rt: &R,
     words: &mut Words,
-    host: Looker,
+    host: Viewer,
     out: &mut Answer,
 ) -> Done {
     let asked = asked_of(words, host)?;
@@ -105,8 +106,8 @@ fn meet<R: Threads + Clock + Sync>(
     })
 }
 
-// Loads the units of names, each alone.
-fn one(words: &mut Words, host: Looker, out: &mut Answer) -> Done {
+// Loads the unit of each name by itself.
+fn one(words: &mut Words, host: Viewer, out: &mut Answer) -> Done {
     let asked = asked_of(words, host)?;
     for name in &asked.names {
         let unit = load_one(words.alloc, &asked.store, asked.host.as_ref(), name)?;
@@ -117,7 +118,7 @@ fn one(words: &mut Words, host: Looker, out: &mut Answer) -> Done {
     Ok(())
 }
 
-/// Writes what a line answers.
+/// Writes the answer to a line.
 pub fn answer<R: Threads + Clock + Sync>(rt: &R, words: &mut Words, out: &mut Answer) -> Done {
     let (call, host) = call_of(words.alloc, words.word()?)?;
     match_word!(call;

@@ -1,24 +1,24 @@
 //! Questions of stores and of nodes of worlds, in words.
-use crate::edits::{Asked, Done, Looker, asked_of};
+use crate::edits::{Asked, Done, Viewer, asked_of};
 use crate::graphs::append_far;
 use crate::refreshing::store_of;
-use crate::tellings::append_unit;
+use crate::rendering::{append_plan, append_unit};
 use delta_gossip::Event;
 use fleet_answers::{
-    Answer as Told, AnswerFault, LinkedUnit, Question, Snapshots, answer_again, answer_here,
+    Answer as Returned, AnswerFault, LinkedUnit, Question, Snapshots, answer_again, answer_here,
     answer_in_world, answer_question,
 };
 use plain_values::Items;
 use replica_store::{Edit, Store};
 use setting_rules::DependencyList;
-use start_plan::{Plan, Request};
+use start_plan::Request;
 use std::alloc::{AllocError, Global};
 use std::thread::Threads;
 use worked_lines::{Answer, LineFault, Words, is};
 use worker_rounds::OpenGate;
 
 // The question that a list of words writes: `unit NAME`, `pulled NAME`, or `plan TARGET RUNNING..`.
-fn question_of(words: &mut Words, host: Looker) -> Result<Question, LineFault> {
+fn question_of(words: &mut Words, host: Viewer) -> Result<Question, LineFault> {
     let kind = words.word()?;
     let mut names = words.names()?;
     if names.is_empty() {
@@ -64,35 +64,30 @@ fn append_linked(out: &mut Answer, linked: &LinkedUnit) -> Done {
     Ok(())
 }
 
-// Writes which units stop and which start.
-fn append_plan(out: &mut Answer, plan: &Plan) -> Done {
-    out.write(b"stops")?;
-    out.names(plan.stop.as_slice())?;
-    out.write(b", starts")?;
-    out.names(plan.start.as_slice())
-}
-
 // Writes what a question was answered.
-fn append_told(out: &mut Answer, told: &Told) -> Done {
-    match told {
-        Told::Template => out.write(b"a template"),
-        Told::TooManyUnits => out.write(b"too many units"),
-        Told::Unit(linked) => append_linked(out, linked),
-        Told::Pulled(pairs) => {
+fn append_returned(out: &mut Answer, returned: &Returned) -> Done {
+    match returned {
+        Returned::Template => out.write(b"a template"),
+        Returned::TooManyUnits => out.write(b"too many units"),
+        Returned::Unit(linked) => append_linked(out, linked),
+        Returned::Pulled(pairs) => {
             out.write(b"pulls")?;
             append_far(out, pairs.as_slice())
         }
-        Told::Planned(plan) => append_plan(out, plan),
-        Told::Refused(refusal) => out.print(refusal),
+        Returned::Planned(plan) => append_plan(out, plan),
+        Returned::Refused(refusal) => out.print(refusal),
     }
 }
 
 // The text of what workers answered, if there was a node to ask; or of why there is no answer, unless that is want of
 // memory.
-fn text_of(alloc: Global, told: Result<Option<Told>, AnswerFault>) -> Result<Vec<u8>, LineFault> {
+fn text_of(
+    alloc: Global,
+    returned: Result<Option<Returned>, AnswerFault>,
+) -> Result<Vec<u8>, LineFault> {
     let mut out = Answer::new(alloc);
-    match told {
-        Ok(Some(told)) => append_told(&mut out, &told)?,
+    match returned {
+        Ok(Some(returned)) => append_returned(&mut out, &returned)?,
         Ok(None) => out.write(b"none")?,
         Err(AnswerFault::Workers) => out.write(b"L1 Workers")?,
         Err(AnswerFault::Memory) => return Err(LineFault::Memory(AllocError)),
@@ -113,20 +108,20 @@ struct Asking {
 }
 
 // A question and numbers of workers, with which a line ends.
-fn asking_of(words: &mut Words, host: Looker) -> Result<Asking, LineFault> {
+fn asking_of(words: &mut Words, host: Viewer) -> Result<Asking, LineFault> {
     let question = question_of(words, host)?;
     let counts = words.numbers()?;
     Ok(Asking { question, counts })
 }
 
 // What a store answers, by one thread.
-fn told_here(alloc: Global, asked: &Asked, question: &Question) -> Result<Vec<u8>, LineFault> {
-    let told = answer_here(alloc, &asked.store, &asked.names, question)?;
-    text_of(alloc, Ok(Some(told)))
+fn returned_here(alloc: Global, asked: &Asked, question: &Question) -> Result<Vec<u8>, LineFault> {
+    let returned = answer_here(alloc, &asked.store, &asked.names, question)?;
+    text_of(alloc, Ok(Some(returned)))
 }
 
 // What a store answers, by so many workers.
-fn told_by<R: Threads + Sync>(
+fn returned_by<R: Threads + Sync>(
     rt: &R,
     alloc: Global,
     asked: &Asked,
@@ -134,16 +129,16 @@ fn told_by<R: Threads + Sync>(
     workers: usize,
 ) -> Result<Vec<u8>, LineFault> {
     let (store, names) = (&asked.store, &asked.names);
-    let told = answer_question(rt, alloc, store, names, question, workers, &OpenGate);
-    text_of(alloc, told.map(Some))
+    let returned = answer_question(rt, alloc, store, names, question, workers, &OpenGate);
+    text_of(alloc, returned.map(Some))
 }
 
 // Writes what a store answers by one thread, and then by each number of workers.
 fn append_all<R: Threads + Sync>(rt: &R, out: &mut Answer, asked: &Asked, asking: &Asking) -> Done {
-    let here = told_here(out.alloc, asked, &asking.question)?;
+    let here = returned_here(out.alloc, asked, &asking.question)?;
     out.write(&here)?;
     for count in &asking.counts {
-        let text = told_by(rt, out.alloc, asked, &asking.question, *count)?;
+        let text = returned_by(rt, out.alloc, asked, &asking.question, *count)?;
         out.line(format!(in out.alloc; "{count} workers: ")?.as_bytes())?;
         append_beside(out, &text, &here)?;
     }
@@ -151,7 +146,7 @@ fn append_all<R: Threads + Sync>(rt: &R, out: &mut Answer, asked: &Asked, asking
 }
 
 /// Answers a question from a store by one thread, and then by each number of workers.
-pub fn ask<R: Threads + Sync>(rt: &R, words: &mut Words, host: Looker, out: &mut Answer) -> Done {
+pub fn ask<R: Threads + Sync>(rt: &R, words: &mut Words, host: Viewer, out: &mut Answer) -> Done {
     let asked = asked_of(words, None)?;
     let asking = asking_of(words, host)?;
     append_all(rt, out, &asked, &asking)
@@ -159,15 +154,15 @@ pub fn ask<R: Threads + Sync>(rt: &R, words: &mut Words, host: Looker, out: &mut
 
 // What a store answers of names that aren't asked for beside the question, by one worker, where what was loaded for the answer
 // before is refreshed.
-fn told_again<R: Threads + Sync>(
+fn returned_again<R: Threads + Sync>(
     rt: &R,
     alloc: Global,
     snapshots: &mut Snapshots,
     store: &Store,
     question: &Question,
 ) -> Result<Vec<u8>, LineFault> {
-    let told = answer_again(rt, alloc, snapshots, 0, store, question, 1, &OpenGate);
-    text_of(alloc, told.map(Some))
+    let returned = answer_again(rt, alloc, snapshots, 0, store, question, 1, &OpenGate);
+    text_of(alloc, returned.map(Some))
 }
 
 // Writes what the store of so many first edits answers, and whether that is what it answers by one thread.
@@ -181,7 +176,7 @@ fn append_again<R: Threads + Sync>(
 ) -> Done {
     out.line(format!(in out.alloc; "of {count} edits: ")?.as_bytes())?;
     let store = store_of(out.alloc, edits, count)?;
-    let text = told_again(rt, out.alloc, snapshots, &store, question)?;
+    let text = returned_again(rt, out.alloc, snapshots, &store, question)?;
     let here = text_of(
         out.alloc,
         Ok(Some(answer_here(out.alloc, &store, &[], question)?)),
@@ -191,7 +186,7 @@ fn append_again<R: Threads + Sync>(
 }
 
 /// Answers a question from the store of each of several numbers of first edits, one after another.
-pub fn again<R: Threads + Sync>(rt: &R, words: &mut Words, host: Looker, out: &mut Answer) -> Done {
+pub fn again<R: Threads + Sync>(rt: &R, words: &mut Words, host: Viewer, out: &mut Answer) -> Done {
     let edits = words.edits()?;
     let asking = asking_of(words, host)?;
     let mut snapshots = Snapshots::new(out.alloc);
@@ -223,7 +218,7 @@ fn add_events(events: &mut Vec<Event>, edits: &[Edit], number: usize) -> Done {
 }
 
 // What a node of a world of two answers, by so many workers.
-fn told_at<R: Threads + Sync>(
+fn returned_at<R: Threads + Sync>(
     rt: &R,
     alloc: Global,
     events: &[Event],
@@ -231,7 +226,7 @@ fn told_at<R: Threads + Sync>(
     question: &Question,
     workers: usize,
 ) -> Result<Vec<u8>, LineFault> {
-    let told = answer_in_world(
+    let returned = answer_in_world(
         rt,
         alloc,
         &[1, 2],
@@ -242,7 +237,7 @@ fn told_at<R: Threads + Sync>(
         workers,
         &OpenGate,
     );
-    text_of(alloc, told)
+    text_of(alloc, returned)
 }
 
 // Writes what the nodes answer by so many workers, and that there is no third.
@@ -255,7 +250,7 @@ fn append_nodes<R: Threads + Sync>(
 ) -> Done {
     let mut first = Vec::new(out.alloc);
     for node in 0..3 {
-        let text = told_at(rt, out.alloc, events, node, question, workers)?;
+        let text = returned_at(rt, out.alloc, events, node, question, workers)?;
         out.line(format!(in out.alloc; "{workers} workers, node {node}: ")?.as_bytes())?;
         append_beside(out, &text, &first)?;
         if node == 0 {
@@ -294,7 +289,7 @@ fn append_moments<R: Threads + Sync>(
 }
 
 /// Answers a question at two nodes of a world that took the same edits, of all but the last edit and then of all.
-pub fn world<R: Threads + Sync>(rt: &R, words: &mut Words, host: Looker, out: &mut Answer) -> Done {
+pub fn world<R: Threads + Sync>(rt: &R, words: &mut Words, host: Viewer, out: &mut Answer) -> Done {
     let edits = words.edits()?;
     let asking = asking_of(words, host)?;
     append_moments(rt, out, &edits, &asking)

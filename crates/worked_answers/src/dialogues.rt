@@ -2,20 +2,21 @@
 //!
 //! | A line | means |
 //! |---|---|
-//! | `== NAME` | here a dialogue of this name begins, in a new world |
+//! | `== NAME` | starts a dialogue with this name, in a new world |
 //! | `-- WORDS` | a comment |
 //! | `> LINE` | a line of the script |
-//! | `>> TEXT` | what the text spells stands in the script, without a line feed of its own |
-//! | `>* COUNT TEXT` | the same so many times: `%` is the number of the turn, from 1, and `%%` has five digits of it |
-//! | `<< TEXT`, `<* COUNT TEXT` | the same of the answers |
-//! | `! WORDS` | the fault at which the run ends |
-//! | any other that isn't empty | a line of the answers |
+//! | `>> TEXT` | appends the bytes that the text spells to the script, without a line feed |
+//! | `>* COUNT TEXT` | the same COUNT times: `%` is the number of the turn, from 1, and `%%` is that number in five
+//! digits |
+//! | `<< TEXT`, `<* COUNT TEXT` | the same for the answers |
+//! | `! WORDS` | the fault with which the run ends |
+//! | any other line that isn't empty | a line of the answers |
 use script_words::{cut_word, parse_number, text_of_rest, unescape};
 use std::alloc::{AllocError, Global};
 
-/// What a line of a dialogue is.
+/// The kind of a line of a dialogue.
 #[derive(Clone, Copy)]
-pub enum Kind {
+pub enum LineKind {
     Empty,
     Name,
     Comment,
@@ -28,7 +29,7 @@ pub enum Kind {
     End,
 }
 
-// The word that a line begins with, if it is one that says what the line is.
+// The first word of a line, which may be one that gives the line's kind.
 fn first_word(line: &[u8]) -> &[u8] {
     match line.iter().position(|b| *b == b' ') {
         Some(place) => &line[..place],
@@ -36,19 +37,19 @@ fn first_word(line: &[u8]) -> &[u8] {
     }
 }
 
-/// What a line is.
-pub fn kind_of(line: &[u8]) -> Kind {
+/// The kind of a line.
+pub fn kind_of(line: &[u8]) -> LineKind {
     match first_word(line) {
-        b"" => Kind::Empty,
-        b"==" => Kind::Name,
-        b"--" => Kind::Comment,
-        b">" => Kind::Command,
-        b">>" => Kind::CommandText,
-        b">*" => Kind::CommandTexts,
-        b"<<" => Kind::AnswerText,
-        b"<*" => Kind::AnswerTexts,
-        b"!" => Kind::End,
-        _ => Kind::Answer,
+        b"" => LineKind::Empty,
+        b"==" => LineKind::Name,
+        b"--" => LineKind::Comment,
+        b">" => LineKind::Command,
+        b">>" => LineKind::CommandText,
+        b">*" => LineKind::CommandTexts,
+        b"<<" => LineKind::AnswerText,
+        b"<*" => LineKind::AnswerTexts,
+        b"!" => LineKind::End,
+        _ => LineKind::Answer,
     }
 }
 
@@ -72,7 +73,7 @@ impl Dialogue {
         }
     }
 
-    /// What it shows.
+    /// The dialogue's name: what it shows.
     pub fn name(&self) -> &[u8] {
         &self.name
     }
@@ -87,27 +88,27 @@ impl Dialogue {
         &self.answers
     }
 
-    /// The fault at which the run ends; empty where it ends well.
+    /// The fault with which the run ends; empty if it ends well.
     pub fn end(&self) -> &[u8] {
         &self.end
     }
 
-    /// Adds what a line says.
+    /// Adds one line of the dialogue.
     pub fn add(&mut self, alloc: Global, line: &[u8]) -> Result<(), AllocError> {
         let text = match cut_word(line) {
             Some((_, rest)) => text_of_rest(rest),
             None => b"",
         };
         match kind_of(line) {
-            Kind::Empty | Kind::Comment => Ok(()),
-            Kind::Name => self.name.extend_from_slice(text),
-            Kind::End => self.end.extend_from_slice(text),
-            Kind::Command => add_line(&mut self.script, text),
-            Kind::CommandText => add_text(alloc, &mut self.script, text),
-            Kind::CommandTexts => add_texts(alloc, &mut self.script, text),
-            Kind::Answer => add_line(&mut self.answers, line),
-            Kind::AnswerText => add_text(alloc, &mut self.answers, text),
-            Kind::AnswerTexts => add_texts(alloc, &mut self.answers, text),
+            LineKind::Empty | LineKind::Comment => Ok(()),
+            LineKind::Name => self.name.extend_from_slice(text),
+            LineKind::End => self.end.extend_from_slice(text),
+            LineKind::Command => add_line(&mut self.script, text),
+            LineKind::CommandText => add_text(alloc, &mut self.script, text),
+            LineKind::CommandTexts => add_texts(alloc, &mut self.script, text),
+            LineKind::Answer => add_line(&mut self.answers, line),
+            LineKind::AnswerText => add_text(alloc, &mut self.answers, text),
+            LineKind::AnswerTexts => add_texts(alloc, &mut self.answers, text),
         }
     }
 }
@@ -118,7 +119,7 @@ fn add_line(out: &mut Vec<u8>, line: &[u8]) -> Result<(), AllocError> {
     Ok(out.push(b'\n')?)
 }
 
-// Adds what a text spells; a text that spells nothing is added as it is, so that the dialogue differs.
+// Adds the bytes that a text spells. A text that spells nothing is added as it is, so that the dialogue fails.
 fn add_text(alloc: Global, out: &mut Vec<u8>, text: &[u8]) -> Result<(), AllocError> {
     match unescape(alloc, text)? {
         Some(bytes) => out.extend_from_slice(&bytes),
@@ -126,7 +127,7 @@ fn add_text(alloc: Global, out: &mut Vec<u8>, text: &[u8]) -> Result<(), AllocEr
     }
 }
 
-// Adds what a text spells as many times as the number in front of it says.
+// Adds the bytes that a text spells, as many times as the number before it says.
 fn add_texts(alloc: Global, out: &mut Vec<u8>, text: &[u8]) -> Result<(), AllocError> {
     let Some((word, rest)) = cut_word(text) else {
         return Ok(());
@@ -140,7 +141,7 @@ fn add_texts(alloc: Global, out: &mut Vec<u8>, text: &[u8]) -> Result<(), AllocE
     Ok(())
 }
 
-// Adds bytes with a number in place of each `%`, and with five digits of it in place of each `%%`.
+// Adds bytes, with a number in place of each `%` and its five digits in place of each `%%`.
 fn add_numbered(
     alloc: Global,
     out: &mut Vec<u8>,

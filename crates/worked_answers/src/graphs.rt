@@ -1,8 +1,8 @@
 //! Graphs of loads in words.
 ghost use Rattle.unit_graph.specs.Graphs.{IsKnown};
 
-use crate::edits::{Done, Looker, asked_of};
-use crate::tellings::append_status;
+use crate::edits::{Done, Viewer, asked_of};
+use crate::rendering::append_status;
 use inverse_deps::edges;
 use parallel_load::{LoadFault, Loaded, load_here};
 use setting_rules::DepKind;
@@ -31,8 +31,8 @@ fn append_main(out: &mut Answer, graph: &Graph, main: &UnitName) -> Done {
     Ok(())
 }
 
-// Writes the units to which edges of each kind lead from a unit.
-fn append_steps(out: &mut Answer, graph: &Graph, kinds: &[DepKind], main: &UnitName) -> Done {
+/// Writes the units to which edges of each kind lead from a unit.
+pub fn append_steps(out: &mut Answer, graph: &Graph, kinds: &[DepKind], main: &UnitName) -> Done {
     for kind in kinds {
         out.line(kind.word().as_bytes())?;
         out.names(graph.of(*kind, main))?;
@@ -90,7 +90,7 @@ fn append_graph(out: &mut Answer, load: &Loaded, kinds: &[DepKind], names: &[Uni
 }
 
 /// Makes the graph of a load, and looks at it from each of several names.
-pub fn graph(words: &mut Words, host: Looker, out: &mut Answer) -> Done {
+pub fn graph(words: &mut Words, host: Viewer, out: &mut Answer) -> Done {
     let asked = asked_of(words, host)?;
     let kinds = each_of(words.alloc, &words.list()?, kind_of)?;
     let names = words.names()?;

@@ -15,7 +15,8 @@
 //! - `one EDITS + NAMES`: the unit of each name, loaded alone;
 //! - `refresh COUNTS + EDITS + ASKED`: how many units are read to load the store of so many first edits; then for each further
 //!   number of them where that store shows otherwise, how many units are read where its load is made of the one before, and
-//!   whether it is the load by one thread;
+//!   whether it is the load by one thread, with the same edges of all units, the same members of the graph and the same plan of
+//!   the first; and then the same where the one before is changed in its place, if it can be;
 //! - `footprint EDITS + ASKED + NAMES`: the first components of all paths that say something of the unit of each name;
 //! - `ask EDITS + ASKED + QUESTION + WORKERS`: what a store answers by one thread, and by each number of workers;
 //! - `again EDITS + QUESTION + COUNTS`: what the store of each of these numbers of first edits answers, one after another, where
@@ -42,8 +43,9 @@ mod dialogues;
 mod edits;
 mod graphs;
 mod refreshing;
+mod rendering;
 mod scripts;
-mod tellings;
+mod universes;
 
 use std::alloc::AllocError;
 use std::process::ExitCode;

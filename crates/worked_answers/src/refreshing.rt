@@ -3,12 +3,13 @@ ghost use Rattle.std.specs.Prelude.{◌≢◌, ◌↔◌, IfOk};
 ghost use Rattle.list_laws.specs.Members.{IsAmong};
 ghost use Rattle.load_places.specs.Places.{PlaceParts};
 ghost use Rattle.edit_sums.specs.Sums.{visible_at};
-ghost use Rattle.path_maps.specs.Views.{view_of};
+ghost use Rattle.path_maps.specs.HostViews.{host_view_of};
 ghost use Rattle.parallel_load.specs.Loads.{IsLoad};
 
-use crate::edits::{Done, Looker, asked_of};
-use crate::tellings::{append_places, is_same_load};
-use parallel_load::{LoadFault, Loaded, load_here};
+use crate::edits::{Done, Viewer, asked_of};
+use crate::rendering::{append_places, is_same_load};
+use crate::universes::universe_of;
+use parallel_load::{LoadFault, Loaded, Refreshed, load_here, refresh_in_place};
 use replica_store::{Edit, HostName, Place, Store};
 use std::alloc::{AllocError, Global};
 use unit_name::UnitName;
@@ -29,21 +30,29 @@ impl LoadedStore {
         host: Option<&HostName>,
         names: &[UnitName],
     ) -> Result<LoadedStore, LoadFault>
-        ensures load { IfOk result (λ made. IsLoad (view_of made.store made.load.host) made.load.extra made.load) }
+        ensures load { IfOk result (λ made. IsLoad (host_view_of made.store made.load.host) made.load.extra made.load) }
     {
         let load = load_here(alloc, &store, host, names)?;
         Ok(LoadedStore { store, load })
     }
 
-    // Another store with the load that is made of this one, where it shows otherwise at just these places.
-    fn refreshed(&self, store: Store, changed: &[Place]) -> Result<LoadedStore, LoadFault>
-        requires load { IsLoad (view_of self.now.store self.now.load.host) self.now.load.extra self.now.load }
+    // The load of another store that is made of this one, where that shows otherwise at just these places.
+    fn refreshed(&self, store: &Store, changed: &[Place]) -> Result<Loaded, LoadFault>
+        requires load { IsLoad (host_view_of self.now.store self.now.load.host) self.now.load.extra self.now.load }
         requires changed { (p : PlaceParts) → IsAmong p changed.now
-            ↔ (visible_at store p ≢ visible_at self.now.store p) }
-        ensures load { IfOk result (λ made. IsLoad (view_of made.store made.load.host) made.load.extra made.load) }
+            ↔ (visible_at store.now p ≢ visible_at self.now.store p) }
+        ensures load { IfOk result (λ load. IsLoad (host_view_of store.now load.host) load.extra load) }
     {
-        let load = parallel_load::refresh(&self.load, &store, changed)?;
-        Ok(LoadedStore { store, load })
+        let load = parallel_load::refresh(&self.load, store, changed)?;
+        Ok(load)
+    }
+
+    // What becomes of its load where it is given away for that of the other store.
+    fn given_away(self, store: &Store, changed: &[Place]) -> Result<Refreshed, LoadFault>
+        requires load { IsLoad (host_view_of self.store self.load.host) self.load.extra self.load }
+        requires changed { (p : PlaceParts) → IsAmong p changed.now ↔ (visible_at store.now p ≢ visible_at self.store p) }
+    {
+        refresh_in_place(self.load, store, changed)
     }
 }
 
@@ -74,12 +83,44 @@ fn append_fault(out: &mut Answer, fault: LoadFault) -> Done {
     }
 }
 
-// Writes whether a load is the one by one thread.
-fn append_compared(out: &mut Answer, load: &Loaded, here: Result<Loaded, LoadFault>) -> Done {
+// Writes how a load compares with the one by one thread: with all that it has, and with what it comes to.
+fn append_beside(out: &mut Answer, load: &Loaded, here: &Loaded) -> Done {
+    if !is_same_load(load, here)? {
+        return out.write(b", another");
+    }
+    let text = universe_of(out.alloc, load)?;
+    let is_same = text == universe_of(out.alloc, here)?;
+    out.either(is_same, b", the same", b", with other edges or plans")
+}
+
+// Writes how many units were read for a load, and how it compares with the one by one thread.
+fn append_compared(out: &mut Answer, load: &Loaded, here: &Result<Loaded, LoadFault>) -> Done {
+    append_fresh(out, load)?;
     match here {
-        Ok(here) => out.either(is_same_load(load, &here)?, b", the same", b", another"),
+        Ok(here) => append_beside(out, load, here),
         Err(LoadFault::Memory) => Err(LineFault::Memory(AllocError)),
         Err(_) => out.write(b", where there is none"),
+    }
+}
+
+// Writes whether a load that was given away was changed in its place, how many units were read for that, and how what became of it
+// compares with the load by one thread.
+fn append_given_away(
+    out: &mut Answer,
+    refreshed: &Result<Refreshed, LoadFault>,
+    here: &Result<Loaded, LoadFault>,
+) -> Done {
+    match refreshed {
+        Ok(Refreshed::InPlace(load)) => {
+            out.write(b"; in place ")?;
+            append_compared(out, load, here)
+        }
+        Ok(Refreshed::Anew(_, load)) => {
+            out.write(b"; anew ")?;
+            append_compared(out, load, here)
+        }
+        Err(LoadFault::Memory) => Err(LineFault::Memory(AllocError)),
+        Err(_) => out.write(b"; and none"),
     }
 }
 
@@ -90,8 +131,8 @@ fn append_refreshed(
     before: LoadedStore,
     store: Store,
 ) -> Result<LoadedStore, LineFault>
-    requires load { IsLoad (view_of before.store before.load.host) before.load.extra before.load }
-    ensures load { IfOk result (λ made. IsLoad (view_of made.store made.load.host) made.load.extra made.load) }
+    requires load { IsLoad (host_view_of before.store before.load.host) before.load.extra before.load }
+    ensures load { IfOk result (λ made. IsLoad (host_view_of made.store made.load.host) made.load.extra made.load) }
 {
     let changed = store.changed(&before.store)?;
     out.write(b"changed")?;
@@ -99,11 +140,11 @@ fn append_refreshed(
     out.write(b"; ")?;
     let load = &before.load;
     let here = load_here(out.alloc, &store, load.host(), load.extra());
-    match before.refreshed(store, &changed) {
-        Ok(made) => {
-            append_fresh(out, &made.load)?;
-            append_compared(out, &made.load, here)?;
-            Ok(made)
+    match before.refreshed(&store, &changed) {
+        Ok(load) => {
+            append_compared(out, &load, &here)?;
+            append_given_away(out, &before.given_away(&store, &changed), &here)?;
+            Ok(LoadedStore { store, load })
         }
         Err(fault) => {
             append_fault(out, fault)?;
@@ -115,7 +156,7 @@ fn append_refreshed(
 
 // Writes what is refreshed for each of several numbers of edits, one after another.
 fn append_later(out: &mut Answer, first: LoadedStore, edits: &[Edit], counts: &[usize]) -> Done
-    requires load { IsLoad (view_of first.store first.load.host) first.load.extra first.load }
+    requires load { IsLoad (host_view_of first.store first.load.host) first.load.extra first.load }
 {
     let mut held = first;
     for count in counts {
@@ -127,7 +168,7 @@ fn append_later(out: &mut Answer, first: LoadedStore, edits: &[Edit], counts: &[
 }
 
 /// Loads the store of so many first edits, and makes of that load the one of each further number of them.
-pub fn refresh(words: &mut Words, host: Looker, out: &mut Answer) -> Done {
+pub fn refresh(words: &mut Words, host: Viewer, out: &mut Answer) -> Done {
     let counts = words.numbers()?;
     let edits = words.edits()?;
     let names = words.names()?;
@@ -158,7 +199,7 @@ fn append_footprint(out: &mut Answer, load: &Loaded, name: &UnitName) -> Done {
 }
 
 /// Loads a store, and writes the footprints of the units of several names.
-pub fn footprint(words: &mut Words, host: Looker, out: &mut Answer) -> Done {
+pub fn footprint(words: &mut Words, host: Viewer, out: &mut Answer) -> Done {
     let asked = asked_of(words, host)?;
     let looked = words.names()?;
     match load_here(words.alloc, &asked.store, asked.host.as_ref(), &asked.names) {

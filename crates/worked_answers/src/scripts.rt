@@ -1,5 +1,5 @@
-//! Scripts that are run, and compared with the answers that their dialogues tell.
-use crate::dialogues::{Dialogue, Kind, kind_of};
+//! Runs scripts, and compares their answers with those of the dialogues.
+use crate::dialogues::{Dialogue, LineKind, kind_of};
 use fleet_script::run;
 use script_pipes::Watched;
 use script_words::cut_line;
@@ -7,12 +7,12 @@ use std::alloc::AllocError;
 use std::sync::Wait;
 use std::thread::Threads;
 
-// Whether these are the answers and the end that a dialogue tells.
-fn is_as_told(dialogue: &Dialogue, written: &[u8], end: &[u8]) -> bool {
+// Whether these are the answers and the end that a dialogue has.
+fn is_as_returned(dialogue: &Dialogue, written: &[u8], end: &[u8]) -> bool {
     dialogue.answers() == written && dialogue.end() == end
 }
 
-// Runs a dialogue's commands, and says whether they are answered as it tells; if not, what came is written too.
+// Runs a dialogue's commands, and says whether their answers are those of the dialogue. If not, writes what they were.
 fn work<R: AllocGlobal + Threads + Wait + Sync>(
     rt: &R,
     dialogue: &Dialogue,
@@ -26,7 +26,7 @@ fn work<R: AllocGlobal + Threads + Wait + Sync>(
     };
     let written = writer.into_inner();
     out.extend_from_slice(dialogue.name())?;
-    if is_as_told(dialogue, &written, end.as_bytes()) {
+    if is_as_returned(dialogue, &written, end.as_bytes()) {
         return out.extend_from_slice(b": as told\n");
     }
     out.extend_from_slice(b": differs\n")?;
@@ -34,7 +34,7 @@ fn work<R: AllocGlobal + Threads + Wait + Sync>(
     out.extend_from_slice(end.as_bytes())
 }
 
-/// Says of each dialogue whether it is answered as it tells.
+/// Says of each dialogue whether its answers are right.
 pub fn work_all<R: AllocGlobal + Threads + Wait + Sync>(
     rt: &R,
     text: &[u8],
@@ -44,7 +44,7 @@ pub fn work_all<R: AllocGlobal + Threads + Wait + Sync>(
     let mut rest = text;
     while !rest.is_empty() {
         let (line, later) = cut_line(rest);
-        if matches!(kind_of(line), Kind::Name) && !dialogue.name().is_empty() {
+        if matches!(kind_of(line), LineKind::Name) && !dialogue.name().is_empty() {
             work(rt, &dialogue, out)?;
             dialogue = Dialogue::new(rt.alloc());
         }

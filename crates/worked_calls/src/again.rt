@@ -1,7 +1,7 @@
-//! Calls that are made again where memory was refused on the way, with what came back.
+//! Calls that are repeated, with what came back, if memory ran out during them.
 //!
-//! The answer is that of the call where nothing is refused. Where something was, what stood between the two calls comes
-//! behind it, after the words `; refused at`.
+//! The answer is that of the call if nothing fails. If something failed, the state between the two calls follows it,
+//! after the words `; refused at`.
 use crate::edits::append_store;
 use crate::join_maps::{append_map, map};
 use crate::joins::versioned;
@@ -13,10 +13,10 @@ use delta_pieces::{TakeFault, take};
 use join_law::{Join, Rest};
 use worked_lines::{Answer, LineFault, Words, byte_of, match_word};
 
-/// Writes what a call that may be made again answers.
+/// Writes the answer to a call that may be repeated.
 pub fn answer(words: &mut Words, out: &mut Answer) -> Result<(), LineFault> {
     let mut between = Answer::new(words.alloc);
-    told(words, out, &mut between)?;
+    returned(words, out, &mut between)?;
     if !between.is_empty() {
         out.write(b"; refused at ")?;
         out.write(&between.bytes)?;
@@ -24,8 +24,8 @@ pub fn answer(words: &mut Words, out: &mut Answer) -> Result<(), LineFault> {
     Ok(())
 }
 
-// The answer, and what stood between two calls, if there were two.
-fn told(words: &mut Words, out: &mut Answer, between: &mut Answer) -> Result<(), LineFault> {
+// The answer, and the state between two calls, if there were two.
+fn returned(words: &mut Words, out: &mut Answer, between: &mut Answer) -> Result<(), LineFault> {
     match_word!(words.word()?;
         b"join" => joined(words, out, between),
         b"at" => joined_at(words, out, between),
@@ -40,7 +40,7 @@ fn told(words: &mut Words, out: &mut Answer, between: &mut Answer) -> Result<(),
     )
 }
 
-// A map that another is joined to; where that is refused, the rest of it.
+// A map that another is joined to; if that fails, then the rest of the other.
 fn joined(words: &mut Words, out: &mut Answer, between: &mut Answer) -> Result<(), LineFault> {
     let mut joined = map(words)?;
     if let Err(Rest { rest }) = joined.join_from(map(words)?) {
@@ -50,7 +50,7 @@ fn joined(words: &mut Words, out: &mut Answer, between: &mut Answer) -> Result<(
     append_map(out, &joined)
 }
 
-// A map that a value is joined to at a key; where that is refused, the rest of it.
+// A map that a value is joined to at a key; if that fails, then the rest.
 fn joined_at(words: &mut Words, out: &mut Answer, between: &mut Answer) -> Result<(), LineFault> {
     let mut joined = map(words)?;
     let key = byte_of(words.word()?)?;
@@ -63,7 +63,7 @@ fn joined_at(words: &mut Words, out: &mut Answer, between: &mut Answer) -> Resul
     append_map(out, &joined)
 }
 
-// A store that takes another; where that is refused, the rest of it.
+// A store that absorbs another; if that fails, then the rest of the other.
 fn absorbed(words: &mut Words, out: &mut Answer, between: &mut Answer) -> Result<(), LineFault> {
     let mut first = words.store()?;
     if let Err(Rest { rest }) = first.absorb(words.store()?) {
@@ -73,7 +73,7 @@ fn absorbed(words: &mut Words, out: &mut Answer, between: &mut Answer) -> Result
     append_store(out, &first)
 }
 
-// A store that another is merged into, twice where the first time is refused.
+// A store that another is merged into, twice if the first merge fails.
 fn merged(words: &mut Words, out: &mut Answer, between: &mut Answer) -> Result<(), LineFault> {
     let mut first = words.store()?;
     let second = words.store()?;
@@ -84,7 +84,7 @@ fn merged(words: &mut Words, out: &mut Answer, between: &mut Answer) -> Result<(
     append_store(out, &first)
 }
 
-// A replica that takes a piece; where that is refused, the rest of it.
+// A replica that takes a piece; if that fails, then the rest of the piece.
 fn taken(words: &mut Words, out: &mut Answer, between: &mut Answer) -> Result<(), LineFault> {
     let mut replica = holder(words)?;
     if let Err(TakeFault { rest }) = take(&mut replica, piece(words)?) {
@@ -94,7 +94,7 @@ fn taken(words: &mut Words, out: &mut Answer, between: &mut Answer) -> Result<()
     append_store(out, replica.store())
 }
 
-// Two replicas after an exchange, which is made twice where the first is refused.
+// Two replicas after an exchange, which is repeated if it fails.
 fn exchanged(words: &mut Words, out: &mut Answer, between: &mut Answer) -> Result<(), LineFault> {
     let mut a = replica(1, words)?;
     let mut b = replica(2, words)?;

@@ -1,23 +1,23 @@
-//! Calls on what stands for a unit, for a host or without one: the store in words, `+`, and the unit's name, or the names
-//! of several.
+//! Calls on what a unit's name resolves to, for a host or for the fleet: the store as words, `+`, and the unit's name,
+//! or several names.
 use crate::edits::append_names;
 use fragment_choice::{AliasIndex, Choice, Resolution, choose, names_of, resolve};
 use replica_store::{HostName, Store};
 use unit_name::UnitName;
 use worked_lines::{Answer, LineFault, Words, asked_of, match_word};
 
-/// Writes what a call on the choice of a unit answers.
+/// Writes the answer to a call on the choice of a unit.
 pub fn answer(words: &mut Words, out: &mut Answer) -> Result<(), LineFault> {
     let (call, host) = asked_of(words.alloc, words.word()?)?;
     let store = words.store()?;
     match_word!(call;
         b"index" => append_indexed(out, &store, host.as_ref(), &words.spelled_names()?),
-        _ => told(call, &store, host.as_ref(), &words.name()?, out),
+        _ => returned(call, &store, host.as_ref(), &words.name()?, out),
     )
 }
 
-// What a call answers of one name in a store.
-fn told(
+// The answer to a call on one name in a store.
+fn returned(
     call: &[u8],
     store: &Store,
     host: Option<&HostName>,
@@ -42,7 +42,7 @@ fn append_choice(out: &mut Answer, choice: &Choice) -> Result<(), LineFault> {
     }
 }
 
-// Writes the main name, and what stands for it.
+// Writes the main name and its choice.
 fn append_resolution(out: &mut Answer, end: &Resolution) -> Result<(), LineFault> {
     out.write(end.main.bytes())?;
     out.write(b" ")?;
@@ -63,7 +63,7 @@ fn append_names_of(
     }
 }
 
-// Writes the names of those units of a list that stand there by their main name, by one index.
+// Writes the names of those units of a list that are given by their main name, found with one index.
 fn append_indexed(
     out: &mut Answer,
     store: &Store,

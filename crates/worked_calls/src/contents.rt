@@ -1,9 +1,9 @@
-//! Calls on contents, and on edits that are copied.
+//! Calls on contents, and on copies of edits.
 use crate::edits::{append_content, append_edit};
 use replica_store::{Content, ContentFault};
 use worked_lines::{Answer, LineFault, Words, edit_of, match_word};
 
-/// Writes what a call on contents answers.
+/// Writes the answer to a call on contents.
 pub fn answer(words: &mut Words, out: &mut Answer) -> Result<(), LineFault> {
     match_word!(words.word()?;
         b"file" => made(out, Content::file(words.text()?)),
@@ -14,7 +14,7 @@ pub fn answer(words: &mut Words, out: &mut Answer) -> Result<(), LineFault> {
     )
 }
 
-// As many bytes as the next word says, each of them `a`.
+// As many bytes `a` as the next word says.
 fn filled(words: &mut Words) -> Result<Vec<u8>, LineFault> {
     let count = words.index()?;
     Ok(vec![in words.alloc; b'a'; count]?)

@@ -1,12 +1,12 @@
-//! Calls on the folders, the drop-ins and the link folders of units: the store in words, `+`, and the unit's names. Those
-//! on a store may be made for a host.
-use crate::edits::{append_names, append_places, append_seen};
+//! Calls on the folders, the drop-ins and the link folders of units: the store as words, `+`, and the unit's names.
+//! Calls on a store may be made for a host.
+use crate::edits::{append_names, append_places, append_viewed};
 use dropins::{Folder, UnitFolders, folders, links, order};
-use replica_store::{HostName, Seen, Store};
+use replica_store::{HostName, HostView, Store};
 use unit_name::UnitName;
 use worked_lines::{Answer, LineFault, Words, asked_of, match_word};
 
-/// Writes what a call on drop-ins answers.
+/// Writes the answer to a call on drop-ins.
 pub fn answer(words: &mut Words, out: &mut Answer) -> Result<(), LineFault> {
     let call = words.word()?;
     match_word!(call;
@@ -15,15 +15,15 @@ pub fn answer(words: &mut Words, out: &mut Answer) -> Result<(), LineFault> {
     )
 }
 
-// What a call answers of a store, for a host or without one.
+// The answer to a call on a store, for a host or for the fleet.
 fn asked(word: &[u8], words: &mut Words, out: &mut Answer) -> Result<(), LineFault> {
     let (call, host) = asked_of(words.alloc, word)?;
     let store = words.store()?;
-    told(call, &store, host.as_ref(), &words.spelled_names()?, out)
+    returned(call, &store, host.as_ref(), &words.spelled_names()?, out)
 }
 
-// What a call answers of the unit that has these names in a store.
-fn told(
+// The answer to a call on the unit with these names in a store.
+fn returned(
     call: &[u8],
     store: &Store,
     host: Option<&HostName>,
@@ -32,18 +32,18 @@ fn told(
 ) -> Result<(), LineFault> {
     match_word!(call;
         b"order" => append_places(out, &order(out.alloc, store, host, names)?),
-        b"lend" => append_lent(out, &store.seen_by(host), names),
+        b"lend" => append_borrowed(out, &store.host_view(host), names),
         b"wants" => append_names(out, &links(out.alloc, store, host, names, Folder::Wants)?),
         b"requires" => append_names(out, &links(out.alloc, store, host, names, Folder::Requires)?),
     )
 }
 
-// Writes the folders of the unit, and then its drop-ins with what stands there.
-fn append_lent(out: &mut Answer, seen: &Seen, names: &[UnitName]) -> Result<(), LineFault> {
+// Writes the folders of the unit, and then its drop-ins with their contents.
+fn append_borrowed(out: &mut Answer, view: &HostView, names: &[UnitName]) -> Result<(), LineFault> {
     let folders = UnitFolders::of(out.alloc, names)?;
     append_names(out, folders.names())?;
-    for entry in &folders.drop_ins(out.alloc, seen)? {
-        append_seen(out, seen, entry)?;
+    for entry in &folders.drop_ins(out.alloc, view)? {
+        append_viewed(out, view, entry)?;
     }
     Ok(())
 }

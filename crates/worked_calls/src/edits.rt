@@ -1,7 +1,7 @@
-//! How edits and stores are written: an edit as `COUNTER.WRITER:PLACE` for a removal, with `=TEXT` behind it for a file and
-//! with `>TARGET` for a link.
+//! How edits and stores are written: an edit as `COUNTER.WRITER:PLACE` for a removal, followed by `=TEXT` for a file
+//! and by `>TARGET` for a link.
 use replica_store::{
-    Content, Edit, Entries, Place, Placed, Seen, SeenEntries, SeenEntry, Store, Version,
+    Content, Edit, Entries, HostView, HostViewEntries, HostViewEntry, Place, Placed, Store, Version,
 };
 use unit_name::UnitName;
 use worked_lines::{Answer, LineFault};
@@ -13,16 +13,16 @@ pub fn append_version(out: &mut Answer, version: Version) -> Result<(), LineFaul
     out.print(&version.writer)
 }
 
-/// Writes a content as it stands behind a path.
+/// Writes a content as it follows a path.
 pub fn append_content(out: &mut Answer, content: &Content) -> Result<(), LineFault> {
     match content {
         Content::Gone => Ok(()),
-        Content::File(file) => out.spell_marked(&[(b'=', file.bytes())]),
-        Content::Link(target) => out.spell_marked(&[(b'>', target.bytes())]),
+        Content::File(file) => out.spell_quoted(&[(b'=', file.bytes())]),
+        Content::Link(target) => out.spell_quoted(&[(b'>', target.bytes())]),
     }
 }
 
-// Writes a content behind its version and its place.
+// Writes a content after its version and its place.
 fn append_at(
     out: &mut Answer,
     version: Version,
@@ -40,14 +40,14 @@ pub fn append_edit(out: &mut Answer, edit: &Edit) -> Result<(), LineFault> {
     append_at(out, edit.version, &edit.place, &edit.content)
 }
 
-/// Writes an entry with its place, behind a space if something stands there.
+/// Writes an entry with its place, after a space unless nothing is written yet.
 pub fn append_placed(out: &mut Answer, placed: &Placed) -> Result<(), LineFault> {
     let entry = placed.entry();
     out.part(b" ")?;
     append_at(out, entry.version, &placed.place()?, &entry.content)
 }
 
-/// Writes entries, each behind a space if something stands there; `nothing` where there are none.
+/// Writes entries, each after a space unless nothing is written yet; `nothing` if there are none.
 pub fn append_entries(out: &mut Answer, mut entries: Entries<'_>) -> Result<(), LineFault> {
     let Some(first) = entries.next_entry() else {
         out.part(b" ")?;
@@ -60,36 +60,40 @@ pub fn append_entries(out: &mut Answer, mut entries: Entries<'_>) -> Result<(), 
     Ok(())
 }
 
-/// Writes an entry that is seen with its place, behind a space if something stands there.
-pub fn append_seen(out: &mut Answer, seen: &Seen, placed: &SeenEntry) -> Result<(), LineFault> {
+/// Writes an entry that a host sees with its place, after a space unless nothing is written yet.
+pub fn append_viewed(
+    out: &mut Answer,
+    view: &HostView,
+    placed: &HostViewEntry,
+) -> Result<(), LineFault> {
     let entry = placed.entry();
     out.part(b" ")?;
-    append_at(out, entry.version, &seen.place(placed)?, &entry.content)
+    append_at(out, entry.version, &view.place(placed)?, &entry.content)
 }
 
-/// Writes entries that are seen, each behind a space if something stands there; `nothing` where there are none.
-pub fn append_all_seen(
+/// Writes entries that a host sees, each after a space unless nothing is written yet; `nothing` if there are none.
+pub fn append_all_viewed(
     out: &mut Answer,
-    seen: &Seen,
-    mut entries: SeenEntries<'_>,
+    view: &HostView,
+    mut entries: HostViewEntries<'_>,
 ) -> Result<(), LineFault> {
     let Some(first) = entries.next_entry() else {
         out.part(b" ")?;
         return out.write(b"nothing");
     };
-    append_seen(out, seen, &first)?;
+    append_viewed(out, view, &first)?;
     while let Some(placed) = entries.next_entry() {
-        append_seen(out, seen, &placed)?;
+        append_viewed(out, view, &placed)?;
     }
     Ok(())
 }
 
-/// Writes all that a store holds, in place order.
+/// Writes everything that a store holds, in place order.
 pub fn append_store(out: &mut Answer, store: &Store) -> Result<(), LineFault> {
     append_entries(out, store.entries())
 }
 
-/// Writes places, parted by spaces.
+/// Writes places, separated by spaces.
 pub fn append_places(out: &mut Answer, places: &[Place]) -> Result<(), LineFault> {
     for place in places {
         out.part(b" ")?;
@@ -98,7 +102,7 @@ pub fn append_places(out: &mut Answer, places: &[Place]) -> Result<(), LineFault
     out.or(b"none")
 }
 
-/// Writes names, each behind a space if something stands there.
+/// Writes names, each after a space unless nothing is written yet.
 pub fn append_names(out: &mut Answer, names: &[UnitName]) -> Result<(), LineFault> {
     for name in names {
         out.part(b" ")?;

@@ -1,29 +1,28 @@
-//! Calls on maps of joins: maps from numbers to numbers with versions, and maps of maps of such maps. Numbers are
-//! below 256.
+//! Calls on join maps: maps from numbers to versioned numbers, and maps of maps of such maps. Numbers are below 256.
 //!
-//! A map is written as its pairs, `KEY:VERSION=NUMBER`, parted by commas; `none` has no pair. In a map of maps of
-//! maps a key is three numbers, parted by slashes.
+//! A map is written as its pairs, `KEY:VERSION=NUMBER`, separated by commas; `none` has no pair. In a map of maps of
+//! maps a key is three numbers, separated by slashes.
 use crate::joins::{append_value, joined, versioned};
 use join_law::{AddAt, AddValue, Addition, Join, JoinMap, Versioned};
 use worked_lines::{Answer, LineFault, Words, byte_of, cut_at, match_word, parts_of};
 
-/// A map from numbers to numbers with versions.
+/// A map from numbers to versioned numbers.
 pub type Numbers = JoinMap<u8, Versioned<u8>>;
 
 type Tree = JoinMap<u8, JoinMap<u8, Numbers>>;
 
-/// Writes what a call on maps of joins answers.
+/// Writes the answer to a call on join maps.
 pub fn answer(words: &mut Words, out: &mut Answer) -> Result<(), LineFault> {
     let call = words.word()?;
     match_word!(call;
         b"deep" => append_trees(out, &tree(words)?, &tree(words)?),
         b"last" => last(words, out),
-        _ => told(call, &map(words)?, words, out),
+        _ => returned(call, &map(words)?, words, out),
     )
 }
 
-// What a call answers of a map, and of another or of more words.
-fn told(
+// The answer to a call on a map, and on another one or on more words.
+fn returned(
     call: &[u8],
     first: &Numbers,
     words: &mut Words,
@@ -37,14 +36,14 @@ fn told(
     )
 }
 
-// Joins to a map the pair that a word writes.
+// Joins the pair that a word writes to a map.
 fn join_pair(map: &mut Numbers, pair: &[u8]) -> Result<(), LineFault> {
     let (key, value) = cut_at(pair, b':').ok_or(LineFault::Words)?;
     map.join_at(byte_of(key)?, versioned(value)?)?;
     Ok(())
 }
 
-/// The next word as a map.
+/// Returns the next word as a map.
 pub fn map(words: &mut Words) -> Result<Numbers, LineFault> {
     let mut map = JoinMap::new(words.alloc);
     for pair in &parts_of(words.alloc, words.word()?)? {
@@ -53,7 +52,7 @@ pub fn map(words: &mut Words) -> Result<Numbers, LineFault> {
     Ok(map)
 }
 
-// Writes the pairs of a map, each key behind those of the maps that it stands in.
+// Writes the pairs of a map, each key after those of the maps that contain it.
 fn append_pairs(out: &mut Answer, outer: &str, map: &Numbers) -> Result<(), LineFault> {
     for (key, value) in map.pairs() {
         out.part(b",")?;
@@ -71,7 +70,7 @@ pub fn append_map(out: &mut Answer, map: &Numbers) -> Result<(), LineFault> {
     out.or(b"none")
 }
 
-// Writes a map, its length, and whether it is the one that it was.
+// Writes a map, its length, and whether it is unchanged.
 fn append_outcome(out: &mut Answer, old: &Numbers, new: &Numbers) -> Result<(), LineFault> {
     append_map(out, new)?;
     out.write(b" ")?;
@@ -86,7 +85,7 @@ fn with_copies(left: &Numbers, right: &Numbers) -> Result<Numbers, LineFault> {
     Ok(map)
 }
 
-// Writes the join of two maps, and whether copies of the second's pairs make the same.
+// Writes the join of two maps, and whether copies of the second's pairs give the same.
 fn append_joined(out: &mut Answer, left: &Numbers, right: &Numbers) -> Result<(), LineFault> {
     let whole = joined(left, right)?;
     append_outcome(out, left, &whole)?;
@@ -97,7 +96,7 @@ fn append_joined(out: &mut Answer, left: &Numbers, right: &Numbers) -> Result<()
     )
 }
 
-// A map with one value joined.
+// A map to which one value is joined.
 fn joined_at(old: &Numbers, words: &mut Words, out: &mut Answer) -> Result<(), LineFault> {
     let key = byte_of(words.word()?)?;
     let value = versioned(words.word()?)?;
@@ -135,7 +134,7 @@ fn last(words: &mut Words, out: &mut Answer) -> Result<(), LineFault> {
     out.print(&key)
 }
 
-// Joins to a map of maps of maps the pair that a word writes.
+// Joins the pair that a word writes to a map of maps of maps.
 fn join_branch(tree: &mut Tree, pair: &[u8]) -> Result<(), LineFault> {
     let (keys, value) = cut_at(pair, b':').ok_or(LineFault::Words)?;
     let (outer, others) = cut_at(keys, b'/').ok_or(LineFault::Words)?;
@@ -183,7 +182,7 @@ fn append_tree(out: &mut Answer, tree: &Tree) -> Result<(), LineFault> {
     out.print(&tree.len())
 }
 
-// Writes the join of two maps of maps of maps, and whether it is the same both ways.
+// Writes the join of two maps of maps of maps, and whether it is the same in both orders.
 fn append_trees(out: &mut Answer, left: &Tree, right: &Tree) -> Result<(), LineFault> {
     let whole = joined(left, right)?;
     append_tree(out, &whole)?;

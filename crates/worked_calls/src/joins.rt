@@ -1,11 +1,11 @@
-//! Calls on the joins of contents with versions: numbers below 256 with versions, or nothing yet.
+//! Calls on the joins of versioned contents: numbers below 256 with versions, or nothing yet.
 use crate::edits::append_version;
 use join_law::{Entry, Join, Versioned};
 use plain_values::TryClone;
 use std::cmp::Ordering;
 use worked_lines::{Answer, LineFault, Words, byte_of, cut_at, is, match_word, version_of};
 
-/// Writes what a call on joins answers.
+/// Writes the answer to a call on joins.
 pub fn answer(words: &mut Words, out: &mut Answer) -> Result<(), LineFault> {
     match_word!(words.word()?;
         b"join" => append_compared(out, &versioned(words.word()?)?, &versioned(words.word()?)?),
@@ -14,7 +14,7 @@ pub fn answer(words: &mut Words, out: &mut Answer) -> Result<(), LineFault> {
     )
 }
 
-/// A word as `never` or as a version and a number.
+/// Returns a word as `never` or as a version and a number.
 pub fn versioned(word: &[u8]) -> Result<Versioned<u8>, LineFault> {
     if is(word, b"never") {
         return Ok(Versioned::Never);
@@ -25,14 +25,14 @@ pub fn versioned(word: &[u8]) -> Result<Versioned<u8>, LineFault> {
     Ok(Versioned::At(Entry { version, content }))
 }
 
-/// The join of two values of any type that has joins.
+/// Returns the join of two values of any type that has joins.
 pub fn joined<J: Join>(left: &J, right: &J) -> Result<J, LineFault> {
     let mut value = left.try_clone()?;
     value.join_from(right.try_clone()?)?;
     Ok(value)
 }
 
-// Writes the join of two values, how they are ordered, and whether they are the same.
+// Writes the join of two values, how they compare, and whether they are the same.
 fn append_compared(
     out: &mut Answer,
     left: &Versioned<u8>,

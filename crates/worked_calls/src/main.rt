@@ -1,12 +1,14 @@
-//! Works calls of the libraries, so that each public call was run with ample memory. It reads a call a line from
-//! standard input, and writes each line behind it with its answer.
+//! Runs calls of the libraries, so that each public call was run with ample memory. It reads one call per line from
+//! standard input, and writes each line followed by its answer.
 //!
 //! Promise: memory is refused only where it is.
 //!
-//! A line is a subject, a call and its words, parted by spaces. A call on what is seen of a store has `@HOST` behind its
-//! word where a host makes it. Lines that are empty or begin with `#` are repeated as they are. A call that is refused
-//! memory is made again or answered by `memory`. `stdin` has the calls, and `stdout` what each must answer; the gate
-//! compares the two.
+//! A line is a subject, a call and its words, separated by spaces. A call on what a host sees of a store has `@HOST`
+//! after its word if a host makes it. Lines that are empty or begin with `#` are copied unchanged. A call for which
+//! memory runs out is repeated or answered by `memory`. `stdin` has the calls, and `stdout` what each must answer; the
+//! gate compares the two.
+//!
+//! Each module has the calls on one subject; `edits`, `orders` and `written` write values.
 #![tactic(auto)]
 
 mod again;
@@ -33,7 +35,7 @@ use std::alloc::AllocError;
 use std::process::ExitCode;
 use worked_lines::{Answer, LineFault, Words, answer_lines, match_word, work_input};
 
-// Writes what a call answers.
+// Writes the answer to a call.
 fn answer(words: &mut Words, out: &mut Answer) -> Result<(), LineFault> {
     match_word!(words.word()?;
         b"again" => again::answer(words, out),

@@ -4,7 +4,7 @@ use std::alloc::AllocError;
 use unit_name::{ExpandFault, NameFault, UnitName, escape, expand, unescape};
 use worked_lines::{Answer, LineFault, Words, match_word};
 
-/// Writes what a call on names answers.
+/// Writes the answer to a call on names.
 pub fn answer(words: &mut Words, out: &mut Answer) -> Result<(), LineFault> {
     let call = words.word()?;
     match_word!(call;
@@ -14,7 +14,7 @@ pub fn answer(words: &mut Words, out: &mut Answer) -> Result<(), LineFault> {
     )
 }
 
-// What a call answers of a text.
+// The answer to a call on a text.
 fn of_text(call: &[u8], text: &[u8], out: &mut Answer) -> Result<(), LineFault> {
     match_word!(call;
         b"parse" => parse(text, out),
@@ -23,7 +23,7 @@ fn of_text(call: &[u8], text: &[u8], out: &mut Answer) -> Result<(), LineFault> 
     )
 }
 
-// What a call answers of a name.
+// The answer to a call on a name.
 fn of_name(
     call: &[u8],
     name: &UnitName,
@@ -39,7 +39,7 @@ fn of_name(
     )
 }
 
-// The name that bytes are, or their fault.
+// The name that bytes are, or why they aren't one.
 fn parse(text: &[u8], out: &mut Answer) -> Result<(), LineFault> {
     match UnitName::parse(out.alloc, text) {
         Ok(name) => out.spell(name.bytes()),
@@ -54,7 +54,7 @@ fn append_parts(out: &mut Answer, name: &UnitName) -> Result<(), LineFault> {
     let shape = name.shape();
     out.write(format!(in out.alloc; "{kind:?} {shape:?} ")?.as_bytes())?;
     out.either(name.is_template(), b"template", b"name")?;
-    out.spell_marked(&[(b' ', name.prefix()), (b' ', name.instance())])
+    out.spell_quoted(&[(b' ', name.prefix()), (b' ', name.instance())])
 }
 
 // Writes a name with an instance, if there is one.
@@ -69,7 +69,7 @@ fn append_clone(out: &mut Answer, name: &UnitName) -> Result<(), LineFault> {
     out.either(copy == *name, b" same", b" other")
 }
 
-// Writes a value with the specifiers of a name, or its fault.
+// Writes a value with a name's specifiers expanded, or why it can't be expanded.
 fn append_expanded(out: &mut Answer, name: &UnitName, value: &[u8]) -> Result<(), LineFault> {
     match expand(out.alloc, value, name) {
         Ok(bytes) => out.spell(&bytes),

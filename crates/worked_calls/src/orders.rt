@@ -2,7 +2,7 @@
 use std::cmp::Ordering;
 use worked_lines::{Answer, LineFault};
 
-// How a value stands to another, by all tests that there are.
+// How one value compares to another, by all tests that there are.
 fn sign<T: Ord>(low: &T, high: &T) -> u8 {
     match low.cmp(high) {
         Ordering::Less if low < high => b'<',
@@ -12,7 +12,7 @@ fn sign<T: Ord>(low: &T, high: &T) -> u8 {
     }
 }
 
-// Writes how a value stands to each of these.
+// Writes how a value compares to each of these.
 fn append_row<T: Ord>(out: &mut Answer, low: &T, values: &[T]) -> Result<(), LineFault> {
     for high in values {
         out.write(&[sign(low, high)])?;
@@ -20,7 +20,7 @@ fn append_row<T: Ord>(out: &mut Answer, low: &T, values: &[T]) -> Result<(), Lin
     Ok(())
 }
 
-/// Writes for each value a word of `<`, `=` and `>`: how it stands to each of them.
+/// Writes a word of `<`, `=` and `>` for each value: how it compares to each of them.
 pub fn append_signs<T: Ord>(out: &mut Answer, values: &[T]) -> Result<(), LineFault> {
     for low in values {
         out.part(b" ")?;

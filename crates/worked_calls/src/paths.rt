@@ -6,7 +6,7 @@ use plain_values::Bytes;
 use std::alloc::{AllocError, Global};
 use worked_lines::{Answer, LineFault, Words, each_of, match_word, text_of};
 
-/// Writes what a call on paths answers.
+/// Writes the answer to a call on paths.
 pub fn answer(words: &mut Words, out: &mut Answer) -> Result<(), LineFault> {
     let call = words.word()?;
     match_word!(call;
@@ -18,7 +18,7 @@ pub fn answer(words: &mut Words, out: &mut Answer) -> Result<(), LineFault> {
     )
 }
 
-// What a call answers of one path.
+// The answer to a call on one path.
 fn of_path(call: &[u8], path: &Path, out: &mut Answer) -> Result<(), LineFault> {
     match_word!(call;
         b"parts" => append_parts(out, path),
@@ -27,7 +27,7 @@ fn of_path(call: &[u8], path: &Path, out: &mut Answer) -> Result<(), LineFault> 
     )
 }
 
-// The path that a text writes, or its fault.
+// The path that a text writes, or why it isn't one.
 fn parse(words: &mut Words, out: &mut Answer) -> Result<(), LineFault> {
     match Path::parse(words.alloc, &words.text()?) {
         Ok(path) => out.write_path(&path),
@@ -39,7 +39,7 @@ fn parse(words: &mut Words, out: &mut Answer) -> Result<(), LineFault> {
 // Writes a path's rank, directory, folder and name.
 fn append_parts(out: &mut Answer, path: &Path) -> Result<(), LineFault> {
     out.print(&path.rank())?;
-    out.spell_marked(&[
+    out.spell_quoted(&[
         (b' ', path.dir()),
         (b' ', path.folder()),
         (b' ', path.name()),
@@ -63,7 +63,7 @@ fn all_bytes(words: &mut Words) -> Result<Vec<Bytes>, LineFault> {
     each_of(words.alloc, &words.list()?, bytes_of)
 }
 
-// Bytes as a copy, as a vector that is taken over, and as a clone.
+// Bytes as a copy, as a vector that is moved, and as a clone.
 fn bytes(words: &mut Words, out: &mut Answer) -> Result<(), LineFault> {
     let text = words.text()?;
     out.spell(Bytes::from_slice(words.alloc, &text)?.as_slice())?;
@@ -73,5 +73,5 @@ fn bytes(words: &mut Words, out: &mut Answer) -> Result<(), LineFault> {
 // Writes bytes and a clone of them.
 fn append_taken(out: &mut Answer, whole: &Bytes) -> Result<(), LineFault> {
     let copy = whole.try_clone()?;
-    out.spell_marked(&[(b' ', whole.as_slice()), (b' ', copy.as_slice())])
+    out.spell_quoted(&[(b' ', whole.as_slice()), (b' ', copy.as_slice())])
 }

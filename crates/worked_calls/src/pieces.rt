@@ -6,7 +6,7 @@ use join_law::Rest;
 use replica_store::Replica;
 use worked_lines::{Answer, LineFault, Words, match_word};
 
-/// Writes what a call on pieces answers.
+/// Writes the answer to a call on pieces.
 pub fn answer(words: &mut Words, out: &mut Answer) -> Result<(), LineFault> {
     match_word!(words.word()?;
         b"of" => append_piece(out, &piece(words)?),
@@ -21,7 +21,7 @@ pub fn answer(words: &mut Words, out: &mut Answer) -> Result<(), LineFault> {
     )
 }
 
-/// Writes what a call on digests answers.
+/// Writes the answer to a call on digests.
 pub fn answer_digest(words: &mut Words, out: &mut Answer) -> Result<(), LineFault> {
     match_word!(words.word()?;
         b"of" => append_digest(out, &asked(words)?),
@@ -31,19 +31,19 @@ pub fn answer_digest(words: &mut Words, out: &mut Answer) -> Result<(), LineFaul
     )
 }
 
-/// The piece of edits that words write, up to the word `+` or to the end.
+/// Returns the piece of the edits that words write, up to the word `+` or to the end.
 pub fn piece(words: &mut Words) -> Result<Piece, LineFault> {
     Ok(Piece::from_edits(words.alloc, &words.edits()?)?)
 }
 
-/// A replica that took the piece of edits that words write.
+/// Returns a replica that took the piece of the edits that words write.
 pub fn holder(words: &mut Words) -> Result<Replica, LineFault> {
     let mut replica = Replica::new(words.alloc, 9);
     take(&mut replica, piece(words)?)?;
     Ok(replica)
 }
 
-// The digest of a replica that took the piece of edits that words write.
+// The digest of a replica that took the piece of the edits that words write.
 fn asked(words: &mut Words) -> Result<Digest, LineFault> {
     Ok(digest(words.alloc, &holder(words)?)?)
 }
@@ -58,7 +58,8 @@ fn append_piece(out: &mut Answer, piece: &Piece) -> Result<(), LineFault> {
     append_store(out, piece.store())
 }
 
-/// The two parts of a piece; where they are refused memory, those of the piece that comes back, which is written too.
+/// Writes the two parts of a piece. If splitting runs out of memory, it writes the piece that comes back to `between`,
+/// and splits that.
 pub fn split(words: &mut Words, out: &mut Answer, between: &mut Answer) -> Result<(), LineFault> {
     let at = words.index()?;
     let (first, second) = match piece(words)?.split(at) {

@@ -5,7 +5,7 @@ use replica_store::{HostFault, HostName, Place, PlaceFault};
 use std::alloc::{AllocError, Global};
 use worked_lines::{Answer, LineFault, Words, each_of, match_word, text_of};
 
-/// Writes what a call on hosts or places answers.
+/// Writes the answer to a call on hosts or places.
 pub fn answer(words: &mut Words, out: &mut Answer) -> Result<(), LineFault> {
     let call = words.word()?;
     match_word!(call;
@@ -17,7 +17,7 @@ pub fn answer(words: &mut Words, out: &mut Answer) -> Result<(), LineFault> {
     )
 }
 
-// What a call answers of one place.
+// The answer to a call on one place.
 fn of_place(call: &[u8], place: &Place, out: &mut Answer) -> Result<(), LineFault> {
     match_word!(call;
         b"text" => append_text(out, place),
@@ -25,7 +25,7 @@ fn of_place(call: &[u8], place: &Place, out: &mut Answer) -> Result<(), LineFaul
     )
 }
 
-// The name of a clone of a host, or the host's fault.
+// The name of a clone of a host, or why there is no host.
 fn host(words: &mut Words, out: &mut Answer) -> Result<(), LineFault> {
     match HostName::parse(words.alloc, &words.text()?) {
         Ok(host) => out.write(host.try_clone()?.bytes()),
@@ -39,7 +39,7 @@ fn host_of(alloc: Global, word: &[u8]) -> Result<HostName, LineFault> {
     Ok(HostName::parse(alloc, &text_of(alloc, word)?)?)
 }
 
-// The place that a text writes, or its fault.
+// The place that a text writes, or why it isn't one.
 fn parse(words: &mut Words, out: &mut Answer) -> Result<(), LineFault> {
     match Place::parse(words.alloc, &words.text()?) {
         Ok(place) => out.write_place(&place),

@@ -5,7 +5,7 @@ use replica_store::{EditFault, Replica, Version};
 use std::alloc::AllocError;
 use worked_lines::{Answer, LineFault, Words, match_word, placed_of};
 
-/// Writes what a call on replicas answers.
+/// Writes the answer to a call on replicas.
 pub fn answer(words: &mut Words, out: &mut Answer) -> Result<(), LineFault> {
     let call = words.word()?;
     let writer = words.writer()?;
@@ -19,7 +19,7 @@ pub fn answer(words: &mut Words, out: &mut Answer) -> Result<(), LineFault> {
     )
 }
 
-/// A replica that holds the edits that words write; where there are none, a new one.
+/// Returns a replica that holds the edits that words write; if there are none, a new one.
 pub fn replica(writer: u32, words: &mut Words) -> Result<Replica, LineFault> {
     if words.is_over() {
         return Ok(Replica::new(words.alloc, writer));
@@ -27,7 +27,7 @@ pub fn replica(writer: u32, words: &mut Words) -> Result<Replica, LineFault> {
     Ok(Replica::from_store(writer, words.store()?))
 }
 
-// Writes a replica's writer, its greatest counter, and what it holds, which it gives out.
+// Writes a replica's writer, its greatest counter, and what it holds. Consumes the replica.
 fn append_whole(out: &mut Answer, replica: Replica) -> Result<(), LineFault> {
     let writer = replica.writer();
     let high = replica.high();
@@ -35,7 +35,7 @@ fn append_whole(out: &mut Answer, replica: Replica) -> Result<(), LineFault> {
     append_store(out, &replica.into_store())
 }
 
-// Writes the version of an edit and what the replica then holds, or why it was refused.
+// Writes the version of an edit and what the replica then holds, or why the edit was refused.
 fn append_edited(
     out: &mut Answer,
     version: Result<Version, EditFault>,
@@ -52,8 +52,8 @@ fn append_edited(
     }
 }
 
-/// A replica that puts a content at a path, twice where the first time is refused memory; what it holds between is
-/// written too.
+/// A replica that puts a content at a path, twice if memory runs out the first time; then what it holds between the two
+/// is written to `between`.
 pub fn put(
     writer: u32,
     words: &mut Words,
@@ -70,8 +70,8 @@ pub fn put(
     append_edited(out, version, &replica)
 }
 
-/// A replica that removes what is visible at a place, twice where the first time is refused memory; what it holds between
-/// is written too.
+/// A replica that removes what is visible at a place, twice if memory runs out the first time; then what it holds
+/// between the two is written to `between`.
 pub fn removed(
     writer: u32,
     words: &mut Words,
@@ -95,7 +95,7 @@ fn merged(writer: u32, words: &mut Words, out: &mut Answer) -> Result<(), LineFa
     append_changed(out, count, replica.store())
 }
 
-// A replica that takes a store.
+// A replica that absorbs a store.
 fn absorbed(writer: u32, words: &mut Words, out: &mut Answer) -> Result<(), LineFault> {
     let mut replica = replica(writer, words)?;
     let count = replica.absorb(words.store()?)?;

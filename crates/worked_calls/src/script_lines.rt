@@ -4,7 +4,7 @@ use script_words::{
 };
 use worked_lines::{Answer, LineFault, Words, match_word};
 
-/// Writes what a call on lines answers.
+/// Writes the answer to a call on lines.
 pub fn answer(words: &mut Words, out: &mut Answer) -> Result<(), LineFault> {
     match_word!(words.word()?;
         b"lines" => lines(&words.text()?, out),
@@ -13,7 +13,7 @@ pub fn answer(words: &mut Words, out: &mut Answer) -> Result<(), LineFault> {
         b"number" => number(&words.text()?, out),
         b"name" => out.either(is_name(&words.text()?), b"yes", b"no"),
         b"text" => out.spell_found(unescape(words.alloc, &words.text()?)?),
-        b"text_behind" => text_behind(words, out),
+        b"text_behind" => text_after(words, out),
     )
 }
 
@@ -40,8 +40,8 @@ fn parts(line: &[u8], out: &mut Answer) -> Result<(), LineFault> {
     out.or(b"none")
 }
 
-// The text behind some words of a line.
-fn text_behind(words: &mut Words, out: &mut Answer) -> Result<(), LineFault> {
+// The text after some words of a line.
+fn text_after(words: &mut Words, out: &mut Answer) -> Result<(), LineFault> {
     let count = words.number()?;
     let line = words.text()?;
     let mut rest = line.as_slice();

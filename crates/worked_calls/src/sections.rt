@@ -1,24 +1,24 @@
 //! Calls on the sections of unit files.
 //!
-//! An assignment is told as `LINE:SECTION.KEY=VALUE`, and a note as `LINE:` and its words.
+//! An assignment is written as `LINE:SECTION.KEY=VALUE`, and a note as `LINE:` and its words.
 use plain_values::TryClone;
 use section_reader::{Assignment, Sections, read};
 use std::alloc::{AllocError, Global};
 use std::fmt::Display;
 use worked_lines::{Answer, LineFault, Words, match_word, text_of};
 
-/// Writes what a call on sections answers.
+/// Writes the answer to a call on sections.
 pub fn answer(words: &mut Words, out: &mut Answer) -> Result<(), LineFault> {
     let call = words.word()?;
     match_word!(call;
         b"long" => long(words, out),
         b"compare" => compare(words, out),
-        _ => told(call, &read_next(words)?, out),
+        _ => returned(call, &read_next(words)?, out),
     )
 }
 
-// What a call answers of one file.
-fn told(call: &[u8], sections: &Sections, out: &mut Answer) -> Result<(), LineFault> {
+// The answer to a call on one file.
+fn returned(call: &[u8], sections: &Sections, out: &mut Answer) -> Result<(), LineFault> {
     match_word!(call;
         b"read" => append_sections(out, sections),
         b"codes" => append_codes(out, sections),
@@ -26,12 +26,12 @@ fn told(call: &[u8], sections: &Sections, out: &mut Answer) -> Result<(), LineFa
     )
 }
 
-/// What the file says that a word spells.
+/// Returns the sections of the file that a word spells.
 pub fn read_word(alloc: Global, word: &[u8]) -> Result<Sections, LineFault> {
     Ok(read(alloc, &text_of(alloc, word)?)?)
 }
 
-// What the file says that the next word spells.
+// The sections of the file that the next word spells.
 fn read_next(words: &mut Words) -> Result<Sections, LineFault> {
     read_word(words.alloc, words.word()?)
 }
@@ -40,14 +40,14 @@ fn read_next(words: &mut Words) -> Result<Sections, LineFault> {
 fn append_item(out: &mut Answer, item: &Assignment) -> Result<(), LineFault> {
     out.part(b" ")?;
     out.print(&item.line)?;
-    out.spell_marked(&[
+    out.spell_quoted(&[
         (b':', item.section.as_slice()),
         (b'.', item.key.as_slice()),
         (b'=', item.value.as_slice()),
     ])
 }
 
-// Writes what is noted of a line.
+// Writes a note on a line.
 fn append_note<T: Display>(out: &mut Answer, line: usize, noted: &T) -> Result<(), LineFault> {
     out.part(b" ")?;
     out.print(&line)?;
@@ -55,7 +55,7 @@ fn append_note<T: Display>(out: &mut Answer, line: usize, noted: &T) -> Result<(
     out.print(noted)
 }
 
-// Writes what a file says: its assignments, and then its notes.
+// Writes the sections of a file: its assignments, and then its notes.
 fn append_sections(out: &mut Answer, sections: &Sections) -> Result<(), LineFault> {
     for item in sections.items.as_slice() {
         append_item(out, item)?;
@@ -81,7 +81,7 @@ fn file_with(alloc: Global, value: &[u8]) -> Result<Vec<u8>, AllocError> {
     Ok(file)
 }
 
-// Whether what a file says is one assignment of this value.
+// Whether the sections of a file are one assignment of this value.
 fn is_read(sections: &Sections, value: &[u8]) -> bool {
     match sections.items.as_slice() {
         [item] => item.value.as_slice() == value,
@@ -89,7 +89,7 @@ fn is_read(sections: &Sections, value: &[u8]) -> bool {
     }
 }
 
-// Whether a file with one value of so many bytes is read as that value alone.
+// Whether a file with one value of this many bytes is read as that value alone.
 fn long(words: &mut Words, out: &mut Answer) -> Result<(), LineFault> {
     let count = words.index()?;
     let value = vec![in words.alloc; b'v'; count]?;
@@ -97,7 +97,7 @@ fn long(words: &mut Words, out: &mut Answer) -> Result<(), LineFault> {
     out.either(is_read(&sections, &value), b"same", b"other")
 }
 
-// Whether clones of all assignments are the same as these.
+// Whether clones of all assignments are the same as the assignments.
 fn are_items_same(sections: &Sections) -> Result<bool, AllocError> {
     let mut are_same = sections.items.try_clone()? == sections.items;
     for item in sections.items.as_slice() {
@@ -106,7 +106,7 @@ fn are_items_same(sections: &Sections) -> Result<bool, AllocError> {
     Ok(are_same)
 }
 
-// Writes whether all, the assignments and the notes are the same.
+// Writes whether the whole, the assignments and the notes are the same.
 fn append_verdict(
     out: &mut Answer,
     is_same: bool,
@@ -118,7 +118,7 @@ fn append_verdict(
     out.either(are_notes_same, b" notes same", b" notes other")
 }
 
-// Writes a clone of what a file says, and whether it and clones of the parts are the same.
+// Writes a clone of a file's sections, and whether it and clones of its parts are the same.
 fn append_clone(out: &mut Answer, sections: &Sections) -> Result<(), LineFault> {
     let copy = sections.try_clone()?;
     let are_items = are_items_same(sections)?;
@@ -128,7 +128,7 @@ fn append_clone(out: &mut Answer, sections: &Sections) -> Result<(), LineFault> 
     append_verdict(out, copy == *sections, are_items, are_notes)
 }
 
-// Whether two files say the same, and whether a part of it is.
+// Whether two files have the same sections, and whether their parts are the same.
 fn compare(words: &mut Words, out: &mut Answer) -> Result<(), LineFault> {
     let x = read_next(words)?;
     let y = read_next(words)?;

@@ -1,7 +1,7 @@
-//! Calls on settings: the text of a unit's files, and the unit's name where a call takes one.
+//! Calls on settings: the texts of a unit's files, and the unit's name if a call takes one.
 //!
-//! A value is told as `SECTION.KEY=VALUE`, a key with its values as `SECTION.KEY=` and these, a list of dependencies as its
-//! kind and `:` and the names, and a note as its code and `SECTION.KEY`.
+//! A value is written as `SECTION.KEY=VALUE`, a key with its values as `SECTION.KEY=` and these, a list of dependencies
+//! as its kind and `:` and the names, and a note as its code and `SECTION.KEY`.
 use crate::edits::append_names;
 use crate::sections::read_word;
 use plain_values::{Bytes, Items};
@@ -13,19 +13,19 @@ use setting_rules::{
 use unit_name::UnitName;
 use worked_lines::{Answer, LineFault, Words, match_word};
 
-/// Writes what a call on settings answers.
+/// Writes the answer to a call on settings.
 pub fn answer(words: &mut Words, out: &mut Answer) -> Result<(), LineFault> {
     let call = words.word()?;
     match_word!(call;
         b"kinds" => append_kinds(out),
         b"key" => append_kind_of(out, &words.text()?),
-        b"for" => told_name(words, out),
+        b"for" => returned_name(words, out),
         b"apply" | b"manual" => of_files(call, &settings(words)?, out),
-        _ => told(call, words, out),
+        _ => returned(call, words, out),
     )
 }
 
-// What a call answers of files alone.
+// The answer to a call on files alone.
 fn of_files(call: &[u8], settings: &Settings, out: &mut Answer) -> Result<(), LineFault> {
     match_word!(call;
         b"apply" => append_settings(out, settings),
@@ -33,13 +33,13 @@ fn of_files(call: &[u8], settings: &Settings, out: &mut Answer) -> Result<(), Li
     )
 }
 
-// What a call answers of a unit and its files.
-fn told(call: &[u8], words: &mut Words, out: &mut Answer) -> Result<(), LineFault> {
+// The answer to a call on a unit and its files.
+fn returned(call: &[u8], words: &mut Words, out: &mut Answer) -> Result<(), LineFault> {
     let unit = words.name()?;
     of_unit(call, &unit, &settings(words)?, out)
 }
 
-// What a call answers of a unit and what its files come to.
+// The answer to a call on a unit and the effective settings of its files.
 fn of_unit(
     call: &[u8],
     unit: &UnitName,
@@ -61,20 +61,20 @@ fn assignments(words: &mut Words) -> Result<Items<Assignment>, LineFault> {
     Ok(all)
 }
 
-// What the files that a list of words spells come to.
+// The effective settings of the files that a list of words spells.
 fn settings(words: &mut Words) -> Result<Settings, LineFault> {
     let assignments = assignments(words)?;
     Ok(apply(words.alloc, assignments.as_slice())?)
 }
 
-// Writes a key of a section, behind a space if something stands there.
+// Writes a key of a section, after a space unless nothing is written yet.
 fn append_key(out: &mut Answer, section: &Bytes, key: &Bytes) -> Result<(), LineFault> {
     out.part(b" ")?;
     out.spell(section.as_slice())?;
-    out.spell_marked(&[(b'.', key.as_slice())])
+    out.spell_quoted(&[(b'.', key.as_slice())])
 }
 
-// Writes notes, or a word for nothing where nothing stands.
+// Writes notes, or `nothing` if nothing is written at all.
 fn append_notes(out: &mut Answer, notes: &[SettingNote]) -> Result<(), LineFault> {
     for note in notes {
         out.part(b" ")?;
@@ -113,12 +113,12 @@ fn append_settings(out: &mut Answer, settings: &Settings) -> Result<(), LineFaul
 fn append_values(out: &mut Answer, values: &Values) -> Result<(), LineFault> {
     for row in values.rows.as_slice() {
         append_key(out, &row.section, &row.key)?;
-        out.spell_marked(&[(b'=', row.value.as_slice())])?;
+        out.spell_quoted(&[(b'=', row.value.as_slice())])?;
     }
     append_notes(out, values.notes.as_slice())
 }
 
-// Writes those lists of dependencies that aren't empty, and the notes.
+// Writes the lists of dependencies that aren't empty, and the notes.
 fn append_dependencies(out: &mut Answer, all: &Dependencies) -> Result<(), LineFault> {
     for list in all.lists.as_slice() {
         if !list.names.as_slice().is_empty() {
@@ -151,7 +151,7 @@ fn append_kind_of(out: &mut Answer, key: &[u8]) -> Result<(), LineFault> {
 }
 
 // The unit that a unit means by a name.
-fn told_name(words: &mut Words, out: &mut Answer) -> Result<(), LineFault> {
+fn returned_name(words: &mut Words, out: &mut Answer) -> Result<(), LineFault> {
     let unit = words.name()?;
     let name = words.name()?;
     out.spell_name(for_unit(&unit, name)?)

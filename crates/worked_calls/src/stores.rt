@@ -1,13 +1,13 @@
-//! Calls on stores. Those on what is seen may be made for a host.
+//! Calls on stores. Calls on what is seen may be made for a host.
 //!
 //! A level is written as the rank of the fleet's directory, or as `own:` and the rank of the host's own.
 use crate::edits::{
-    append_all_seen, append_content, append_places, append_seen, append_store, append_version,
+    append_all_viewed, append_content, append_places, append_store, append_version, append_viewed,
 };
-use replica_store::{Content, Entry, HostName, Seen, SeenEntry, Store};
+use replica_store::{Content, Entry, HostName, HostView, HostViewEntry, Store};
 use worked_lines::{Answer, LineFault, Words, asked_of, byte_of, cut_at, edit_of, match_word};
 
-/// Writes what a call on stores answers.
+/// Writes the answer to a call on stores.
 pub fn answer(words: &mut Words, out: &mut Answer) -> Result<(), LineFault> {
     let call = words.word()?;
     match_word!(call;
@@ -18,14 +18,19 @@ pub fn answer(words: &mut Words, out: &mut Answer) -> Result<(), LineFault> {
         b"get" | b"visible" => at_place(call, words, out),
         b"folder" => of_folder(words, out),
         b"of" | b"copy" | b"same" | b"changed" | b"high" | b"len" | b"list" => {
-            told(call, &words.store()?, words, out)
+            returned(call, &words.store()?, words, out)
         },
-        _ => of_seen(call, words, out),
+        _ => of_viewed(call, words, out),
     )
 }
 
-// What a call answers of a whole store, or of two.
-fn told(call: &[u8], first: &Store, words: &mut Words, out: &mut Answer) -> Result<(), LineFault> {
+// The answer to a call on a whole store, or on two.
+fn returned(
+    call: &[u8],
+    first: &Store,
+    words: &mut Words,
+    out: &mut Answer,
+) -> Result<(), LineFault> {
     match_word!(call;
         b"of" => append_store(out, first),
         b"copy" => append_store(out, &first.try_clone()?),
@@ -45,7 +50,7 @@ fn joined(words: &mut Words, out: &mut Answer) -> Result<(), LineFault> {
     append_store(out, &store)
 }
 
-/// Writes how many paths changed, and what a store then has, with its greatest counter.
+/// Writes how many paths changed, and what a store then holds, with its greatest counter.
 pub fn append_changed(out: &mut Answer, count: u64, store: &Store) -> Result<(), LineFault> {
     out.print(&count)?;
     out.write(b" changed, high ")?;
@@ -61,14 +66,14 @@ fn merged(words: &mut Words, out: &mut Answer) -> Result<(), LineFault> {
     append_changed(out, count, &first)
 }
 
-// A store that takes another.
+// A store that absorbs another.
 fn absorbed(words: &mut Words, out: &mut Answer) -> Result<(), LineFault> {
     let mut first = words.store()?;
     let count = first.absorb(words.store()?)?;
     append_changed(out, count, &first)
 }
 
-// Writes how many places a store holds, and in how many scopes they stand.
+// Writes how many places a store holds, and in how many scopes they are.
 fn append_sizes(out: &mut Answer, store: &Store) -> Result<(), LineFault> {
     out.print(&store.len())?;
     out.write(b" in ")?;
@@ -102,21 +107,25 @@ fn at_place(call: &[u8], words: &mut Words, out: &mut Answer) -> Result<(), Line
     )
 }
 
-// What a call answers of what a host sees of a store, or of what is seen without one.
-fn of_seen(word: &[u8], words: &mut Words, out: &mut Answer) -> Result<(), LineFault> {
+// The answer to a call on what a host sees of a store, or on what the fleet sees.
+fn of_viewed(word: &[u8], words: &mut Words, out: &mut Answer) -> Result<(), LineFault> {
     let (call, host) = asked_of(words.alloc, word)?;
     match_word!(call;
-        b"seen" => seen_at(host.as_ref(), words, out),
+        b"seen" => viewed_at(host.as_ref(), words, out),
         b"entries_in" => in_folder(host.as_ref(), words, out),
         b"entry_at" => at_parts(host.as_ref(), words, out),
     )
 }
 
 // What is seen at a place.
-fn seen_at(host: Option<&HostName>, words: &mut Words, out: &mut Answer) -> Result<(), LineFault> {
+fn viewed_at(
+    host: Option<&HostName>,
+    words: &mut Words,
+    out: &mut Answer,
+) -> Result<(), LineFault> {
     let place = words.place()?;
     let store = words.store()?;
-    append_visible(out, store.seen_by(host).visible(&place))
+    append_visible(out, store.host_view(host).visible(&place))
 }
 
 // The level that a word writes.
@@ -136,8 +145,8 @@ fn in_folder(
     let level = level_of(words.word()?)?;
     let folder = words.text()?;
     let store = words.store()?;
-    let seen = store.seen_by(host);
-    append_all_seen(out, &seen, seen.entries_in(level, &folder))
+    let view = store.host_view(host);
+    append_all_viewed(out, &view, view.entries_in(level, &folder))
 }
 
 // The places of a folder of a scope.
@@ -154,15 +163,19 @@ fn at_parts(host: Option<&HostName>, words: &mut Words, out: &mut Answer) -> Res
     let folder = words.text()?;
     let name = words.text()?;
     let store = words.store()?;
-    let seen = store.seen_by(host);
-    append_held(out, &seen, seen.entry_at(level, &folder, &name))
+    let view = store.host_view(host);
+    append_held(out, &view, view.entry_at(level, &folder, &name))
 }
 
-// Writes an entry behind the name of its path, or that there is none.
-fn append_held(out: &mut Answer, seen: &Seen, held: Option<SeenEntry>) -> Result<(), LineFault> {
+// Writes an entry after the name of its path, or that there is none.
+fn append_held(
+    out: &mut Answer,
+    view: &HostView,
+    held: Option<HostViewEntry>,
+) -> Result<(), LineFault> {
     let Some(placed) = held else {
         return out.write(b"nothing");
     };
     out.write(placed.name().as_slice())?;
-    append_seen(out, seen, &placed)
+    append_viewed(out, view, &placed)
 }

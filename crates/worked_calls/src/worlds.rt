@@ -1,7 +1,7 @@
 //! Calls on worlds: exchanges, sweeps, and runs of events.
 //!
-//! An event is a node's number and `!EDIT` for a put, `?` for an ask, `/ASK` for a cut, with `@PATH,PATH` behind it for
-//! a cut at some paths; and a piece's number and `>NODE` for a gift.
+//! An event is a node's number followed by `!EDIT` for a put, `?` for an ask, and `/ASK` for a cut, then `@PATH,PATH`
+//! for a cut at some paths. A give is a piece's number followed by `>NODE`.
 use crate::edits::append_store;
 use crate::replicas::replica;
 use delta_gossip::{Event, Places, World, exchange, run_world, sweep};
@@ -12,7 +12,7 @@ use worked_lines::{
     writer_of,
 };
 
-/// Writes what a call on worlds answers.
+/// Writes the answer to a call on worlds.
 pub fn answer(words: &mut Words, out: &mut Answer) -> Result<(), LineFault> {
     match_word!(words.word()?;
         b"exchange" => exchanged(words, out),
@@ -44,7 +44,7 @@ fn replicas(words: &mut Words) -> Result<Vec<Replica>, LineFault> {
     Ok(replicas)
 }
 
-/// Replicas after a sweep, which is made twice where the first is refused memory; what they hold between is written too.
+/// Writes replicas after a sweep. If memory runs out, it writes them to `between` and sweeps again.
 pub fn swept(words: &mut Words, out: &mut Answer, between: &mut Answer) -> Result<(), LineFault> {
     let mut replicas = replicas(words)?;
     if sweep(&mut replicas).is_err() {
@@ -54,7 +54,7 @@ pub fn swept(words: &mut Words, out: &mut Answer, between: &mut Answer) -> Resul
     append_replicas(out, &replicas)
 }
 
-// Writes what a replica holds, behind its writer.
+// Writes what a replica holds, after its writer.
 fn append_replica(out: &mut Answer, replica: &Replica) -> Result<(), LineFault> {
     out.print(&replica.writer())?;
     out.write(b" has")?;
@@ -79,7 +79,7 @@ fn append_replicas(out: &mut Answer, replicas: &[Replica]) -> Result<(), LineFau
     Ok(())
 }
 
-// The world of the writers of the next word, after the events of the words behind it.
+// The world of the writers in the next word, after the events of the following words.
 fn run(words: &mut Words, out: &mut Answer) -> Result<(), LineFault> {
     let parts = parts_of(words.alloc, words.word()?)?;
     let writers = each_of(words.alloc, &parts, |_, part| writer_of(part))?;
@@ -120,7 +120,7 @@ fn event(alloc: Global, word: &[u8]) -> Result<Event, LineFault> {
     }
 }
 
-// A node cuts for the ask of a word, at the places behind it or at all.
+// A node cuts for the ask in a word, at the places that follow it or at all.
 fn cut(alloc: Global, node: usize, word: &[u8]) -> Result<Event, LineFault> {
     let Some((ask, names)) = cut_at(word, b'@') else {
         let ask = index_of(word)?;

@@ -4,9 +4,9 @@ use replica_store::Place;
 use std::alloc::{AllocError, Global};
 use worked_lines::{Answer, LineFault, text_of};
 
-/// What a text writes in full.
+/// A value that a text writes in full.
 pub trait Written: Sized + Drop {
-    /// What this text writes.
+    /// Returns the value that this text writes.
     fn read(alloc: Global, text: &[u8]) -> Result<Self, LineFault>;
 
     /// Appends its text.
@@ -33,12 +33,12 @@ impl Written for Place {
     }
 }
 
-/// What a word spells in full.
+/// Returns the value that a word spells in full.
 pub fn full_of<T: Written>(alloc: Global, word: &[u8]) -> Result<T, LineFault> {
     T::read(alloc, &text_of(alloc, word)?)
 }
 
-/// Writes a text in full, behind what stands there.
+/// Writes a value's text in full, after `> `.
 pub fn append_text<T: Written>(out: &mut Answer, it: &T) -> Result<(), LineFault> {
     out.write(b"> ")?;
     Ok(it.write_to(&mut out.bytes)?)

@@ -1,4 +1,4 @@
-//! The answer of a call.
+//! The answer to a call.
 use crate::faults::LineFault;
 use load_path::Path;
 use replica_store::{Place, Scope};
@@ -6,17 +6,17 @@ use std::alloc::Global;
 use std::fmt::Display;
 use unit_name::UnitName;
 
-/// The answer of a call, as far as it is written.
+/// The answer to a call, as far as it is written.
 #[derive(Drop)]
 pub struct Answer {
-    /// Where its memory is from.
+    /// The allocator of its memory.
     pub alloc: Global,
     /// What is written.
     pub bytes: Vec<u8>,
 }
 
 impl Answer {
-    /// Nothing yet.
+    /// Returns an empty answer.
     pub fn new(alloc: Global) -> Self {
         Answer {
             alloc,
@@ -24,7 +24,7 @@ impl Answer {
         }
     }
 
-    /// Whether nothing stands there.
+    /// Whether nothing is written yet.
     pub fn is_empty(&self) -> bool {
         self.bytes.is_empty()
     }
@@ -34,29 +34,29 @@ impl Answer {
         Ok(self.bytes.extend_from_slice(bytes)?)
     }
 
-    /// Writes what a value prints.
+    /// Writes a value as it is displayed.
     pub fn print<T: Display>(&mut self, value: &T) -> Result<(), LineFault> {
         self.write(format!(in self.alloc; "{value}")?.as_bytes())
     }
 
-    /// Writes one text where it is so, and else another.
+    /// Writes `so` if `is_so`, and `other` otherwise.
     pub fn either(&mut self, is_so: bool, so: &[u8], other: &[u8]) -> Result<(), LineFault> {
         self.write(if is_so { so } else { other })
     }
 
-    /// Writes what parts two things, if something stands there.
+    /// Writes a separator, unless nothing is written yet.
     pub fn part(&mut self, between: &[u8]) -> Result<(), LineFault> {
         let is_empty = self.is_empty();
         self.either(is_empty, b"", between)
     }
 
-    /// Writes bytes in a line of their own, below those that stand there.
+    /// Writes bytes on a line of their own, below what is written already.
     pub fn line(&mut self, bytes: &[u8]) -> Result<(), LineFault> {
         self.part(b"\n  ")?;
         self.write(bytes)
     }
 
-    /// Writes names, each behind a space.
+    /// Writes names, each after a space.
     pub fn names(&mut self, names: &[UnitName]) -> Result<(), LineFault> {
         for name in names {
             self.write(b" ")?;
@@ -65,13 +65,14 @@ impl Answer {
         Ok(())
     }
 
-    /// Writes a word, if nothing stands there.
+    /// Writes a word if nothing is written yet.
     pub fn or(&mut self, word: &[u8]) -> Result<(), LineFault> {
         let is_empty = self.is_empty();
         self.either(is_empty, word, b"")
     }
 
-    /// Writes bytes as texts are spelled: a backslash, a space, and what isn't printed, as `\xHH`.
+    /// Writes bytes in the spelling of texts: a newline as `\n`, a tab as `\t`, a backslash as `\\`, a space and what
+    /// isn't printable as `\xHH`, and the empty text as `''`.
     pub fn spell(&mut self, bytes: &[u8]) -> Result<(), LineFault> {
         if bytes.is_empty() {
             return self.write(b"''");
@@ -82,7 +83,7 @@ impl Answer {
         Ok(())
     }
 
-    // Writes one byte as texts are spelled.
+    // Writes one byte in the spelling of texts.
     fn spell_byte(&mut self, byte: u8) -> Result<(), LineFault> {
         match byte {
             b'\n' => self.write(b"\\n"),
@@ -93,8 +94,8 @@ impl Answer {
         }
     }
 
-    /// Writes texts as they are spelled, each behind its mark.
-    pub fn spell_marked(&mut self, texts: &[(u8, &[u8])]) -> Result<(), LineFault> {
+    /// Writes texts in their spelling, each after its mark.
+    pub fn spell_quoted(&mut self, texts: &[(u8, &[u8])]) -> Result<(), LineFault> {
         for text in texts {
             self.write(&[text.0])?;
             self.spell(text.1)?;
@@ -102,7 +103,7 @@ impl Answer {
         Ok(())
     }
 
-    /// Writes a text as it is spelled, if there is one.
+    /// Writes a text in its spelling, or `none`.
     pub fn spell_found(&mut self, text: Option<Vec<u8>>) -> Result<(), LineFault> {
         match text {
             Some(text) => self.spell(&text),
@@ -110,7 +111,7 @@ impl Answer {
         }
     }
 
-    /// Writes a name, if there is one.
+    /// Writes a name, or `none`.
     pub fn spell_name(&mut self, name: Option<UnitName>) -> Result<(), LineFault> {
         match name {
             Some(name) => self.spell(name.bytes()),
@@ -118,7 +119,7 @@ impl Answer {
         }
     }
 
-    /// Writes a place: its path, behind its host and a colon where it has a host.
+    /// Writes a place: its path, after its host and a colon if it has a host.
     pub fn write_place(&mut self, place: &Place) -> Result<(), LineFault> {
         if let Scope::Host(host) = &place.scope {
             self.write(host.bytes())?;
@@ -127,7 +128,7 @@ impl Answer {
         self.write_path(&place.path)
     }
 
-    /// Writes a path, its directory as `E`, `R`, `L` or `U`.
+    /// Writes a path, with its directory as `E`, `R`, `L` or `U`.
     pub fn write_path(&mut self, path: &Path) -> Result<(), LineFault> {
         self.write(match path.rank() {
             0 => b"E/",

@@ -1,14 +1,14 @@
-//! Edits in words.
+//! Edits as words.
 //!
-//! An edit is `COUNTER.WRITER:PLACE` for a removal, with `=TEXT` behind it for a file and with `>TARGET` for a link. In a
-//! list of edits the version may be left out: each that has none is then later than those before it.
+//! An edit is `COUNTER.WRITER:PLACE` for a removal, followed by `=TEXT` for a file and by `>TARGET` for a link. In a
+//! list of edits the version may be left out: such an edit is later than those before it.
 use crate::faults::LineFault;
 use crate::spelled::{cut_at, file_of, link_of, number_of, place_of, writer_of};
 use edit_sums::Content;
 use replica_store::{Edit, Place, Version};
 use std::alloc::Global;
 
-/// The version that a word writes.
+/// Returns the version that a word writes.
 pub fn version_of(word: &[u8]) -> Result<Version, LineFault> {
     let (counter, writer) = cut_at(word, b'.').ok_or(LineFault::Words)?;
     let writer = writer_of(writer)?;
@@ -27,13 +27,13 @@ fn cut_content(alloc: Global, word: &[u8]) -> Result<(&[u8], Content), LineFault
     Ok((word, Content::gone()))
 }
 
-/// The place and the content that a word writes.
+/// Returns the place and the content that a word writes.
 pub fn placed_of(alloc: Global, word: &[u8]) -> Result<(Place, Content), LineFault> {
     let (place, content) = cut_content(alloc, word)?;
     Ok((place_of(alloc, place)?, content))
 }
 
-// The edit of a version whose place and content a word writes.
+// The edit with this version, whose place and content a word writes.
 fn edit_at(alloc: Global, version: Version, word: &[u8]) -> Result<Edit, LineFault> {
     let (place, content) = placed_of(alloc, word)?;
     Ok(Edit {
@@ -43,14 +43,14 @@ fn edit_at(alloc: Global, version: Version, word: &[u8]) -> Result<Edit, LineFau
     })
 }
 
-/// The edit that a word writes.
+/// Returns the edit that a word writes.
 pub fn edit_of(alloc: Global, word: &[u8]) -> Result<Edit, LineFault> {
     let (version, placed) = cut_at(word, b':').ok_or(LineFault::Words)?;
     edit_at(alloc, version_of(version)?, placed)
 }
 
-/// The edit that a word of a list writes, behind so many others; without a version it has the counter that its place
-/// gives, from 1, and the writer 1.
+/// Returns the edit that a word of a list writes, with `before` words before it. Without a version its counter is its
+/// position in the list, from 1, and its writer is 1.
 pub fn listed_edit(alloc: Global, word: &[u8], before: usize) -> Result<Edit, LineFault> {
     match word.first() {
         Some(b'0'..=b'9') => edit_of(alloc, word),

@@ -1,4 +1,4 @@
-//! Why a line has no answer.
+//! Errors of lines.
 use delta_pieces::TakeFault;
 use edit_sums::ContentFault;
 use load_path::PathFault;
@@ -10,31 +10,31 @@ use unit_name::NameFault;
 /// Why a line has no answer.
 #[derive(Debug, Drop, Error)]
 pub enum LineFault {
-    /// It is no call: a word is missing, isn't what the call takes, or is one too many.
+    /// It isn't a call: a word is missing, isn't what the call takes, or is one too many.
     #[error("no such call")]
     Words,
-    /// Its text is no path.
+    /// Its text isn't a path.
     #[error("{0}")]
     Path(#[from] PathFault),
-    /// Its bytes name no host.
+    /// Its bytes don't name a host.
     #[error("{0}")]
     Host(#[from] HostFault),
-    /// Its text is no place.
+    /// Its text isn't a place.
     #[error("{0}")]
     Place(#[from] PlaceFault),
-    /// Its bytes are no unit's name.
+    /// Its bytes aren't the name of a unit.
     #[error("{0}")]
     Name(#[from] NameFault),
-    /// Its bytes are no content.
+    /// Its bytes aren't a content.
     #[error("{0}")]
     Content(#[from] ContentFault),
-    /// Memory was refused.
+    /// Memory ran out.
     #[error("out of memory")]
     Memory(#[from(alloc)] AllocError),
 }
 
 impl LineFault {
-    /// Whether memory was refused. All else says that the line is no call.
+    /// Whether memory ran out. Every other error means that the line isn't a call.
     pub fn is_memory(&self) -> bool {
         matches!(
             self,

@@ -1,4 +1,4 @@
-//! A gate at which two workers wait for one another, and one that counts how often it is asked.
+//! A gate at which two workers wait for each other, and one that counts how often it is asked.
 use crate::answers::Answer;
 use crate::faults::LineFault;
 use std::alloc::{AllocError, Global};
@@ -7,10 +7,11 @@ use std::thread;
 use std::time::{Clock, Duration};
 use worker_rounds::{Gate, MOST_WORKERS, TURNS};
 
-/// Lets each of two workers go on once both have come.
+/// Lets each of two workers go on once both have arrived.
 ///
-/// A worker that has come waits inside the gate's call until the other has come too, for `TURNS` turns of a microsecond
-/// at most. So where one thread asks for both, in whatever order and however often, a wait runs out, which is noted.
+/// A worker that has arrived waits inside the gate's call until the other one arrives too, for at most `TURNS` sleeps
+/// of a microsecond. So if one thread asks for both, in whatever order and however often, a wait times out, and the
+/// gate records that.
 #[derive(Drop)]
 pub struct Meeting<'a, R: Clock> {
     clock: &'a R,
@@ -20,7 +21,7 @@ pub struct Meeting<'a, R: Clock> {
 }
 
 impl<'a, R: Clock> Meeting<'a, R> {
-    /// One to which no worker has come.
+    /// Returns a gate at which no worker has arrived.
     pub fn new(clock: &'a R) -> Self {
         Meeting {
             clock,
@@ -30,7 +31,7 @@ impl<'a, R: Clock> Meeting<'a, R> {
         }
     }
 
-    /// Whether both workers came, and each met the other while it waited.
+    /// Whether both workers arrived, and each met the other while it waited.
     pub fn were_together(&self) -> bool {
         let have_come = self.first.load(Ordering::SeqCst) && self.second.load(Ordering::SeqCst);
         have_come && !self.ran_out.load(Ordering::SeqCst)
@@ -56,8 +57,8 @@ impl<R: Clock> Gate for Meeting<'_, R> {
     }
 }
 
-/// Turns each number away so often before it lets it go on, and counts how often it is asked for each. Numbers from
-/// `MOST_WORKERS` on count as one.
+/// Turns each worker number away this many times before it lets it go on, and counts how often it is asked for each.
+/// Numbers from `MOST_WORKERS` on are counted together.
 #[derive(Drop)]
 pub struct CountingGate {
     turned_away: usize,
@@ -65,7 +66,7 @@ pub struct CountingGate {
 }
 
 impl CountingGate {
-    /// One that wasn't asked for any number.
+    /// Returns a gate that wasn't asked yet.
     pub fn new(alloc: Global, turned_away: usize) -> Result<Self, AllocError> {
         let mut asked = Vec::new(alloc);
         for _ in 0..=MOST_WORKERS {
@@ -74,7 +75,7 @@ impl CountingGate {
         Ok(CountingGate { turned_away, asked })
     }
 
-    /// Writes each number that it was asked for, with how often, in their order.
+    /// Writes each number that the gate was asked for, with its count, in ascending order.
     pub fn append_to(&self, out: &mut Answer) -> Result<(), LineFault> {
         for (number, count) in self.asked.iter().enumerate() {
             let often = count.load(Ordering::SeqCst);

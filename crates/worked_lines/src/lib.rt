@@ -1,7 +1,14 @@
-//! What the programs of data share: the words of a line, and lines with their answers. And gates: one at which two
-//! workers wait for one another, which shows that they run at the same time, and one that counts how often it is asked.
+//! What the programs that run test data share: the words of a line, and lines with their answers. It also has two
+//! gates: one at which two workers wait for each other, which shows that they run at the same time, and one that counts
+//! how often it is asked.
 //!
 //! Promise: none; no clause can say it.
+//!
+//! - `words`: `Words`, from which a call reads its arguments; `spelled` and `edits` read single words.
+//! - `answers`: `Answer`, to which a call writes.
+//! - `lines`: runs each line of a text.
+//! - `gates`: the two gates.
+//! - `faults`: `LineFault`.
 #![tactic(auto)]
 
 mod answers;

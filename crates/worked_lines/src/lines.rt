@@ -9,7 +9,7 @@ use std::io;
 use std::io::{Input, Print};
 use std::process::ExitCode;
 
-// What a line answers, of which no word may be left.
+// The answer to a line, of which no word may be left.
 fn answer_line<F: Fn(&mut Words, &mut Answer) -> Result<(), LineFault>>(
     alloc: Global,
     line: &[u8],
@@ -24,7 +24,7 @@ fn answer_line<F: Fn(&mut Words, &mut Answer) -> Result<(), LineFault>>(
     Ok(out.bytes)
 }
 
-// Writes what a line answers; where it has no answer, why.
+// Writes the answer to a line, or why it has none.
 fn append_answer(out: &mut Vec<u8>, answer: &Result<Vec<u8>, LineFault>) -> Result<(), AllocError> {
     out.extend_from_slice(match answer {
         Ok(text) => text,
@@ -33,8 +33,8 @@ fn append_answer(out: &mut Vec<u8>, answer: &Result<Vec<u8>, LineFault>) -> Resu
     })
 }
 
-/// All lines of a text, each with a sign and its answer behind it. Lines that are empty or begin with `#` are repeated as
-/// they are.
+/// Returns all lines of a text, each followed by `sign` and its answer. Lines that are empty or begin with `#` are
+/// copied unchanged.
 pub fn answer_lines<F: Fn(&mut Words, &mut Answer) -> Result<(), LineFault>>(
     alloc: Global,
     text: &[u8],
@@ -58,7 +58,8 @@ pub fn answer_lines<F: Fn(&mut Words, &mut Answer) -> Result<(), LineFault>>(
     Ok(out)
 }
 
-/// Reads all of standard input, and writes what is made of it. Status 1 where that fails, and 2 where memory was refused.
+/// Reads all of standard input, and writes what `work` makes of it. Returns status 1 if that fails, and 2 if memory ran
+/// out.
 pub fn work_input<R: AllocGlobal + Input + Print, F: FnOnce(&[u8]) -> Result<Vec<u8>, AllocError>>(
     rt: &R,
     work: F,

@@ -1,4 +1,4 @@
-//! What single words stand for.
+//! What single words mean.
 use crate::faults::LineFault;
 use edit_sums::Content;
 use replica_store::{HostName, Place, Scope};
@@ -6,12 +6,14 @@ use script_words::unescape;
 use std::alloc::Global;
 use unit_name::UnitName;
 
-/// Whether a word is this one. Calls are told apart by it: a `match` on byte strings costs three times as much proof.
+/// Whether a word is this one. Calls are distinguished by it: a `match` on byte strings costs three times as much
+/// proof.
 pub fn is(word: &[u8], other: &[u8]) -> bool {
     word == other
 }
 
-/// What stands behind a word in a table of calls; `_` stands for all other words, and without it they are no calls.
+/// Evaluates the expression after a word in a table of calls; `_` matches all other words, and without it they aren't
+/// calls.
 #[macro_export]
 macro_rules! match_word {
     ($word:expr; $($($name:literal)|+ => $answer:expr,)+ _ => $other:expr,) => {{
@@ -23,7 +25,8 @@ macro_rules! match_word {
     };
 }
 
-/// What a word spells: a text as scripts spell one, `\n`, `\t`, `\\` and `\xHH` being read; `''` is the empty text.
+/// Returns the text that a word spells. It is spelled as in scripts, with `\n`, `\t`, `\\` and `\xHH`; `''` is the
+/// empty text.
 pub fn text_of(alloc: Global, word: &[u8]) -> Result<Vec<u8>, LineFault> {
     if is(word, b"''") {
         return Ok(Vec::new(alloc));
@@ -31,29 +34,29 @@ pub fn text_of(alloc: Global, word: &[u8]) -> Result<Vec<u8>, LineFault> {
     unescape(alloc, word)?.ok_or(LineFault::Words)
 }
 
-/// The number that a word writes in decimal digits.
+/// Returns the number that a word writes in decimal digits.
 pub fn number_of(word: &[u8]) -> Result<u64, LineFault> {
     let text = str::from_utf8(word).ok();
     let number = text.and_then(|digits| digits.parse::<u64>().ok());
     number.ok_or(LineFault::Words)
 }
 
-/// The number of what is in memory that a word writes.
+/// Returns the index or count that a word writes.
 pub fn index_of(word: &[u8]) -> Result<usize, LineFault> {
     Ok(number_of(word)? as usize)
 }
 
-/// The number below 256 that a word writes.
+/// Returns the number below 256 that a word writes.
 pub fn byte_of(word: &[u8]) -> Result<u8, LineFault> {
     u8::try_from(number_of(word)?).map_err(|_| LineFault::Words)
 }
 
-/// The number of a writer that a word writes.
+/// Returns the writer's number that a word writes.
 pub fn writer_of(word: &[u8]) -> Result<u32, LineFault> {
     u32::try_from(number_of(word)?).map_err(|_| LineFault::Words)
 }
 
-// What stands for a letter: one of the four directories in their order.
+// The directory that a letter abbreviates: one of the four, in their order.
 fn directory_of(letter: u8) -> Option<&'static [u8]> {
     match letter {
         b'E' => Some(b"/etc/systemd/system"),
@@ -64,7 +67,7 @@ fn directory_of(letter: u8) -> Option<&'static [u8]> {
     }
 }
 
-// Adds a path to a text, its first letter as a directory if it stands for one.
+// Appends a path to a text. A first letter that abbreviates a directory is replaced by it.
 fn add_path(text: &mut Vec<u8>, path: &[u8]) -> Result<(), LineFault> {
     if let Some((letter, rest)) = path.split_first() {
         if let Some(directory) = directory_of(*letter) {
@@ -77,7 +80,7 @@ fn add_path(text: &mut Vec<u8>, path: &[u8]) -> Result<(), LineFault> {
     Ok(())
 }
 
-/// The scope that a word writes: `*` for the fleet, else a host's name.
+/// Returns the scope that a word writes: `*` for the fleet, otherwise a host's name.
 pub fn scope_of(alloc: Global, word: &[u8]) -> Result<Scope, LineFault> {
     if is(word, b"*") {
         return Ok(Scope::Fleet);
@@ -85,8 +88,8 @@ pub fn scope_of(alloc: Global, word: &[u8]) -> Result<Scope, LineFault> {
     Ok(Scope::Host(HostName::parse(alloc, word)?))
 }
 
-/// The place that a word writes: its path, behind its host and a colon where it has a host; the path whole, or with `E`,
-/// `R`, `L` or `U` for one of the four directories in their order.
+/// Returns the place that a word writes: its path, after its host and a colon if it has a host. The path is in full, or
+/// begins with `E`, `R`, `L` or `U` for one of the four directories in their order.
 pub fn place_of(alloc: Global, word: &[u8]) -> Result<Place, LineFault> {
     let mut text = Vec::new(alloc);
     match cut_at(word, b':') {
@@ -100,27 +103,27 @@ pub fn place_of(alloc: Global, word: &[u8]) -> Result<Place, LineFault> {
     Ok(Place::parse(alloc, &text)?)
 }
 
-/// The unit's name that a word is.
+/// Returns the unit's name that a word is.
 pub fn name_of(alloc: Global, word: &[u8]) -> Result<UnitName, LineFault> {
     Ok(UnitName::parse(alloc, word)?)
 }
 
-/// The unit's name that a word spells.
+/// Returns the unit's name that a word spells.
 pub fn spelled_name_of(alloc: Global, word: &[u8]) -> Result<UnitName, LineFault> {
     name_of(alloc, &text_of(alloc, word)?)
 }
 
-/// The file whose text a word spells.
+/// Returns the file whose text a word spells.
 pub fn file_of(alloc: Global, word: &[u8]) -> Result<Content, LineFault> {
     Ok(Content::file(text_of(alloc, word)?)?)
 }
 
-/// The link whose target a word spells.
+/// Returns the link whose target a word spells.
 pub fn link_of(alloc: Global, word: &[u8]) -> Result<Content, LineFault> {
     Ok(Content::link(text_of(alloc, word)?)?)
 }
 
-/// The call that a word writes, and the host that makes it: what stands behind the word's first `@`, where it has one.
+/// Returns the call that a word writes, and the host that makes it: what follows the word's first `@`, if it has one.
 pub fn asked_of(alloc: Global, word: &[u8]) -> Result<(&[u8], Option<HostName>), LineFault> {
     match cut_at(word, b'@') {
         Some((call, host)) => Ok((call, Some(HostName::parse(alloc, host)?))),
@@ -128,13 +131,13 @@ pub fn asked_of(alloc: Global, word: &[u8]) -> Result<(&[u8], Option<HostName>),
     }
 }
 
-/// The parts of a word before and behind the first byte of a kind.
+/// Returns the parts of a word before and after the first occurrence of a byte.
 pub fn cut_at(word: &[u8], byte: u8) -> Option<(&[u8], &[u8])> {
     let place = word.iter().position(|b| *b == byte)?;
     Some((&word[..place], &word[place + 1..]))
 }
 
-/// The parts of a word that commas part; an empty word and `none` have none.
+/// Returns the parts of a word between commas; an empty word and `none` have no parts.
 pub fn parts_of(alloc: Global, word: &[u8]) -> Result<Vec<&[u8]>, LineFault> {
     let mut parts = Vec::new(alloc);
     if word.is_empty() || is(word, b"none") {
@@ -146,7 +149,7 @@ pub fn parts_of(alloc: Global, word: &[u8]) -> Result<Vec<&[u8]>, LineFault> {
     Ok(parts)
 }
 
-/// What each of these words writes.
+/// Returns what `one` reads in each of these words.
 pub fn each_of<T: Drop, F: Fn(Global, &[u8]) -> Result<T, LineFault>>(
     alloc: Global,
     words: &[&[u8]],

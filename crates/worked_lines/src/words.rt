@@ -14,18 +14,18 @@ use unit_name::UnitName;
 /// The words of a line that are left.
 #[derive(Drop)]
 pub struct Words<'a> {
-    /// Where the memory of a call is from.
+    /// The allocator of a call's memory.
     pub alloc: Global,
     rest: &'a [u8],
 }
 
 impl<'a> Words<'a> {
-    /// The words of these bytes.
+    /// Returns the words of these bytes.
     pub fn new(alloc: Global, rest: &'a [u8]) -> Self {
         Words { alloc, rest }
     }
 
-    /// As many words as there are at the most.
+    /// An upper bound on how many words are left.
     pub fn most(&self) -> usize {
         self.rest.len()
     }
@@ -35,25 +35,25 @@ impl<'a> Words<'a> {
         cut_word(self.rest).is_none()
     }
 
-    /// The next word, if one is left.
+    /// Returns the next word, if one is left.
     pub fn next_word(&mut self) -> Option<&'a [u8]> {
         let (word, rest) = cut_word(self.rest)?;
         self.rest = rest;
         Some(word)
     }
 
-    /// The next word as it is written.
+    /// Returns the next word as it is written.
     pub fn word(&mut self) -> Result<&'a [u8], LineFault> {
         self.next_word().ok_or(LineFault::Words)
     }
 
-    /// The next word of a list, which the word `+` or the end of the line ends.
+    /// Returns the next word of a list, which ends at the word `+` or at the end of the line.
     pub fn listed(&mut self) -> Option<&'a [u8]> {
         let word = self.next_word()?;
         if is(word, b"+") { None } else { Some(word) }
     }
 
-    /// All words of a list.
+    /// Returns all words of a list.
     pub fn list(&mut self) -> Result<Vec<&'a [u8]>, LineFault> {
         let mut list = Vec::new(self.alloc);
         for _ in 0..self.most() {
@@ -65,67 +65,67 @@ impl<'a> Words<'a> {
         Ok(list)
     }
 
-    /// What the next word spells.
+    /// Returns the text that the next word spells.
     pub fn text(&mut self) -> Result<Vec<u8>, LineFault> {
         text_of(self.alloc, self.word()?)
     }
 
-    /// The next word as a number.
+    /// Returns the next word as a number.
     pub fn number(&mut self) -> Result<u64, LineFault> {
         number_of(self.word()?)
     }
 
-    /// The next word as a number of what is in memory.
+    /// Returns the next word as an index or count.
     pub fn index(&mut self) -> Result<usize, LineFault> {
         index_of(self.word()?)
     }
 
-    /// The next word as a writer's number.
+    /// Returns the next word as a writer's number.
     pub fn writer(&mut self) -> Result<u32, LineFault> {
         writer_of(self.word()?)
     }
 
-    /// The next word as a place.
+    /// Returns the next word as a place.
     pub fn place(&mut self) -> Result<Place, LineFault> {
         place_of(self.alloc, self.word()?)
     }
 
-    /// The next word as a scope: `*` for the fleet, else a host's name.
+    /// Returns the next word as a scope: `*` for the fleet, otherwise a host's name.
     pub fn scope(&mut self) -> Result<Scope, LineFault> {
         scope_of(self.alloc, self.word()?)
     }
 
-    /// The next word as the content of a file.
+    /// Returns the next word as the content of a file.
     pub fn file(&mut self) -> Result<Content, LineFault> {
         file_of(self.alloc, self.word()?)
     }
 
-    /// The next word as what spells a unit's name.
+    /// Returns the unit's name that the next word spells.
     pub fn name(&mut self) -> Result<UnitName, LineFault> {
         spelled_name_of(self.alloc, self.word()?)
     }
 
-    /// The names that a list of words writes.
+    /// Returns the names that a list of words writes.
     pub fn names(&mut self) -> Result<Vec<UnitName>, LineFault> {
         each_of(self.alloc, &self.list()?, name_of)
     }
 
-    /// The names that a list of words spells.
+    /// Returns the names that a list of words spells.
     pub fn spelled_names(&mut self) -> Result<Vec<UnitName>, LineFault> {
         each_of(self.alloc, &self.list()?, spelled_name_of)
     }
 
-    /// The places that a list of words writes.
+    /// Returns the places that a list of words writes.
     pub fn places(&mut self) -> Result<Vec<Place>, LineFault> {
         each_of(self.alloc, &self.list()?, place_of)
     }
 
-    /// The numbers that a list of words writes.
+    /// Returns the numbers that a list of words writes.
     pub fn numbers(&mut self) -> Result<Vec<usize>, LineFault> {
         each_of(self.alloc, &self.list()?, |_, word| index_of(word))
     }
 
-    /// The edits that a list of words writes.
+    /// Returns the edits that a list of words writes.
     pub fn edits(&mut self) -> Result<Vec<Edit>, LineFault> {
         let mut edits = Vec::new(self.alloc);
         for (place, word) in self.list()?.iter().enumerate() {
@@ -134,7 +134,8 @@ impl<'a> Words<'a> {
         Ok(edits)
     }
 
-    /// The edits that a list of words writes, as a store without hosts had them: what their words say of hosts is left out.
+    /// Returns the edits that a list of words writes, as a store without hosts had them: what the words say of hosts is
+    /// left out.
     pub fn flat_edits(&mut self) -> Result<Vec<FlatEdit>, LineFault> {
         let mut edits = Vec::new(self.alloc);
         for edit in self.edits()? {
@@ -153,12 +154,12 @@ impl<'a> Words<'a> {
         Ok(edits)
     }
 
-    /// The store of the edits that a list of words writes.
+    /// Returns the store of the edits that a list of words writes.
     pub fn store(&mut self) -> Result<Store, LineFault> {
         Ok(Store::from_edits(self.alloc, &self.edits()?)?)
     }
 
-    /// That no word is left.
+    /// Checks that no word is left.
     pub fn end(&mut self) -> Result<(), LineFault> {
         match self.next_word() {
             None => Ok(()),

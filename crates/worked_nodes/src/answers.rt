@@ -1,4 +1,4 @@
-//! The answers of lines.
+//! The answers to lines.
 ghost use Rattle.std.specs.Prelude.{◌≡◌};
 
 use crate::bench::Bench;
@@ -17,7 +17,7 @@ use std::thread::Threads;
 use std::time::Clock;
 use worked_lines::{Answer, LineFault, Words, is, match_word};
 
-// Does the steps at an open node, up to the word `short` or to the end; whether that word stands there.
+// Executes the steps at an open node, up to the word `short` or to the end. Returns whether that word was there.
 fn work_steps<N: NodeName + Send + Sync, R: Threads + Wait + Clock + Sync>(
     rt: &R,
     node: &Node<N>,
@@ -36,7 +36,7 @@ fn work_steps<N: NodeName + Send + Sync, R: Threads + Wait + Clock + Sync>(
     Ok(false)
 }
 
-// Does what a line says at the node of this blank, and closes it.
+// Executes a line at the node of this blank, and closes the node.
 fn work_node<N: NodeName + Send + Sync, R: Threads + Wait + Clock + Sync>(
     rt: &R,
     blank: Blank,
@@ -61,7 +61,7 @@ fn work_node<N: NodeName + Send + Sync, R: Threads + Wait + Clock + Sync>(
     out.line(&bench.out.bytes)
 }
 
-// Does what a line says at the node of this blank, under a name of its own.
+// Executes a line at the node of this blank, under a name of its own.
 fn work_blank<R: Threads + Wait + Clock + Sync>(
     rt: &R,
     blank: Blank,
@@ -71,8 +71,8 @@ fn work_blank<R: Threads + Wait + Clock + Sync>(
     work_node::<Brand, R>(rt, blank, words, out)
 }
 
-// Does what a line says at a node over this replica. A blank that is refused memory is made again of the replica that
-// comes back.
+// Executes a line at a node over this replica. If memory runs out for the blank, makes it again from the replica that
+// is returned.
 fn work_over<R: Threads + Wait + Clock + Sync>(
     rt: &R,
     replica: Replica,
@@ -94,7 +94,7 @@ fn work_over<R: Threads + Wait + Clock + Sync>(
     }
 }
 
-// What a line of a node answers, over nothing or over one edit.
+// The answer to a line of a node, over an empty replica or over one edit.
 fn answer_node<R: Threads + Wait + Clock + Sync>(
     rt: &R,
     words: &mut Words,
@@ -111,7 +111,7 @@ fn answer_node<R: Threads + Wait + Clock + Sync>(
     work_over(rt, replica, seats, words, out)
 }
 
-// What a line of threads answers.
+// The answer to a line of threads.
 fn answer_threads<R: Threads + Wait + Sync>(
     rt: &R,
     words: &mut Words,
@@ -129,7 +129,7 @@ fn answer_threads<R: Threads + Wait + Sync>(
     }
 }
 
-/// Writes what a line answers.
+/// Writes the answer to a line.
 pub fn answer<R: Threads + Wait + Clock + Sync>(
     rt: &R,
     words: &mut Words,

@@ -1,4 +1,4 @@
-//! Crowds at a node over nothing.
+//! Crowds at an empty node.
 use crowds::{Counted, CrowdFault, Gate, MOST_EDITS, ROOM, crowd};
 use replica_store::Replica;
 use std::alloc::AllocError;
@@ -7,7 +7,7 @@ use std::thread::Threads;
 use std::time::Clock;
 use worked_lines::{Answer, CountingGate, LineFault, Meeting, Words};
 
-// Writes what a crowd at a node of this writer comes to.
+// Writes the result of a crowd at a node of this writer.
 fn append_crowd<R: Threads + Wait + Sync, G: Gate + Sync>(
     rt: &R,
     out: &mut Answer,
@@ -29,7 +29,7 @@ fn append_crowd<R: Threads + Wait + Sync, G: Gate + Sync>(
     }
 }
 
-/// What a line of a crowd answers, and how often its gate was asked for each worker.
+/// The answer to a line of a crowd, and how often its gate was asked for each worker.
 pub fn answer_crowd<R: Threads + Wait + Sync>(
     rt: &R,
     words: &mut Words,
@@ -42,7 +42,7 @@ pub fn answer_crowd<R: Threads + Wait + Sync>(
     gate.append_to(out)
 }
 
-/// What a line of two workers answers who wait for one another before their first edits.
+/// The answer to a line of two workers that wait for each other before their first edits.
 pub fn answer_meeting<R: Threads + Wait + Clock + Sync>(
     rt: &R,
     words: &mut Words,

@@ -1,4 +1,4 @@
-//! Edits in words.
+//! Edits, as lines write them.
 use delta_pieces::Piece;
 use join_law::Version;
 use replica_store::Edit;

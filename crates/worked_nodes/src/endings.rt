@@ -1,4 +1,4 @@
-//! How a node is closed.
+//! Closes nodes.
 use crate::bench::{Bench, append_store};
 use node_histories::NodeName;
 use shared_node::{CloseCause, CloseFault, Closed, Node, Seat};
@@ -18,13 +18,13 @@ fn seats_of<N: NodeName>(bench: &mut Bench<N>) -> Result<Vec<Seat<N>>, LineFault
 }
 
 // Writes what is left of a node.
-fn tell_closed<N: NodeName>(bench: &mut Bench<N>, closed: &Closed) -> Result<(), LineFault> {
-    bench.tell("closed ")?;
+fn write_closed<N: NodeName>(bench: &mut Bench<N>, closed: &Closed) -> Result<(), LineFault> {
+    bench.write("closed ")?;
     append_store(&mut bench.out, closed.takes, closed.replica.store())
 }
 
-// Closes a node with these seats, and tells how that went. Where it was refused, what came back.
-fn close_told<N: NodeName, R: Wait>(
+// Closes a node with these seats, and writes the result. On a refusal returns the node and the seats.
+fn close_token<N: NodeName, R: Wait>(
     rt: &R,
     node: Node<N>,
     bench: &mut Bench<N>,
@@ -32,33 +32,33 @@ fn close_told<N: NodeName, R: Wait>(
 ) -> Result<Option<CloseFault<N>>, LineFault> {
     let fault = match node.close(rt, seats) {
         Ok(closed) => {
-            tell_closed(bench, &closed)?;
+            write_closed(bench, &closed)?;
             return Ok(None);
         }
         Err(fault) => fault,
     };
-    if let Err(untold) = bench.tell_value(&fault.cause) {
+    if let Err(untold) = bench.write_value(&fault.cause) {
         fault.end(rt);
         return Err(untold);
     }
     Ok(Some(fault))
 }
 
-// Closes a node with these seats; where memory is refused, again with what comes back.
+// Closes a node with these seats. If memory runs out, tries again with what was returned.
 fn close_with<N: NodeName, R: Wait>(
     rt: &R,
     node: Node<N>,
     bench: &mut Bench<N>,
     seats: Vec<Seat<N>>,
 ) -> Result<(), LineFault> {
-    let Some(CloseFault { node, seats, cause }) = close_told(rt, node, bench, seats)? else {
+    let Some(CloseFault { node, seats, cause }) = close_token(rt, node, bench, seats)? else {
         return Ok(());
     };
     if cause != CloseCause::Memory {
         node.end(rt);
         return Ok(());
     }
-    if let Some(fault) = close_told(rt, node, bench, seats)? {
+    if let Some(fault) = close_token(rt, node, bench, seats)? {
         fault.end(rt);
     }
     Ok(())
@@ -79,7 +79,7 @@ pub fn close<N: NodeName, R: Wait>(
     }
 }
 
-// Closes a node with these seats; then, where that was refused, with one seat more.
+// Closes a node with these seats, and if that was refused, with one more seat.
 fn close_again<N: NodeName, R: Wait>(
     rt: &R,
     node: Node<N>,
@@ -87,7 +87,7 @@ fn close_again<N: NodeName, R: Wait>(
     seats: Vec<Seat<N>>,
     last: Seat<N>,
 ) -> Result<(), LineFault> {
-    let Some(fault) = close_told(rt, node, bench, seats)? else {
+    let Some(fault) = close_token(rt, node, bench, seats)? else {
         return Ok(());
     };
     let CloseFault {

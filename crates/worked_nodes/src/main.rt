@@ -1,35 +1,35 @@
-//! Works calls of running nodes, by threads side by side too. It reads a node a line from standard input, with what
-//! is done at it, and writes each line with its answers below it.
+//! A test program for calls of running nodes, also from several threads. It reads one node a line from standard input,
+//! with the steps at it, and writes each line with its answers below it.
 //!
 //! Promise: memory is refused only where it is.
 //!
-//! A line is `node WRITER SEATS`, and behind it steps: `seat`, `edit SEAT PATH TEXT`,
+//! A line is `node WRITER SEATS`, and after it steps: `seat`, `edit SEAT PATH TEXT`,
 //! `absorb SEAT PATH COUNTER WRITER TEXT`, `learn SEAT`, `view SEAT`, `serve SEAT TIMES MESSAGES`,
-//! `beside SEAT SEAT SEAT`, `short`. At the end the node is closed with all its seats; behind `short` first without the
-//! last. `over WRITER SEATS PATH COUNTER WRITER TEXT` is such a node over a replica that holds one edit. A blank and a
-//! close that are refused memory are tried once more, with what comes back.
+//! `beside SEAT SEAT SEAT`, `short`. At the end the node is closed with all its seats; after `short` it is first closed
+//! without the last one. `over WRITER SEATS PATH COUNTER WRITER TEXT` is such a node over a replica that holds one
+//! edit. If memory runs out for a blank or a close, it is tried once more with what was returned.
 //!
-//! A message is `edit PATH TEXT`, `absorb PATH COUNTER WRITER TEXT` or `end`. The word `+` or the line's end ends the
-//! list, and the sender is gone. The inbox is served at a gate that turns each message away so many times; how often it
-//! was asked for each, by number, stands behind `asked for`.
+//! A message is `edit PATH TEXT`, `absorb PATH COUNTER WRITER TEXT` or `end`. The word `+` or the end of the line ends
+//! the list of messages, and the sender is dropped. The inbox is served at a gate that refuses each message TIMES
+//! times; how often it was asked for each, by number, is written after `asked for`.
 //!
-//! At `beside` the first seat holds a view, the second edits twice in a thread of its own, and waits for that view; the
+//! At `beside` the first seat holds a view; the second edits twice in a thread of its own, and waits for that view; the
 //! third views meanwhile.
 //!
-//! Or it is `threads WRITER WRITERS EDITS READERS VIEWS`: so many seats edit, each at its own path, beside others that
-//! view, each in a thread of its own; each view is compared with the number of takes that it shows.
+//! A line may also be `threads WRITER WRITERS EDITS READERS VIEWS`: WRITERS seats edit, each at its own path, while
+//! READERS seats view, each in a thread of its own. Each view is compared with the number of takes that it shows.
 //!
-//! Or it is `crowd WRITER SEATS EDITS`, a crowd at a node over nothing, and how often its gate was asked for each
-//! worker; or `meet WRITER`, a crowd of two workers with an edit each, who wait for one another before that.
+//! Or it is `crowd WRITER SEATS EDITS`, a crowd at an empty node, with how often its gate was asked for each worker. Or
+//! it is `meet WRITER`, a crowd of two workers with one edit each, which wait for each other before that.
 //!
-//! A line whose words or answers are refused memory is answered by `memory`; what a node answers then is an answer.
-//! Lines that are empty or begin with `#` are repeated as they are. `stdin` has the lines, and `stdout` what each must
-//! answer; the gate compares the two.
+//! The answer to a line is `memory` if memory runs out for its words or its answers; what a node answers then is an
+//! ordinary answer. Lines that are empty or begin with `#` are repeated as they are. `stdin` has the lines, and
+//! `stdout` the expected answers; the gate compares the two.
 #![tactic(auto)]
 
+mod alongside;
 mod answers;
 mod bench;
-mod beside;
 mod crowding;
 mod edits;
 mod endings;

@@ -1,4 +1,4 @@
-//! What an inbox says is done at a node.
+//! Executes the messages of an inbox at a node.
 use crate::bench::Bench;
 use crate::edits::one_piece;
 use crossbeam_channel::{Receiver, unbounded};
@@ -8,7 +8,7 @@ use std::alloc::AllocError;
 use std::sync::Wait;
 use worked_lines::{CountingGate, LineFault, Words, match_word};
 
-// The message that a word and those behind it write.
+// The message that a word and those after it write.
 fn message_of(word: &[u8], words: &mut Words) -> Result<Message, LineFault> {
     match_word!(word;
         b"edit" => Ok(Message::Edit(words.place()?, words.file()?)),
@@ -17,7 +17,7 @@ fn message_of(word: &[u8], words: &mut Words) -> Result<Message, LineFault> {
     )
 }
 
-// An inbox with the messages that a list of words writes. Its sender is gone.
+// An inbox with the messages that a list of words writes. Its sender is dropped.
 fn inbox_of<R: Wait>(rt: &R, words: &mut Words) -> Result<Receiver<Message>, LineFault> {
     let (sender, inbox) = unbounded(words.alloc)?;
     for _ in 0..words.most() {
@@ -32,20 +32,20 @@ fn inbox_of<R: Wait>(rt: &R, words: &mut Words) -> Result<Receiver<Message>, Lin
     Ok(inbox)
 }
 
-// Writes how an inbox was served, and how often the gate was asked for each message.
-fn tell_served<N: NodeName>(
+// Writes the result of serving an inbox, and how often the gate was asked for each message.
+fn write_served<N: NodeName>(
     bench: &mut Bench<N>,
     served: Served,
     gate: &CountingGate,
 ) -> Result<(), LineFault> {
-    bench.tell_number("answered", served.answered as u64)?;
-    bench.tell_number("pending", served.pending as u64)?;
-    bench.tell_number("refused", served.refused as u64)?;
-    bench.tell("asked for")?;
+    bench.write_number("answered", served.answered as u64)?;
+    bench.write_number("pending", served.pending as u64)?;
+    bench.write_number("refused", served.refused as u64)?;
+    bench.write("asked for")?;
     gate.append_to(&mut bench.out)
 }
 
-/// Serves an inbox from a seat, at a gate that turns each message away so often.
+/// Serves an inbox from a seat, at a gate that refuses each message a given number of times.
 pub fn work_inbox<N: NodeName, R: Wait>(
     rt: &R,
     node: &Node<N>,
@@ -56,8 +56,8 @@ pub fn work_inbox<N: NodeName, R: Wait>(
     let gate = CountingGate::new(words.alloc, words.index()?)?;
     let inbox = inbox_of(rt, words)?;
     let Some(seat) = bench.seat(place) else {
-        return bench.tell("no seat");
+        return bench.write("no seat");
     };
     let served = serve(rt, node, seat, &inbox, &gate);
-    tell_served(bench, served, &gate)
+    write_served(bench, served, &gate)
 }

@@ -1,6 +1,6 @@
-//! What is done at a node.
+//! The steps at a node.
+use crate::alongside::alongside;
 use crate::bench::{Bench, append_store, append_version};
-use crate::beside::beside;
 use crate::edits::one_piece;
 use crate::serving::work_inbox;
 use node_histories::NodeName;
@@ -11,7 +11,7 @@ use std::thread::Threads;
 use std::time::Clock;
 use worked_lines::{Answer, LineFault, Words, match_word};
 
-/// Does the step that a word names, and writes its answer.
+/// Executes the step that a word names, and writes its answer.
 pub fn step<N: NodeName + Send + Sync, R: Threads + Wait + Clock + Sync>(
     rt: &R,
     node: &Node<N>,
@@ -26,7 +26,7 @@ pub fn step<N: NodeName + Send + Sync, R: Threads + Wait + Clock + Sync>(
         b"learn" => learn(bench, words),
         b"view" => view(bench, words),
         b"serve" => work_inbox(rt, node, bench, words),
-        b"beside" => beside(rt, node, bench, words),
+        b"beside" => alongside(rt, node, bench, words),
     )
 }
 
@@ -38,25 +38,25 @@ fn take_seat<N: NodeName, R: Wait>(
 ) -> Result<(), LineFault> {
     match node.seat(rt) {
         Ok(seat) => {
-            bench.tell_number("seat", seat.number() as u64)?;
+            bench.write_number("seat", seat.number() as u64)?;
             Ok(bench.seats.push(Some(seat))?)
         }
-        Err(fault) => bench.tell_value(&fault),
+        Err(fault) => bench.write_value(&fault),
     }
 }
 
-// Keeps the token of a take, and gives what it answered besides; or writes why it wasn't taken.
-fn keep_told<N: NodeName, T: Drop>(
+// Stores the token of a take, and returns what else it answered; or writes why the take failed.
+fn keep_token<N: NodeName, T: Drop>(
     bench: &mut Bench<N>,
     taken: Result<(T, Told<N>), NodeFault<N>>,
 ) -> Result<Option<T>, LineFault> {
     match taken {
-        Ok((answer, told)) => {
-            bench.told = Some(told);
+        Ok((answer, token)) => {
+            bench.token = Some(token);
             Ok(Some(answer))
         }
         Err(fault) => {
-            bench.tell_value(&fault)?;
+            bench.write_value(&fault)?;
             Ok(None)
         }
     }
@@ -72,13 +72,13 @@ fn edit<N: NodeName, R: Wait>(
     content: Content,
 ) -> Result<(), LineFault> {
     let Some(seat) = bench.seat(at) else {
-        return bench.tell("no seat");
+        return bench.write("no seat");
     };
     let taken = node.edit(rt, seat, place, content);
-    let Some(version) = keep_told(bench, taken)? else {
+    let Some(version) = keep_token(bench, taken)? else {
         return Ok(());
     };
-    bench.tell("ok ")?;
+    bench.write("ok ")?;
     append_version(&mut bench.out, version)
 }
 
@@ -91,11 +91,11 @@ fn absorb<N: NodeName, R: Wait>(
 ) -> Result<(), LineFault> {
     let (place, piece) = (words.index()?, one_piece(words)?);
     let Some(seat) = bench.seat(place) else {
-        return bench.tell("no seat");
+        return bench.write("no seat");
     };
     let taken = node.absorb(rt, seat, piece);
-    match keep_told(bench, taken)? {
-        Some(changed) => bench.tell_number("changed", changed),
+    match keep_token(bench, taken)? {
+        Some(changed) => bench.write_number("changed", changed),
         None => Ok(()),
     }
 }
@@ -104,22 +104,22 @@ fn absorb<N: NodeName, R: Wait>(
 fn learn<N: NodeName>(bench: &mut Bench<N>, words: &mut Words) -> Result<(), LineFault> {
     let place = words.index()?;
     let Some(Some(seat)) = bench.seats.get_mut(place) else {
-        return bench.tell("no seat");
+        return bench.write("no seat");
     };
-    let Some(told) = &bench.told else {
-        return bench.tell("no token");
+    let Some(token) = &bench.token else {
+        return bench.write("no token");
     };
-    seat.learn(told);
+    seat.learn(token);
     let seen = seat.takes();
-    bench.tell_number("seen", seen)
+    bench.write_number("seen", seen)
 }
 
-// The seat of a view, of which what is seen is written, if there is a place to view.
+// Writes what the view of a seat shows, if there is a view. Returns the seat.
 fn append_view<N: NodeName>(out: &mut Answer, seat: Seat<N>) -> (Seat<N>, Result<(), LineFault>) {
     match seat.view() {
         Ok(view) => {
-            let told = append_store(out, view.takes(), view.store());
-            (view.leave(), told)
+            let token = append_store(out, view.takes(), view.store());
+            (view.leave(), token)
         }
         Err(fault) => (fault.seat, out.write(b"A7 NoEntry")),
     }
@@ -129,10 +129,10 @@ fn append_view<N: NodeName>(out: &mut Answer, seat: Seat<N>) -> (Seat<N>, Result
 fn view<N: NodeName>(bench: &mut Bench<N>, words: &mut Words) -> Result<(), LineFault> {
     let place = words.index()?;
     let Some(seat) = bench.lend(place) else {
-        return bench.tell("no seat");
+        return bench.write("no seat");
     };
-    bench.tell("")?;
-    let (seat, told) = append_view(&mut bench.out, seat);
+    bench.write("")?;
+    let (seat, token) = append_view(&mut bench.out, seat);
     bench.put_back(place, seat);
-    told
+    token
 }

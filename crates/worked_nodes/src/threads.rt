@@ -1,4 +1,4 @@
-//! Nodes at which threads work side by side.
+//! Nodes at which several threads work at once.
 ghost use Rattle.std.specs.Prelude.{◌≡◌};
 
 use edit_sums::Content;
@@ -11,7 +11,7 @@ use std::thread;
 use std::thread::Threads;
 use worked_lines::{Answer, LineFault, Words};
 
-/// How many seats write and read, how many edits each writer makes, and how often each reader views.
+/// How many seats write and how many read, how many edits each writer makes, and how often each reader views.
 #[derive(Clone, Copy)]
 pub struct Plan {
     pub writers: usize,
@@ -30,7 +30,7 @@ pub fn plan_of(words: &mut Words) -> Result<Plan, LineFault> {
     })
 }
 
-// A seat, with what a thread does from it.
+// A seat, with what a thread does with it.
 #[derive(Drop)]
 struct Job<N: NodeName> {
     seat: Seat<N>,
@@ -44,14 +44,14 @@ fn place_of(alloc: Global, seat: usize) -> Result<Place, LineFault> {
     Place::parse(alloc, text.as_bytes()).map_err(|_| LineFault::Memory(AllocError))
 }
 
-// What a seat writes at its edit of this number.
+// What a seat writes in its edit with this number.
 fn file_of(alloc: Global, seat: usize, number: u64) -> Result<Content, LineFault> {
     let text = format!(in alloc; "[Unit]\nDescription={seat} {number}\n")?;
     let bytes = Vec::from_slice(alloc, text.as_bytes())?;
     Content::file(bytes).map_err(|_| LineFault::Memory(AllocError))
 }
 
-/// Makes so many edits from a seat, of its own file.
+/// Makes this many edits of its own file from a seat.
 pub fn make_edits<N: NodeName, R: Wait>(
     rt: &R,
     alloc: Global,
@@ -69,7 +69,8 @@ pub fn make_edits<N: NodeName, R: Wait>(
     Ok(())
 }
 
-// Views once. All takes are edits, so as many as the view shows is the greatest counter that its store holds.
+// Views once. All takes are edits, so the number of takes in the view must be the greatest counter that its store
+// holds.
 fn look<N: NodeName>(seat: Seat<N>) -> (Seat<N>, bool) {
     match seat.view() {
         Ok(view) => {
@@ -80,7 +81,7 @@ fn look<N: NodeName>(seat: Seat<N>) -> (Seat<N>, bool) {
     }
 }
 
-// Views so often; whether each view was fine.
+// Views this many times. Returns whether each view was right.
 fn look_often<N: NodeName>(seat: Seat<N>, views: u64) -> (Seat<N>, bool) {
     let mut seat = seat;
     let mut are_fine = true;
@@ -92,7 +93,7 @@ fn look_often<N: NodeName>(seat: Seat<N>, views: u64) -> (Seat<N>, bool) {
     (seat, are_fine)
 }
 
-// Does what a thread has to do; whether all went well.
+// Does a thread's job. Returns whether all went well.
 fn do_job<N: NodeName, R: Wait>(
     rt: &R,
     alloc: Global,
@@ -109,7 +110,7 @@ fn do_job<N: NodeName, R: Wait>(
     (seat, edited.is_ok() && are_fine)
 }
 
-// Adds so many jobs, each with a seat, so many edits and so many views.
+// Adds this many jobs, each with a seat, a number of edits and a number of views.
 fn add_jobs<N: NodeName, R: Wait>(
     rt: &R,
     node: &Node<N>,
@@ -151,7 +152,7 @@ fn do_jobs<N: NodeName + Send + Sync, R: Threads + Wait + Sync>(
     thread::map_vec(rt, jobs, &work)
 }
 
-// The seats that come back from threads, and whether all went well.
+// The seats that the threads return, and whether all went well.
 fn seats_of<N: NodeName>(
     alloc: Global,
     done: Vec<(Seat<N>, bool)>,
@@ -165,7 +166,7 @@ fn seats_of<N: NodeName>(
     Ok((seats, are_fine))
 }
 
-// Does what a plan says; the seats come back.
+// Does what a plan says. Returns the seats.
 fn work_plan<N: NodeName + Send + Sync, R: Threads + Wait + Sync>(
     rt: &R,
     alloc: Global,
@@ -202,7 +203,7 @@ fn close_with<N: NodeName, R: Wait>(
     }
 }
 
-/// Does what a plan says at the node of this blank, each seat in a thread of its own, and closes it.
+/// Does what a plan says at the node of this blank, each seat in a thread of its own, and closes the node.
 pub fn work_threads<N: NodeName + Send + Sync, R: Threads + Wait + Sync>(
     rt: &R,
     blank: Blank,

@@ -1,3 +1,4 @@
+pub mod Prelude
 mod Cutting
 mod Joining
 mod Naming

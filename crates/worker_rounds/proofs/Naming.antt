@@ -1,18 +1,15 @@
 -- What is named in the parts of what a round loaded, put together.
-use Rattle.std.specs.Prelude.{◌≡◌, ◌<◌, ◌≤◌, ◌+◌, ◌*◌, ◌/◌, ◌%◌, min, ℕ, zero, suc, List, [], ◌∷◌, length, map, take, drop, Result, Ok, IfOk}
-use Rattle.std.specs.List.{All, flat_map}
-use Rattle.std.specs.Global.{Vec}
-use Rattle.std.proofs.Common.{arith, ap, refl, sym, subst, ◌∙◌, get_or}
+use Rattle.std.proofs.Common.{[], ◌%◌, ◌*◌, ◌+◌, ◌/◌, ◌<◌, ◌∙◌, ◌∷◌, ◌≡◌, ◌≤◌, All, ap, arith, drop, get_or, IfOk, length, List, map, min, Ok, refl, Result, subst, suc, sym, take, zero, ℕ}
 use Rattle.std.proofs.Math.Nat.{div-add-mod, lt-div-mul-add, suc-mul, zero-mul}
 use Rattle.std.proofs.lemmas.Grind.{flat_map-append}
 use Rattle.std.proofs.lemmas.List.{drop-drop, length-drop, length-map, take-append-drop}
+use Rattle.std.proofs.lemmas.List.Elements.{All-append, All-cons, All-drop, All-head, All-map, All-nil, All-tail, All-take}
+use Rattle.std.specs.Global.{Vec}
+use Rattle.std.specs.List.{flat_map}
 use Rattle.std.specs.Map.{keys_of}
-use Rattle.std.proofs.lemmas.List.Elements.{All-nil, All-cons, All-head, All-tail, All-append, All-map, All-take, All-drop}
-use Rattle.name_closure.specs.Loading.{AreOthers}
-use Rattle.name_closure.specs.LoadingLaws.{others_none, others_append}
-use Rattle.worker_rounds.specs.Joined.{IsJoined}
+use Rattle.worker_rounds.proofs.Prelude.{AreOthers, IsJoined, others_append, others_none}
 
--- so many parts of a size are enough for all
+-- this many parts of a size cover everything
 pub parts_cover : (n size : ℕ) → 0 < size → n ≤ (n / size + min 1 (n % size)) * size
 parts_cover n size pos = by (n % size) refl
   where
@@ -38,7 +35,7 @@ module _ {N P E : Type 0} (own : List N) (named : P → List N) (size : ℕ) whe
           let same : drop (suc i * size) xs ≡ drop (i * size) (drop size xs) = ap (λ k. drop k xs) at ∙ sym (drop-drop (i * size) size xs) in
           subst (λ (ys : List P). IfOk (get_or (map Ok vs) i part) (λ w. AreOthers own (flat_map named (take size ys)) w.items)) same (each (suc i) part (omega arith))
 
-  -- what is named in all parts, put together, is what is named in all
+  -- what is named in all parts, concatenated, is what is named in everything
   pub joined_others : (xs : List P) (parts : List (Result (Vec N) E)) (all : List N) → length xs ≤ length parts * size
       → ((i : ℕ) (part : Result (Vec N) E) → i < length parts → IfOk (get_or parts i part) (λ v. AreOthers own (flat_map named (take size (drop (i * size) xs))) v.items))
       → IsJoined parts all → AreOthers own (flat_map named xs) all
@@ -54,7 +51,7 @@ module _ {N E : Type 0} (Q : N → Type 0) where
   all_of (v ∷ vs) each =
       All-append Q v.items (flat_map (λ (w : Vec N). w.items) vs) (each 0 (Ok v) (omega arith)) (all_of vs (λ i part l. each (suc i) part (omega arith)))
 
-  -- what holds of all in each part holds of all
+  -- what holds of all elements of each part holds of all
   pub joined_all : (parts : List (Result (Vec N) E)) (all : List N) → ((i : ℕ) (part : Result (Vec N) E) → i < length parts → IfOk (get_or parts i part) (λ v. All Q v.items)) → IsJoined parts all → All Q all
   joined_all parts all each j =
       subst (All Q) (sym j.whole)

@@ -1,10 +1,10 @@
--- Lists that are put together.
+-- Results that are put together.
 -- Source: this project's own.
-use Rattle.std.specs.Prelude.{◌≡◌, List, map, Result, Ok}
-use Rattle.std.specs.List.{flat_map}
+use Rattle.std.proofs.Common.{◌≡◌, List, map, Ok, Result}
 use Rattle.std.specs.Global.{Vec}
+use Rattle.std.specs.List.{flat_map}
 
--- none of the parts was refused, and all is what they hold, one behind the other
+-- none of the parts is an error, and `all` is what they hold, concatenated
 pub record IsJoined {X E : Type 0} (parts : List (Result (Vec X) E)) (all : List X) : Type 0 where
   pub loads : List (Vec X)
   pub each : parts ≡ map Ok loads

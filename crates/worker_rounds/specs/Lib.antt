@@ -1,4 +1,5 @@
-pub mod Crews
+pub mod Prelude
+pub mod WorkerCounts
 pub mod Joined
 pub mod Refusals
-pub mod Shares
+pub mod Chunks

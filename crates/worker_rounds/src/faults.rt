@@ -1,4 +1,4 @@
-//! Why there is no load by workers.
+//! Errors of loads by workers.
 ghost use Rattle.std.specs.Prelude.{◌≡◌};
 ghost use Rattle.worker_rounds.specs.Refusals.{refusal_of};
 
@@ -8,10 +8,10 @@ use thiserror::Error;
 /// Why there is no load by workers.
 #[derive(Clone, Copy, Debug, PartialEq, Eq, Error)]
 pub enum RoundFault {
-    /// The workers aren't 1 to 64.
+    /// The number of workers isn't 1 to 64.
     #[error("the workers aren't 1 to 64")]
     Workers,
-    /// More is reached than the limit.
+    /// More nodes than the limit are reached.
     #[error("more is reached than the limit")]
     TooMany,
     #[error("out of memory")]

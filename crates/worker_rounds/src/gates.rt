@@ -1,19 +1,19 @@
 //! Gates, at which workers wait before they load.
 
-/// Asked by each worker before it loads its share, until it answers true. It can wait for other
-/// shares of the round, and see that they were all begun. Its answers never change a load.
+/// Each worker asks the gate before it loads its chunk, until the answer is true. A gate can wait for other chunks of
+/// the round, and so observe that all of them were begun. Its answers never change a load.
 pub trait Gate {
-    /// Whether the worker of this share may go on. Shares are numbered from 0 in their round.
-    fn arrive(&self, share: usize) -> bool;
+    /// Whether the worker of this chunk may go on. The chunks of a round are numbered from 0.
+    fn arrive(&self, chunk: usize) -> bool;
 }
 
-/// So many times a gate is asked for one share at most; then its worker goes on.
+/// The most times that a gate is asked for one chunk; after that its worker goes on.
 pub const TURNS: u32 = 1_000_000;
 
-/// Asks the gate until it lets the share's worker go on, or was asked `TURNS` times.
-pub fn pass_gate<G: Gate>(gate: &G, share: usize) {
+/// Asks the gate until it lets the chunk's worker go on, at most `TURNS` times.
+pub fn pass_gate<G: Gate>(gate: &G, chunk: usize) {
     for _ in 0..TURNS {
-        if gate.arrive(share) {
+        if gate.arrive(chunk) {
             return;
         }
     }
@@ -24,7 +24,7 @@ pub fn pass_gate<G: Gate>(gate: &G, share: usize) {
 pub struct OpenGate;
 
 impl Gate for OpenGate {
-    fn arrive(&self, _share: usize) -> bool {
+    fn arrive(&self, _chunk: usize) -> bool {
         true
     }
 }

@@ -1,40 +1,40 @@
-//! Workers: each loads a share of a round.
+//! Workers, each of which loads a chunk of a round.
 ghost use Rattle.std.specs.{Prelude.{◌≡◌, ℕ, ◌<◌, ◌≤◌, ◌*◌, length, take, drop, slice_index_or, All, IfOk}, List.{flat_map}};
 ghost use Rattle.std.specs.{List.Sorted.{IsStrictlySortedBy}, Map.{keys_of}};
 ghost use Rattle.name_closure.specs.Loading.{AreLoaded, AreLoads, AreOthers, IsRound};
 
+use crate::chunks::{Chunk, put_together, work_by_chunks};
 use crate::gates::{Gate, pass_gate};
-use crate::shares::{Share, put_together, work_by_shares};
 use name_closure::{Loads, Round, load_each, others_named};
 use plain_values::Key;
 use std::alloc::{AllocError, Global};
 use std::thread;
 use std::thread::Threads;
 
-// By what a round is loaded: so many workers, in threads of this runtime, and the gate that each of them asks.
+// What loads a round: the number of workers, the runtime of their threads, and the gate that each of them asks.
 #[derive(Drop)]
-pub(crate) struct Means<'a, R, G> {
+pub(crate) struct WorkerResources<'a, R, G> {
     pub rt: &'a R,
     pub workers: usize,
     pub gate: &'a G,
 }
 
-// What a worker does: it passes the gate, and loads the nodes of its share.
-fn load_share<K: Key, L: Loads<K>, G: Gate>(
+// What a worker does: it passes the gate, and loads the nodes of its chunk.
+fn load_chunk<K: Key, L: Loads<K>, G: Gate>(
     alloc: Global,
     loader: &L,
     gate: &G,
-    share: Share<K>,
+    chunk: Chunk<K>,
 ) -> Result<Vec<(K, L::Loaded)>, AllocError>
-    requires nodes { All (L.is_node loader.now) share.nodes.items }
-    ensures pairs { IfOk result (λ pairs. AreLoads (L.is_loaded loader.now) share.nodes.items pairs.items) }
+    requires nodes { All (L.is_node loader.now) chunk.nodes.items }
+    ensures pairs { IfOk result (λ pairs. AreLoads (L.is_loaded loader.now) chunk.nodes.items pairs.items) }
 {
-    pass_gate(gate, share.number);
-    load_each(alloc, loader, share.nodes)
+    pass_gate(gate, chunk.number);
+    load_each(alloc, loader, chunk.nodes)
 }
 
-// What is named in what a round loaded and isn't the round's own, by so many workers; what several of them name, more than once.
-// They take parts of the same size, but for the last.
+// Returns the nodes that are named in what a round loaded and aren't the round's own, collected by this many workers. A
+// node that several workers find is returned several times. Their parts have one size, except for the last.
 fn name_by_workers<R: Threads + Sync, K: Key + Send + Sync, L: Loads<K> + Sync>(
     rt: &R,
     alloc: Global,
@@ -63,7 +63,7 @@ where
     put_together(alloc, named)
 }
 
-// What a round of new nodes loads, by so many workers: each of them with what is loaded for it, and the other nodes that are
+// Loads a round of new nodes by workers: returns each node with what is loaded for it, and the other nodes that are
 // named there.
 pub(crate) fn load_by_workers<
     R: Threads + Sync,
@@ -71,41 +71,41 @@ pub(crate) fn load_by_workers<
     L: Loads<K> + Sync,
     G: Gate + Sync,
 >(
-    means: &Means<R, G>,
+    resources: &WorkerResources<R, G>,
     alloc: Global,
     loader: &L,
     fresh: Vec<K>,
 ) -> Result<Round<K, L::Loaded>, AllocError>
 where
     L::Loaded: Send + Sync,
-    requires some { 0 < means.now.workers }
-    requires rising { IsStrictlySortedBy K.cmp fresh.items }
+    requires some { 0 < resources.now.workers }
+    requires ascending { IsStrictlySortedBy K.cmp fresh.items }
     requires nodes { All (L.is_node loader.now) fresh.items }
     ensures round { IfOk result (λ round. IsRound (L.is_node loader.now) (L.is_loaded loader.now) (L.named loader.now)
         fresh.items round.pairs.items round.names.items) }
 {
-    let pairs = pairs_by_workers(means, alloc, loader, fresh)?;
-    let names = name_by_workers(means.rt, alloc, loader, means.workers, &pairs)?;
+    let pairs = pairs_by_workers(resources, alloc, loader, fresh)?;
+    let names = name_by_workers(resources.rt, alloc, loader, resources.workers, &pairs)?;
     Ok(Round { pairs, names })
 }
 
-// Each of the new nodes of a round with what is loaded for it, each share by a worker of its own.
+// Returns each new node of a round with what is loaded for it. Each chunk has its own worker.
 fn pairs_by_workers<R: Threads + Sync, K: Key + Send, L: Loads<K> + Sync, G: Gate + Sync>(
-    means: &Means<R, G>,
+    resources: &WorkerResources<R, G>,
     alloc: Global,
     loader: &L,
     fresh: Vec<K>,
 ) -> Result<Vec<(K, L::Loaded)>, AllocError>
 where
     L::Loaded: Send,
-    requires some { 0 < means.now.workers }
+    requires some { 0 < resources.now.workers }
     requires nodes { All (L.is_node loader.now) fresh.items }
     ensures pairs { IfOk result (λ pairs. AreLoads (L.is_loaded loader.now) fresh.items pairs.items) }
 {
-    let gate = means.gate;
-    let load = |share: Share<K>| -> Result<Vec<(K, L::Loaded)>, AllocError>
-        requires { All (L.is_node loader.now) share.nodes.items }
-        ensures { IfOk result (λ pairs. AreLoads (L.is_loaded loader.entry.now) share.nodes.items pairs.items) }
-    { load_share(alloc, loader, gate, share) };
-    work_by_shares(means.rt, alloc, fresh, means.workers, &load)
+    let gate = resources.gate;
+    let load = |chunk: Chunk<K>| -> Result<Vec<(K, L::Loaded)>, AllocError>
+        requires { All (L.is_node loader.now) chunk.nodes.items }
+        ensures { IfOk result (λ pairs. AreLoads (L.is_loaded loader.entry.now) chunk.nodes.items pairs.items) }
+    { load_chunk(alloc, loader, gate, chunk) };
+    work_by_chunks(resources.rt, alloc, fresh, resources.workers, &load)
 }

@@ -1,14 +1,7 @@
--- The theorem on whole runs.
-use Rattle.std.proofs.Common.{◌≡◌, ◌↔◌, ℕ, true, false, cond, Option, Some, None, List, [], ◌∷◌, ◌++◌, refl, sym, subst, ◌∙◌, inl, inr}
-use Rattle.std.specs.Prelude.{slice_get, nat_lt, IfSome}
-use Rattle.list_laws.specs.Members.{IsAmong}
-use Rattle.edit_sums.specs.declared.entries.Edit.{Edit}
-use Rattle.edit_sums.specs.Sums.{EntryMap, IsAboveEdits, IsHonest, IsStoreBelow}
-use Rattle.edit_sums.specs.SumLaws.{sum_of-least, sum_of-same_edits}
-use Rattle.world_law.specs.declared.events.Event.{Event}
-use Rattle.world_law.specs.declared.events.Event.TheVariants.{Put, Ask, Cut, Give}
-use Rattle.world_law.specs.Worlds.{Node, after, blank, puts_of, EachStoreIsItsSum, EachStoreIsLeast, SameTookSameStore, AreSameEdits}
-use Rattle.world_law.specs.SoundLaws.{IsSound, blank_sound, after_keeps}
+-- The theorem for complete lists of events.
+use Rattle.std.proofs.Common.{[], ◌++◌, ◌↔◌, ◌∙◌, ◌∷◌, ◌≡◌, cond, false, inl, inr, List, nat_lt, None, Option, refl, slice_get, Some, subst, sym, true, ℕ}
+use Rattle.std.specs.Prelude.{IfSome}
+use Rattle.world_law.proofs.Prelude.{after, after_keeps, AreSameEdits, Ask, blank, blank_sound, Cut, EachStoreIsItsSum, EachStoreIsLeast, Edit, EntryMap, Event, Give, IsAboveEdits, IsAmong, IsHonest, IsSound, IsStoreBelow, Node, Put, puts_of, SameTookSameStore, sum_of-least, sum_of-same_edits}
 
 pub IfSome_from : (o : Option Node) (P : Node → Type 0) → ((n : Node) → o ≡ Some n → P n) → IfSome o P
 IfSome_from None P h = tt

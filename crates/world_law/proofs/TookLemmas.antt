@@ -1,27 +1,13 @@
--- The took sets of the machine are those that the events tell.
-use Rattle.std.proofs.Common.{◌≡◌, ℕ, zero, suc, ◌<◌, ◌≤◌, ◌↔◌, Bool, true, false, cond, Option, Some, None, List, [], ◌∷◌, ◌++◌, length, refl, sym, ap, subst, ◌∙◌, ◌⊎◌, inl, inr, arith, append_assoc}
-use Rattle.std.specs.Prelude.{slice_get, replicate, ◌==◌, IsSome, IfSome, filter, reverse}
-use borrow.Author.Tests.{eqb-true, eq-eqb}
+-- The list of what a node took has the same members as the relation `Took`.
+use Rattle.std.proofs.Common.{[], ◌++◌, ◌<◌, ◌==◌, ◌↔◌, ◌∙◌, ◌∷◌, ◌≡◌, ◌≤◌, ◌⊎◌, ap, append-nil, append_assoc, arith, Bool, cond, false, filter, inl, inr, IsSome, length, List, None, Option, refl, replicate, reverse, slice_get, Some, subst, suc, sym, true, zero, ℕ}
 use Rattle.std.proofs.lemmas.Grind.{reverse_onto}
-use Rattle.std.proofs.lemmas.List.{append-nil}
-use Rattle.std.specs.FinMap as finmap
-use Rattle.list_laws.specs.Members.{IsAmong, IsAmong-append_cases, IsAmong-append_left, IsAmong-append_right}
-use Rattle.edit_sums.specs.Entries.{Entry}
-use Rattle.edit_sums.specs.declared.entries.Edit.{Edit}
-use Rattle.edit_sums.specs.Entries.{IsBelow}
+use Rattle.std.specs.Prelude.{IfSome}
+use borrow.Author.Tests.{eq-eqb, eqb-true}
+use Rattle.world_law.proofs.Prelude.{after, Ask, Asked, asked_by, at_places, blank, changed_at, Cut, cut, cut_for, Edit, edit_of, edits_of, edits_with, Entry, entry, entry_of, EntryMap, Event, EventWorld, get-sum_of, Give, given_to, greatest_at-above, greatest_at-found, HoldsTheSum, is_asked, IsAmong, IsAmong-append_cases, IsAmong-append_left, IsAmong-append_right, IsAmong_from_filter, IsAskOf, IsBelow, IsSumOf, Node, node_count, Piece, piece_stays, PlaceParts, Put, put, slice_get_last, stays, sum_of, taken, Took, took, took_by, took_stays, TookByEvents, WasCut, whole, world_of}
 use Rattle.world_law.proofs.Theorem.{each_store_is_its_sum, IfSome_from}
-use Rattle.load_places.specs.Places.{PlaceParts}
-use Rattle.edit_sums.specs.Sums.{EntryMap, edits_of, entry_of, edit_of, sum_of}
-use Rattle.world_law.specs.Cuts.{is_asked, at_places, cut}
-use Rattle.edit_sums.specs.GreatestLaws.{get-sum_of, greatest_at-above, greatest_at-found, IsAmong_from_filter}
-use Rattle.world_law.specs.declared.events.Event.{Event}
-use Rattle.world_law.specs.declared.events.Event.TheVariants.{Put, Ask, Cut, Give}
-use Rattle.world_law.specs.Worlds.{Node, Asked, Piece, EventWorld, taken, changed_at, asked_by, cut_for, edits_with, given_to, after, blank, took, took_by}
-use Rattle.world_law.specs.WorldLaws.{node_count, piece_stays, took_stays, slice_get_last}
-use Rattle.world_law.specs.Took.{world_of, WasCut, IsAskOf, Took, IsSumOf, HoldsTheSum, TookAsTold}
-use Rattle.world_law.specs.Took.Took.{put, entry, whole, stays}
+use Rattle.std.specs.FinMap as finmap
 
--- one node changes
+-- One node changes.
 
 took_cases : (i k : ℕ) (s : EntryMap) (xs : List Edit) (ns : List Node) (e : Edit) → IsAmong e (took_by (slice_get (changed_at i (taken s xs) ns) k)) → IsAmong e (took_by (slice_get ns k)) ⊎ ((i ≡ k) × (k < length ns) × IsAmong e xs)
 took_cases i k s xs [] e h = absurd h
@@ -35,7 +21,7 @@ took_new k s xs [] e b h = absurd (omega arith)
 took_new zero s xs (n ∷ ns) e b h = IsAmong-append_right e n.took xs h
 took_new (suc k) s xs (n ∷ ns) e b h = took_new k s xs ns e (omega arith) h
 
--- lists
+-- Lists.
 
 got_cases : {X : Type 0} (xs : List X) (y : X) (i : ℕ) (x : X) → slice_get (xs ++ y ∷ []) i ≡ Some x → (slice_get xs i ≡ Some x) ⊎ ((length xs ≡ i) × (y ≡ x))
 got_cases [] y zero x h = inr (refl, cc)
@@ -70,7 +56,7 @@ shorter : (later : List Event) (event : Event) (earlier : List Event) → length
 shorter [] event earlier = omega arith
 shorter (x ∷ later) event earlier = let h : length earlier < length (later ++ event ∷ earlier) = shorter later event earlier in omega arith
 
--- the nodes stay as many, and pieces stay
+-- The number of nodes never changes, and pieces stay.
 
 asked_nodes : (w : EventWorld) (i : ℕ) (o : Option Node) → (asked_by w i o).nodes ≡ w.nodes
 asked_nodes w i None = refl
@@ -229,11 +215,11 @@ module _ (n : ℕ) where
       (subst (λ (b : Bool). IsAmong e (cond b piece.had [])) (sym (eq-eqb ask.0.node k ask.2)) (filter_keeps (λ f. is_asked f.place places) e node.0.took had_node asked)))
   took_complete (stays {history = history} {k = k} {e = e} event t) = took_stays (world_of n history) event k e (took_complete t)
 
-  -- the machine's took sets are those that the events tell
+  -- the list and the relation agree on what a node took
   pub took_is : (history : List Event) (k : ℕ) (e : Edit) → IsAmong e (took (world_of n history) k) ↔ Took n history k e
   took_is history k e = (took_sound (length history) history (omega arith) k e, took_complete)
 
-  -- runs, told from the newest event
+  -- Lists of events, from the newest event back.
 
   after_onto : (events history : List Event) → after events (world_of n history) ≡ world_of n (reverse events ++ history)
   after_onto [] history = refl
@@ -243,8 +229,8 @@ module _ (n : ℕ) where
   after_is : (events : List Event) → after events (blank n) ≡ world_of n (reverse events)
   after_is events = after_onto events [] ∙ ap (world_of n) (append-nil (reverse events))
 
-  pub took_as_told : (events : List Event) → TookAsTold n events
-  took_as_told events k e =
+  pub took_by_events : (events : List Event) → TookByEvents n events
+  took_by_events events k e =
       subst (λ (w : EventWorld). IsAmong e (took w k) ↔ Took n (reverse events) k e) (sym (after_is events)) (took_is (reverse events) k e)
 
   IfSome_at : (o : Option Node) (P : Node → Type 0) (node : Node) → o ≡ Some node → IfSome o P → P node

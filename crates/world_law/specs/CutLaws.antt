@@ -1,25 +1,12 @@
 -- What asks and cuts hold at a place.
-use Rattle.std.proofs.Common.{◌≡◌, Bool, true, false, cond, Option, Some, None, List, [], ◌∷◌, ◌++◌, map, refl, sym, ap, subst, ◌∙◌}
-use Rattle.std.specs.Option.{option_map}
-use Rattle.std.specs.declared.cmp.Ordering.TheVariants.{Less, Equal, Greater}
-use Rattle.std.specs.Ordering.{eq_by_cmp, is_gt, ordering_then}
-use Rattle.std.specs.FinMap as finmap
+use Rattle.std.proofs.Common.{[], ◌++◌, ◌∙◌, ◌∷◌, ◌≡◌, ap, Bool, cond, false, List, map, None, Option, refl, Some, subst, sym, true}
 use Rattle.std.specs.FinMap.{find}
-use Rattle.list_laws.specs.Members.{IsAmong-append_left, IsAmong-append_right}
-use Rattle.join_law.specs.VersionOrder.{version_cmp}
-use Rattle.join_law.specs.VersionOrderLaws.{version_cmp-IsAntisymmetric}
-use Rattle.load_places.specs.Places.{PlaceParts, place_cmp}
-use Rattle.load_places.specs.PlaceLaws.{place_cmp_total}
-use Rattle.edit_sums.specs.Entries.{Entry}
-use Rattle.edit_sums.specs.declared.entries.Edit.{Edit}
-use Rattle.edit_sums.specs.Contents.{content_cmp}
-use Rattle.edit_sums.specs.Entries.{IsBelow, larger}
-use Rattle.edit_sums.specs.EntryLaws.{below_refl, larger-absorb}
-use Rattle.edit_sums.specs.Sums.{EntryMap, entry_of, edit_of, IsHonest, greatest_at, edits_of, join}
-use Rattle.edit_sums.specs.GreatestLaws.{tied, passed, get-sum_of, get-join, greatest_at-filter, passed_was}
-use Rattle.edit_sums.specs.SumLaws.{same_store}
-use Rattle.edit_sums.specs.CounterLaws.{edits_of-found}
-use Rattle.world_law.specs.Cuts.{VersionMap, digest_of, is_newer, is_asked, at_places, is_wanted, cut, only_at}
+use Rattle.std.specs.Option.{option_map}
+use Rattle.std.specs.Ordering.{eq_by_cmp, is_gt, ordering_then}
+use Rattle.std.specs.declared.cmp.Ordering.TheVariants.{Equal, Greater, Less}
+use Rattle.world_law.specs.Prelude.{below_refl, content_cmp, Edit, edit_of, edits_of, edits_of-found, Entry, entry_of, EntryMap, get-join, get-sum_of, greatest_at, greatest_at-filter, IsAmong-append_left, IsAmong-append_right, IsBelow, IsHonest, join, larger, larger-absorb, passed, passed_was, place_cmp, place_cmp_total, PlaceParts, same_store, tied, version_cmp, version_cmp-IsAntisymmetric}
+use Rattle.world_law.specs.Cuts.{at_places, cut, digest_of, is_asked, is_newer, is_wanted, only_at, VersionMap}
+use Rattle.std.specs.FinMap as finmap
 
 pub get-cut : (s : EntryMap) (ask : VersionMap) (places : Option (List PlaceParts)) (q : PlaceParts) → finmap.get (cut s ask places) q ≡ passed (is_wanted ask places) q (finmap.get s q)
 get-cut s ask places q = get-sum_of _ q ∙ greatest_at-filter (is_wanted ask places) q s
@@ -39,7 +26,7 @@ nothing : (b : Bool) → ◌≡◌ {A = Option Entry} None (cond b None None)
 nothing true = refl
 nothing false = refl
 
--- the edits at the asked places
+-- the edits at the places asked for
 pub greatest_at-at_places : (places : Option (List PlaceParts)) (q : PlaceParts) (es : List Edit) → greatest_at q (at_places places es) ≡ cond (is_asked q places) (greatest_at q es) None
 greatest_at-at_places places q [] = nothing (is_asked q places)
 greatest_at-at_places places q (e ∷ es) =
@@ -58,11 +45,11 @@ greatest_at-at_places places q (e ∷ es) =
       ] ∙ rest
     ] refl
 
--- a cut has nothing that the store has not
+-- a cut holds nothing that the store doesn't hold
 pub get_from_cut : (s : EntryMap) (ask : VersionMap) (places : Option (List PlaceParts)) (q : PlaceParts) (x : Entry) → finmap.get (cut s ask places) q ≡ Some x → finmap.get s q ≡ Some x
 get_from_cut s ask places q x h = passed_was (is_wanted ask places) q (finmap.get s q) x (sym (get-cut s ask places q) ∙ h)
 
--- an entry of a version that is not greater is at most the other, where versions tell edits apart
+-- an entry with no greater version is at most the other, if versions identify edits
 pub not_greater : (x y : Entry) → is_gt (version_cmp x.version y.version) ≡ false → (x.version ≡ y.version → x ≡ y) → IsBelow (Some x) (Some y)
 not_greater x y h same =
     elim (version_cmp x.version y.version) as (λ o. version_cmp x.version y.version ≡ o → is_gt o ≡ false → is_gt (ordering_then o (content_cmp x.content y.content)) ≡ false) [
@@ -74,7 +61,7 @@ not_greater x y h same =
       | Greater ↦ λ e g. cc
     ] refl h
 
--- at a place
+-- the same at one place
 at_place : (q : PlaceParts) (y z : Option Entry) → ((x v : Entry) → y ≡ Some v → z ≡ Some x → x.version ≡ v.version → x ≡ v) →
     (ask : VersionMap) → finmap.get ask q ≡ option_map (λ x. x.version) y → larger y (passed (is_wanted ask None) q z) ≡ larger y z
 at_place q y None honest ask is = refl
@@ -86,7 +73,7 @@ at_place q (Some v) (Some x) honest ask is =
       | false ↦ λ g. sym (larger-absorb (Some v) (Some x) (not_greater x v g (λ same. honest x v refl refl same)))
     ] refl
 
--- With honest versions, what is cut for one's own ask, joined to what one has, is all that both have.
+-- With honest edits, joining the full answer to one's own ask gives the join of both stores.
 pub whole_answer : (a b : EntryMap) → IsHonest (edits_of a ++ edits_of b) → join a (cut b (digest_of a) None) ≡ join a b
 whole_answer a b honest =
     same_store _ _
@@ -97,6 +84,6 @@ whole_answer a b honest =
     get-join a (cut b (digest_of a) None) q ∙ ap (larger (finmap.get a q)) (get-cut b (digest_of a) None q) ∙
     at_place q (finmap.get a q) (finmap.get b q) one (digest_of a) (get-digest_of a q) ∙ sym (get-join a b q))
 
--- what is held at some places, at a place
+-- the part of a store at some places, looked up at one place
 pub get-only_at : (places : List PlaceParts) (s : EntryMap) (q : PlaceParts) → finmap.get (only_at places s) q ≡ passed (λ e. is_asked e.place (Some places)) q (finmap.get s q)
 get-only_at places s q = get-sum_of _ q ∙ greatest_at-filter (λ e. is_asked e.place (Some places)) q s

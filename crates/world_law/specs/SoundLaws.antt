@@ -1,29 +1,14 @@
--- What each event keeps.
-use Rattle.std.proofs.Common.{◌≡◌, ℕ, zero, suc, ◌<◌, Bool, true, false, cond, Option, Some, None, List, [], ◌∷◌, ◌++◌, length, refl, sym, ap, subst, ◌∙◌, ◌⊎◌, inl, inr, arith}
-use Rattle.std.specs.Prelude.{slice_get, replicate, nat_lt, ◌==◌, ◌&&◌}
-use Rattle.std.specs.Ordering.{is_gt}
-use Rattle.std.specs.Option.{option_map}
+-- Invariants that each event keeps.
+use Rattle.std.proofs.Common.{[], ◌&&◌, ◌++◌, ◌<◌, ◌==◌, ◌∙◌, ◌∷◌, ◌≡◌, ◌⊎◌, ap, arith, Bool, cond, false, inl, inr, length, List, nat_lt, None, Option, refl, replicate, slice_get, Some, subst, suc, sym, true, zero, ℕ}
 use Rattle.std.proofs.lemmas.Option.{slice_get_within}
-use borrow.Author.Tests.{lt-ltb, eqb-true}
+use Rattle.std.specs.Option.{option_map}
+use Rattle.std.specs.Ordering.{is_gt}
+use borrow.Author.Tests.{eqb-true, lt-ltb}
+use Rattle.world_law.specs.Prelude.{below_refl, below_trans, Edit, edit_of, edits_of, Entry, entry_of, EntryMap, get-join, get-sum_of, get_from_edits_of, greatest_at, greatest_at-append, greatest_at-edits_of, greatest_at-found, IsAmong, IsAmong-append_cases, IsAmong_from_filter, IsBelow, IsStoreBelow, join, join-left, larger, larger-absorb, larger-left, larger-mono, larger_assoc, larger_comm, passed, PlaceParts, same_store, sum_of, sum_of-append, sum_of-edits_of, Version, version_cmp}
+use Rattle.world_law.specs.{CutLaws.get-cut, CutLaws.get-digest_of, CutLaws.get_from_cut, CutLaws.greatest_at-at_places, CutLaws.not_greater, Cuts.at_places, Cuts.cut, Cuts.digest_of, Cuts.is_asked, Cuts.is_newer, Cuts.is_wanted, Cuts.VersionMap, declared.events.Event.Event, declared.events.Event.TheVariants.Ask, declared.events.Event.TheVariants.Cut, declared.events.Event.TheVariants.Give, declared.events.Event.TheVariants.Put, Worlds.after, Worlds.Asked, Worlds.asked_by, Worlds.blank, Worlds.changed_at, Worlds.cut_for, Worlds.edits_with, Worlds.EventWorld, Worlds.given_to, Worlds.happens, Worlds.Node, Worlds.Piece, Worlds.puts_of, Worlds.taken}
 use Rattle.std.specs.FinMap as finmap
-use Rattle.list_laws.specs.Members.{IsAmong, IsAmong-append_cases}
-use Rattle.join_law.specs.declared.versions.Version.{Version}
-use Rattle.edit_sums.specs.Entries.{Entry}
-use Rattle.edit_sums.specs.declared.entries.Edit.{Edit}
-use Rattle.join_law.specs.VersionOrder.{version_cmp}
-use Rattle.edit_sums.specs.Entries.{IsBelow, larger}
-use Rattle.load_places.specs.Places.{PlaceParts}
-use Rattle.edit_sums.specs.Sums.{EntryMap, entry_of, edit_of, IsStoreBelow, greatest_at, sum_of, edits_of, join}
-use Rattle.world_law.specs.Cuts.{VersionMap, digest_of, cut, is_asked, is_newer, is_wanted, at_places}
-use Rattle.edit_sums.specs.EntryLaws.{below_refl, below_trans, larger-left, larger-mono, larger-absorb, larger_comm, larger_assoc}
-use Rattle.edit_sums.specs.GreatestLaws.{passed, get-sum_of, get-join, get_from_edits_of, greatest_at-found, greatest_at-append, greatest_at-edits_of, IsAmong_from_filter}
-use Rattle.world_law.specs.CutLaws.{get-cut, get-digest_of, get_from_cut, greatest_at-at_places, not_greater}
-use Rattle.edit_sums.specs.SumLaws.{same_store, sum_of-append, sum_of-edits_of, join-left}
-use Rattle.world_law.specs.declared.events.Event.{Event}
-use Rattle.world_law.specs.declared.events.Event.TheVariants.{Put, Ask, Cut, Give}
-use Rattle.world_law.specs.Worlds.{Node, Asked, Piece, EventWorld, taken, changed_at, asked_by, cut_for, edits_with, given_to, happens, after, blank, puts_of}
 
--- lists
+-- Lists.
 
 slice_get-push_cases : {X : Type 0} (xs : List X) (x y : X) (i : ℕ) → slice_get (xs ++ x ∷ []) i ≡ Some y → (slice_get xs i ≡ Some y) ⊎ (x ≡ y)
 slice_get-push_cases [] x y zero h = inr (cc)
@@ -93,21 +78,21 @@ puts_rest n (Cut j b places) events e a = a
 puts_rest n (Give p k) events e a = a
 
 module _ (count : ℕ) (IsPut : Edit → Type 0) where
-  -- a node's store is the sum of what it took, and it took what was put
+  -- a node's store is the sum of what the node took, and everything that it took was put
   pub record IsNodeSound (n : Node) : Type 0 where
     pub is_sum : n.store ≡ sum_of n.took
     pub puts : (e : Edit) → IsAmong e n.took → IsPut e
 
-  -- each version of an ask is that of an entry that was put, and that is at most what the asker has now
+  -- each version in an ask belongs to an entry that was put, and that is at most what the asker has now
   abbrev pub IsAskBelow : Asked → Node → Type 0
   IsAskBelow a n = (q : PlaceParts) (v : Version) → finmap.get a.versions q ≡ Some v → (x : Entry) × (x.version ≡ v) × IsPut (edit_of (q, x)) × IsBelow (Some x) (finmap.get n.store q)
 
-  -- what a piece stands for was put
+  -- everything that a piece counts for was put
   pub record IsPieceSound (p : Piece) : Type 0 where
     pub entries_put : (e : Edit) → IsAmong e (edits_of p.entries) → IsPut e
     pub had_put : (e : Edit) → IsAmong e p.had → IsPut e
 
-  -- with the piece the asker has all that the piece was cut from
+  -- with the piece the asker has everything that the cutting node had at the places of the cut
   abbrev pub IsCovered : Piece → Node → Type 0
   IsCovered p n = (q : PlaceParts) → IsBelow (greatest_at q p.had) (larger (finmap.get p.entries q) (finmap.get n.store q))
 
@@ -127,7 +112,7 @@ module _ (count : ℕ) (IsPut : Edit → Type 0) where
   cover_stays p n m up h q =
       below_trans (greatest_at q p.had) _ _ (h q) (larger-mono (finmap.get p.entries q) (finmap.get n.store q) (finmap.get p.entries q) (finmap.get m.store q) (below_refl (finmap.get p.entries q)) (up q))
 
-  -- a node that grew
+  -- a node that took more
   grew : (i k : ℕ) (s : EntryMap) (es : List Edit) (ns : List Node) (m : Node) → slice_get (changed_at i (taken s es) ns) k ≡ Some m → (n : Node) × (slice_get ns k ≡ Some n) × IsStoreBelow n.store m.store
   grew i k s es ns m h =
       let r = slice_get-changed_at i (taken s es) ns k m h in (
@@ -139,7 +124,7 @@ module _ (count : ℕ) (IsPut : Edit → Type 0) where
         ],
       )
 
-  -- a node takes what keeps its store the sum
+  -- taking a store that keeps the node's store equal to the sum
   takes_keeps : (w : EventWorld) (i : ℕ) (s : EntryMap) (es : List Edit) → IsSound w → ((n : Node) → slice_get w.nodes i ≡ Some n → (join n.store s ≡ sum_of (n.took ++ es)) × ((e : Edit) → IsAmong e es → IsPut e)) → IsSound (record w { nodes = changed_at i (taken s es) w.nodes })
   takes_keeps w i s es sound good = record {
     length_is = length-changed_at i (taken s es) w.nodes ∙ sound.length_is;
@@ -160,7 +145,7 @@ module _ (count : ℕ) (IsPut : Edit → Type 0) where
     covers = λ j p m hp hm. let r = grew i p.asker s es w.nodes m hm in cover_stays p r.0 m r.2 (sound.covers j p r.0 hp r.1);
   }
 
-  -- what was put at one node
+  -- an edit put at one node
   put_keeps : (w : EventWorld) (i : ℕ) (e : Edit) → IsSound w → (nat_lt i count ≡ true → IsPut e) → IsSound (happens w (Put i e))
   put_keeps w i e sound good =
       takes_keeps w i (sum_of (e ∷ [])) (e ∷ []) sound
@@ -198,7 +183,7 @@ module _ (count : ℕ) (IsPut : Edit → Type 0) where
       ] refl
 
   module _ (honest : (e f : Edit) → IsPut e → IsPut f → e.version ≡ f.version → e ≡ f) where
-    -- what is cut for an ask and what the asker has are all that the cutting node has
+    -- the cut for an ask, together with the asker's store, is everything that the cutting node has
     covered_at : (x : Entry) (q : PlaceParts) (a : Asked) (asker : Node) (c : Bool) (o : Option Version) →
         IsPut (edit_of (q, x)) → IsAskBelow a asker → finmap.get a.versions q ≡ o →
         IsBelow (cond c (Some x) None) (larger (cond (c && is_newer x.version o) (Some x) None) (finmap.get asker.store q))
@@ -219,7 +204,7 @@ module _ (count : ℕ) (IsPut : Edit → Type 0) where
     passed_at : (q : PlaceParts) (ask : VersionMap) (places : Option (List PlaceParts)) (x : Entry) → passed (is_wanted ask places) q (Some x) ≡ cond (is_asked q places && is_newer x.version (finmap.get ask q)) (Some x) None
     passed_at q ask places x = refl
 
-    -- a node cuts for an ask
+    -- a node cuts a piece for an ask
     cut_covers : (n asker : Node) (a : Asked) (places : Option (List PlaceParts)) → IsNodeSound n → IsAskBelow a asker →
         IsCovered (record { entries = cut n.store a.versions places; asker = a.node; had = at_places places n.took }) asker
     cut_covers n asker a places sound below q =
@@ -267,7 +252,7 @@ module _ (count : ℕ) (IsPut : Edit → Type 0) where
           ] refl
         ] refl
 
-    -- what the asker has with the piece is all that it stands for
+    -- the asker's store joined with the piece is everything that the piece counts for
     whole : (p : Piece) (n : Node) → IsCovered p n → join n.store p.entries ≡ join n.store (sum_of (edits_of p.entries ++ p.had))
     whole p n covered =
         same_store _ _
@@ -284,7 +269,7 @@ module _ (count : ℕ) (IsPut : Edit → Type 0) where
         let small : IsBelow (greatest_at q p.had) (larger s t) = subst (λ (y : Option Entry). IsBelow (greatest_at q p.had) y) (larger_comm t s) (covered q) in
         left ∙ sym (larger-absorb (larger s t) (greatest_at q p.had) small) ∙ larger_assoc s t (greatest_at q p.had) ∙ sym right)
 
-    -- a piece that is given counts by its entries, or for the asker by all that it was cut from
+    -- a given piece counts for its entries, or, at the asker, for everything that it was cut from
     given_is_sum : (p : Piece) (n : Node) (k : ℕ) (b : Bool) → IsNodeSound n → (b ≡ true → IsCovered p n) →
         join n.store p.entries ≡ sum_of (n.took ++ (edits_of p.entries ++ cond b p.had []))
     given_is_sum p n k true sound covered =

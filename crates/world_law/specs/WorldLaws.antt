@@ -1,31 +1,19 @@
--- What events leave in a world, one event at a time.
-use Rattle.std.proofs.Common.{◌≡◌, ◌≢◌, ℕ, zero, suc, ◌<◌, true, Option, Some, None, List, [], ◌∷◌, ◌++◌, length, refl, sym, ap, subst, ◌∙◌, inl, inr, arith}
-use Rattle.std.specs.Prelude.{slice_get, replicate, nat_lt}
+-- How a world changes, event by event.
+use Rattle.std.proofs.Common.{[], ◌++◌, ◌<◌, ◌∙◌, ◌∷◌, ◌≡◌, ◌≢◌, ap, arith, inl, inr, length, List, nat_lt, None, Option, refl, replicate, slice_get, Some, subst, suc, sym, true, zero, ℕ}
 use Rattle.std.proofs.lemmas.Bool.{cond-true}
 use Rattle.std.proofs.lemmas.Bool.Decides.{nat_tests}
+use Rattle.world_law.specs.Prelude.{Edit, edits_of, entry_of, EntryMap, get_from_edits_of, IsAmong, IsAmong-append_cases, IsAmong-append_left, IsHonest, join, PlaceParts, sum_of, sum_of-IsSum}
+use Rattle.world_law.specs.{CutLaws.whole_answer, Cuts.at_places, Cuts.cut, Cuts.digest_of, declared.events.Event.Event, declared.events.Event.TheVariants.Ask, declared.events.Event.TheVariants.Cut, declared.events.Event.TheVariants.Give, declared.events.Event.TheVariants.Put, SoundLaws.blank_sound, SoundLaws.happens_keeps, SoundLaws.IsSound, SoundLaws.puts_first, SoundLaws.puts_rest, Took.world_of, Worlds.AreWithin, Worlds.Asked, Worlds.asked_by, Worlds.changed_at, Worlds.cut_for, Worlds.edits_with, Worlds.EventWorld, Worlds.given_to, Worlds.happens, Worlds.Node, Worlds.Piece, Worlds.puts_of, Worlds.taken, Worlds.took, Worlds.took_by, Worlds.with_new_node}
 use Rattle.std.specs.FinMap as finmap
-use Rattle.list_laws.specs.Members.{IsAmong, IsAmong-append_cases, IsAmong-append_left}
-use Rattle.load_places.specs.Places.{PlaceParts}
-use Rattle.edit_sums.specs.declared.entries.Edit.{Edit}
-use Rattle.edit_sums.specs.Sums.{EntryMap, IsHonest, entry_of, sum_of, edits_of, join}
-use Rattle.edit_sums.specs.GreatestLaws.{get_from_edits_of}
-use Rattle.edit_sums.specs.SumLaws.{sum_of-IsSum}
-use Rattle.world_law.specs.CutLaws.{whole_answer}
-use Rattle.world_law.specs.declared.events.Event.{Event}
-use Rattle.world_law.specs.declared.events.Event.TheVariants.{Put, Ask, Cut, Give}
-use Rattle.world_law.specs.Cuts.{digest_of, cut, at_places}
-use Rattle.world_law.specs.Worlds.{Node, Asked, Piece, EventWorld, taken, changed_at, asked_by, cut_for, edits_with, given_to, happens, puts_of, took, took_by, AreWithin, with_new_node}
-use Rattle.world_law.specs.Took.{world_of}
-use Rattle.world_law.specs.SoundLaws.{IsSound, blank_sound, happens_keeps, puts_first, puts_rest}
 
--- ---- nodes
+-- Nodes.
 
 pub length-changed_at : (i : ℕ) (f : Node → Node) (ns : List Node) → length (changed_at i f ns) ≡ length ns
 length-changed_at i f [] = refl
 length-changed_at zero f (n ∷ ns) = refl
 length-changed_at (suc i) f (n ∷ ns) = ap suc (length-changed_at i f ns)
 
--- a world has as many nodes as it began with
+-- the number of nodes never changes
 pub node_count : (n : ℕ) (history : List Event) → length (world_of n history).nodes ≡ n
 node_count n [] = count n
   where
@@ -55,11 +43,11 @@ there_is [] i lt = absurd (omega arith)
 there_is (x ∷ xs) zero lt = (x, refl)
 there_is (x ∷ xs) (suc i) lt = there_is xs i (omega arith)
 
--- each number below their count is that of a node
+-- every index below that number belongs to a node
 pub node_at : (n : ℕ) (history : List Event) (k : ℕ) → k < n → (node : Node) × (slice_get (world_of n history).nodes k ≡ Some node)
 node_at n history k lt = there_is (world_of n history).nodes k (omega (arith, node_count n history))
 
--- ---- one node more
+-- One more node.
 
 within_push : {X : Type 0} (xs : List X) (x : X) (i : ℕ) → i < length xs → slice_get (xs ++ x ∷ []) i ≡ slice_get xs i
 within_push [] x i lt = absurd (omega arith)
@@ -108,7 +96,7 @@ one_node_more n (Give p k ∷ es) h =
     by count None = refl
     by count (Some piece) = λ j. record (world_of n es) { nodes = changed_at-push k (taken piece.entries (edits_with piece k)) (world_of n es).nodes (record { store = finmap.empty; took = [] }) (omega (arith, count, h.0)) j }
 
--- events of the first nodes are events of more nodes
+-- events within n nodes are events within more nodes
 pub within_more : (n : ℕ) (history : List Event) → AreWithin n history → AreWithin (suc n) history
 within_more n [] h = tt
 within_more n (Put i e ∷ es) h = (let lt = h.0 in omega arith, within_more n es h.1)
@@ -119,7 +107,7 @@ within_more n (Give p k ∷ es) h = (let lt = h.0 in omega arith, within_more n 
 lt_true : (i n : ℕ) → i < n → nat_lt i n ≡ true
 lt_true i n lt = grind (arith, nat_tests)
 
--- and the same edits are put
+-- and they put the same edits
 pub puts_of-one_more : (n : ℕ) (history : List Event) → AreWithin n history → puts_of (suc n) history ≡ puts_of n history
 puts_of-one_more n [] h = refl
 puts_of-one_more n (Put i e ∷ es) h =
@@ -129,11 +117,11 @@ puts_of-one_more n (Ask i ∷ es) h = puts_of-one_more n es h.1
 puts_of-one_more n (Cut j a places ∷ es) h = puts_of-one_more n es h.1
 puts_of-one_more n (Give p k ∷ es) h = puts_of-one_more n es h.1
 
--- the edits that are put, with one that a node puts
+-- the edits that are put, with one more put by a node
 pub puts_of-Put : (n : ℕ) (history : List Event) (i : ℕ) (e : Edit) → i < n → puts_of n (Put i e ∷ history) ≡ e ∷ puts_of n history
 puts_of-Put n history i e lt = cond-true _ _ _ (lt_true i n lt)
 
--- ---- what a node took
+-- What a node took.
 
 module _ (s : EntryMap) (xs : List Edit) where
   took_here : (i : ℕ) (ns : List Node) → i < length ns → took_by (slice_get (changed_at i (taken s xs) ns) i) ≡ took_by (slice_get ns i) ++ xs
@@ -180,7 +168,7 @@ module _ (w : EventWorld) where
       by None = refl
       by (Some piece) = took_elsewhere piece.entries (edits_with piece k) k l w.nodes ne
 
-  -- ---- asks and pieces
+  -- Asks and pieces.
 
   pub asked_is : (i : ℕ) (node : Node) → slice_get w.nodes i ≡ Some node → happens w (Ask i) ≡ record w { asks = w.asks ++ record { node = i; versions = digest_of node.store } ∷ [] }
   asked_is i node is = ap (asked_by w i) is
@@ -198,7 +186,7 @@ push_keeps [] y i x h = cc (h)
 push_keeps (z ∷ xs) y zero x h = h
 push_keeps (z ∷ xs) y (suc i) x h = push_keeps xs y i x h
 
--- a piece stays whatever happens
+-- a piece stays after every event
 pub piece_stays : (w : EventWorld) (event : Event) (p : ℕ) (piece : Piece) → slice_get w.pieces p ≡ Some piece → slice_get (happens w event).pieces p ≡ Some piece
 piece_stays w (Put i e) p piece h = h
 piece_stays w (Ask i) p piece h = by (slice_get w.nodes i)
@@ -225,7 +213,7 @@ taken_stays zero (suc k) s xs (n ∷ ns) e h = h
 taken_stays (suc i) zero s xs (n ∷ ns) e h = h
 taken_stays (suc i) (suc k) s xs (n ∷ ns) e h = taken_stays i k s xs ns e h
 
--- what a node took it has taken whatever happens
+-- what a node took stays taken after every event
 pub took_stays : (w : EventWorld) (event : Event) (k : ℕ) (e : Edit) → IsAmong e (took w k) → IsAmong e (took (happens w event) k)
 took_stays w (Put i f) k e h = taken_stays i k (sum_of (f ∷ [])) (f ∷ []) w.nodes e h
 took_stays w (Ask i) k e h = subst (λ (es : List Edit). IsAmong e es) (sym (took-Ask w i k)) h
@@ -236,7 +224,7 @@ took_stays w (Give p i) k e h = by (slice_get w.pieces p)
     by None = h
     by (Some piece) = taken_stays i k piece.entries (edits_with piece i) w.nodes e h
 
--- a node more took nothing
+-- the added node took nothing
 pub took-with_new_node : (w : EventWorld) (k : ℕ) → took (with_new_node w) k ≡ took w k
 took-with_new_node w k = by w.nodes k
   where
@@ -246,9 +234,9 @@ took-with_new_node w k = by w.nodes k
     by (n ∷ ns) zero = refl
     by (n ∷ ns) (suc i) = by ns i
 
--- ---- honest worlds
+-- Worlds with honest edits.
 
--- where no version stands for two of the edits that are put, all that the theorem needs stays true
+-- if the edits that are put are honest, every invariant of the theorem holds
 world_sound : (n : ℕ) (all history : List Event) → IsHonest (puts_of n all) → ((e : Edit) → IsAmong e (puts_of n history) → IsAmong e (puts_of n all)) → IsSound n (λ e. IsAmong e (puts_of n all)) (world_of n history)
 world_sound n all [] honest puts = blank_sound n (λ e. IsAmong e (puts_of n all))
 world_sound n all (event ∷ history) honest puts =
@@ -256,12 +244,12 @@ world_sound n all (event ∷ history) honest puts =
     (world_sound n all history honest (λ e a. puts e (puts_rest n event history e a)))
     (λ e a. puts e (puts_first n event history e a))
 
--- each node's store is the sum of what it took
+-- each node's store is the sum of what the node took
 pub stores_are_sums : (n : ℕ) (history : List Event) → IsHonest (puts_of n history) → (k : ℕ) (node : Node) → slice_get (world_of n history).nodes k ≡ Some node → node.store ≡ sum_of (took (world_of n history) k)
 stores_are_sums n history honest k node at =
     ((world_sound n history history honest (λ e a. a)).nodes k node at).is_sum ∙ ap (λ (o : Option Node). sum_of (took_by o)) (sym at)
 
--- what is given to a node is joined to what it holds
+-- a given piece is joined to the node's store
 pub given_is_joined : (n : ℕ) (history : List Event) → IsHonest (puts_of n history) → (p k : ℕ) (piece : Piece) → slice_get (world_of n history).pieces p ≡ Some piece → k < n
     → sum_of (took (world_of n (Give p k ∷ history)) k) ≡ join (sum_of (took (world_of n history) k)) piece.entries
 given_is_joined n history honest p k piece is lt =
@@ -277,7 +265,7 @@ given_is_joined n history honest p k piece is lt =
     changed zero (x ∷ ns) m h = let same : x ≡ m = cc in ap (λ (y : Node). Some (taken piece.entries (edits_with piece k) y)) same
     changed (suc i) (x ∷ ns) m h = changed i ns m h
 
--- what a node holds was put
+-- everything that a node holds was put
 held_was_put : (n : ℕ) (history : List Event) → IsHonest (puts_of n history) → (k : ℕ) (node : Node) → slice_get (world_of n history).nodes k ≡ Some node → (e : Edit) → IsAmong e (edits_of node.store) → IsAmong e (puts_of n history)
 held_was_put n history honest k node at e a =
     let sound = (world_sound n history history honest (λ f b. b)).nodes k node at in
@@ -290,7 +278,7 @@ module _ (n : ℕ) (history : List Event) (honest : IsHonest (puts_of n history)
   abbrev pub a : ℕ
   a = length (world_of n history).asks
 
-  -- what one node cuts for the ask that another has just made
+  -- the piece that one node cuts for another node's latest ask
   pub answer_is : (places : Option (List PlaceParts)) →
       (piece : Piece) × (slice_get (world_of n (Cut j a places ∷ Ask k ∷ history)).pieces (length w.pieces) ≡ Some piece) × (piece.entries ≡ cut (sum_of (took w j)) (digest_of (sum_of (took w k))) places)
   answer_is places =
@@ -306,7 +294,7 @@ module _ (n : ℕ) (history : List Event) (honest : IsHonest (puts_of n history)
         λ i. cut (stores_are_sums n history honest j there.0 there.1 i) (digest_of (stores_are_sums n history honest k here.0 here.1 i)) places,
       )
 
-  -- a node that is given what another cut for its ask of now, at all places, holds what both held
+  -- a node that is given the full answer to its latest ask holds the join of both stores
   pub merge_is_joined : sum_of (took (world_of n (Give (length w.pieces) k ∷ Cut j a None ∷ Ask k ∷ history)) k) ≡ join (sum_of (took w k)) (sum_of (took w j))
   merge_is_joined =
       let there = node_at n history j from in

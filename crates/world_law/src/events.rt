@@ -1,11 +1,11 @@
-//! What may happen in a world.
+//! The events of a world.
 ghost use Rattle.std.specs.Prelude.{◌≡◌};
 
 use edit_sums::Edit;
 use load_places::Place;
 use std::marker::Model;
 
-/// Some places, as a list.
+/// A list of places.
 #[derive(Debug, Drop)]
 pub struct Places {
     items: Vec<Place>,
@@ -21,14 +21,14 @@ impl Model for Places {
 }
 
 impl Places {
-    /// These places. It takes no memory.
+    /// Makes a list of these places. Allocates nothing.
     pub fn new(items: Vec<Place>) -> Places
         ensures places { result ≡ items.items }
     {
         Places { items }
     }
 
-    /// The places, without a copy.
+    /// Borrows the places.
     pub fn as_slice(&self) -> &[Place]
         ensures places { result.now ≡ self.now }
     {
@@ -36,28 +36,27 @@ impl Places {
     }
 }
 
-/// What may happen in a world. Nodes, asks and pieces are numbered from 0, asks and pieces in the
-/// order of their events. An event that names what does not exist is passed over, and gets no
-/// number.
+/// An event in a world. Nodes, asks and pieces have indices from 0; asks and pieces are counted in the order of their
+/// events. An event that names something that doesn't exist is ignored, and gets no index.
 #[derive(Debug, Drop)]
 pub enum Event {
-    /// A node puts an edit into its store.
+    /// A node writes an edit into its own store.
     Put {
         node: usize,
         edit: Edit,
     },
-    /// A node asks: it tells the version that it holds at each place.
+    /// A node makes an ask: its digest, which has the version that it holds at each place.
     Ask {
         node: usize,
     },
-    /// A node cuts a piece for an ask: what it holds, at these places or at all, whose version is
-    /// greater than the ask's, or whose place the ask lacks.
+    /// A node cuts a piece for an ask, at these places or at all: the entries whose version is greater than the ask's,
+    /// or whose place isn't in the ask.
     Cut {
         node: usize,
         ask: usize,
         places: Option<Places>,
     },
-    /// A node is given a piece.
+    /// A piece is given to a node.
     Give {
         piece: usize,
         node: usize,

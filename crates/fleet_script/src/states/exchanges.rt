@@ -1,4 +1,4 @@
-//! Commands between nodes: what one node holds reaches another.
+//! Commands between nodes, which bring to one node what another holds.
 ghost use Rattle.std.specs.Prelude.{◌≡◌, ◌<◌, vec_len, IfOk, OnOk, slice_index_or};
 ghost use Rattle.edit_sums.specs.Sums.{changed_places};
 ghost use Rattle.replica_store.specs.Replicas.{Replicated};
@@ -6,7 +6,7 @@ ghost use Rattle.world_law.specs.Cuts.{cut, digest_of};
 ghost use Rattle.script_commands.specs.declared.commands.Command.TheVariants.{Merge, Part, Send, Sweep};
 ghost use Rattle.fleet_script.specs.{Does.{if_any}, Holds.{Executes, IsJoinedAt, kept_in}};
 
-use crate::states::{Shell, Told};
+use crate::states::{Rendered, Shell};
 use delta_gossip::sweep;
 use delta_pieces::{Piece, delta_at, delta_between, digest_at};
 use load_places::Place;
@@ -19,9 +19,9 @@ use std::mem;
 
 impl Shell {
     /// Gives a node all that it lacks of another.
-    pub(super) fn merge(&mut self, alloc: Global, from: &[u8], to: &[u8]) -> Told
+    pub(super) fn merge(&mut self, alloc: Global, from: &[u8], to: &[u8]) -> Rendered
         ensures done { Executes self.old self.new (Merge from.now to.now) result }
-        ensures crew { self.new.workers ≡ self.old.workers }
+        ensures worker_count { self.new.workers ≡ self.old.workers }
     {
         let from = self.node_at(alloc, from)?;
         let to = self.node_at(alloc, to)?;
@@ -29,7 +29,7 @@ impl Shell {
         Ok(merge_done(alloc, changed)?)
     }
 
-    /// Cuts at one node for the ask of another, and keeps what is cut under a name.
+    /// Cuts at one node for the ask of another, and stores the piece under a name.
     pub(super) fn part(
         &mut self,
         alloc: Global,
@@ -37,9 +37,9 @@ impl Shell {
         from: &[u8],
         to: &[u8],
         places: Words<'_>,
-    ) -> Told
+    ) -> Rendered
         ensures done { Executes self.old self.new (Part piece.now from.now to.now places.entry) result }
-        ensures crew { self.new.workers ≡ self.old.workers }
+        ensures worker_count { self.new.workers ≡ self.old.workers }
     {
         let from = self.node_at(alloc, from)?;
         let to = self.node_at(alloc, to)?;
@@ -50,10 +50,10 @@ impl Shell {
         Ok(text)
     }
 
-    /// Gives a piece to a node. The piece is kept, and may be given again.
-    pub(super) fn send(&mut self, alloc: Global, piece: &[u8], node: &[u8]) -> Told
+    /// Gives a piece to a node. The shell still has the piece, which may be given again.
+    pub(super) fn send(&mut self, alloc: Global, piece: &[u8], node: &[u8]) -> Rendered
         ensures done { Executes self.old self.new (Send piece.now node.now) result }
-        ensures crew { self.new.workers ≡ self.old.workers }
+        ensures worker_count { self.new.workers ≡ self.old.workers }
     {
         let name = Bytes::from_slice(alloc, piece)?;
         let to = self.node_at(alloc, node);
@@ -64,10 +64,10 @@ impl Shell {
         Ok(merge_done(alloc, changed)?)
     }
 
-    /// Brings all nodes together: then each holds the join of all stores.
-    pub(super) fn sweep(&mut self, alloc: Global) -> Told
+    /// Merges all nodes: afterwards each holds the join of all stores.
+    pub(super) fn sweep(&mut self, alloc: Global) -> Rendered
         ensures done { Executes self.old self.new Sweep result }
-        ensures crew { self.new.workers ≡ self.old.workers }
+        ensures worker_count { self.new.workers ≡ self.old.workers }
     {
         let text = Vec::from_slice(alloc, b"ok\n")?;
         sweep(&mut self.nodes)?;
@@ -76,15 +76,15 @@ impl Shell {
 }
 
 impl Shell {
-    // Joins the store of one node into that of another, and answers how many places changed. A node
-    // has all that it holds, so it is not joined into itself.
+    // Joins the store of one node into that of another, and returns how many places changed. A node is not joined into
+    // itself, since it has all that it holds.
     fn merge_nodes(&mut self, alloc: Global, from: usize, to: usize) -> Result<u64, AllocError>
         requires from_within { from < vec_len self.old.nodes }
         requires to_within { to < vec_len self.old.nodes }
         ensures joined { OnOk result (IsJoinedAt (kept_in self.old) from to (kept_in self.new)) }
         ensures changed { IfOk result (λ changed. (d : Replicated) → changed ≡ changed_places
             (slice_index_or self.old.nodes.items to d).store (slice_index_or self.new.nodes.items to d).store) }
-        ensures crew { self.new.workers ≡ self.old.workers }
+        ensures worker_count { self.new.workers ≡ self.old.workers }
     {
         if from == to {
             return Ok(0);
@@ -96,8 +96,8 @@ impl Shell {
         outcome
     }
 
-    // What one node cuts for the ask of another, at these places, or at all where none are given. The
-    // versions at the places are asked with, and no others.
+    // What one node cuts for the ask of another, at these places, or at all if none are given. The ask has only the
+    // versions at these places.
     fn cut(
         &self,
         alloc: Global,

@@ -1,9 +1,9 @@
-//! Lines are answered.
+//! Answers lines.
 ghost use Rattle.std.specs.Prelude.{IfOk, MatchResult};
 ghost use Rattle.script_commands.specs.Commands.{command_of};
 ghost use Rattle.fleet_script.specs.{Does.{Does, Refuses}, Holds.{Continues, Goes, HasRoom, kept_in}, Scripts.{AnswersLine}};
 
-use crate::states::{Shell, Told};
+use crate::states::{Rendered, Shell};
 use script_answers::{Inquiry, refused};
 use script_commands::{Command, Fault, LineRefusal, parse};
 use script_words::is_passed_over;
@@ -11,12 +11,12 @@ use std::alloc::AllocError;
 use std::sync::Wait;
 use std::thread::Threads;
 
-/// The most bytes of a line of a script, its line end not counted.
+/// The most bytes of a line of a script, without its line end.
 const LINE_LIMIT: usize = 300_000;
 
 impl Shell {
-    // Does what a line asks for.
-    fn execute<R: AllocGlobal + Threads + Wait + Sync>(&mut self, rt: &R, line: &[u8]) -> Told
+    // Executes the command of a line.
+    fn execute<R: AllocGlobal + Threads + Wait + Sync>(&mut self, rt: &R, line: &[u8]) -> Rendered
         requires room { HasRoom (kept_in self.old) }
         ensures done { Goes (kept_in self.old) (kept_in self.new) (λ before outcome after.
             MatchResult (command_of line.now) (λ command. Does before command outcome after)

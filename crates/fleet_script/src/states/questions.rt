@@ -1,38 +1,38 @@
 //! Commands that only read.
 ghost use Rattle.script_commands.specs.declared.commands.Command.TheVariants.{Files, Cat, Same, Crowd};
-ghost use Rattle.script_answers.specs.Tells.{TellsInquiry};
+ghost use Rattle.script_answers.specs.Renders.{RendersInquiry};
 ghost use Rattle.fleet_script.specs.{Does.{Reads}, Holds.{Executes, Goes, HasRoom, kept_in}};
 
-use crate::states::{Shell, Told};
-use script_answers::{Inquiry, list_files, tell_crowd, tell_files, tell_inquiry};
+use crate::states::{Rendered, Shell};
+use script_answers::{Inquiry, list_files, render_crowd, render_files, render_inquiry};
 use script_commands::{EditCount, Word};
 use std::alloc::Global;
 use std::sync::Wait;
 use std::thread::Threads;
 
 impl Shell {
-    pub(super) fn files(&self, alloc: Global, node: &[u8]) -> Told
+    pub(super) fn files(&self, alloc: Global, node: &[u8]) -> Rendered
         ensures done { Executes self.now self.now (Files node.now) result }
     {
         let replica = self.replica(alloc, node)?;
         Ok(list_files(alloc, replica.store())?)
     }
 
-    // Tells a unit's files, as a host sees them or as they are seen without one: its fragment, and then its drop-ins.
+    // The files of a unit, as a host sees them or as they are seen without one: its fragment, and then its drop-ins.
     pub(super) fn cat(
         &self,
         alloc: Global,
         node: &[u8],
         host: Option<Word<'_>>,
         unit: &[u8],
-    ) -> Told
+    ) -> Rendered
         ensures done { Executes self.now self.now (Cat node.now host.entry unit.now) result }
     {
         let replica = self.replica(alloc, node)?;
-        tell_files(alloc, replica.store(), host, unit)
+        render_files(alloc, replica.store(), host, unit)
     }
 
-    // Tells what words ask of the units of a node, as all that must be loaded of it comes to it.
+    // The answer to a question about the units of a node, from all that must be loaded of it.
     pub(super) fn ask<R: Threads + Sync>(
         &mut self,
         rt: &R,
@@ -40,13 +40,13 @@ impl Shell {
         node: &[u8],
         host: Option<Word<'_>>,
         inquiry: Inquiry<'_>,
-    ) -> Told
+    ) -> Rendered
         ensures done { Goes (kept_in self.old) (kept_in self.new) (λ before outcome after.
-            Reads before outcome after node.now (TellsInquiry host.entry inquiry.entry)) result }
+            Reads before outcome after node.now (RendersInquiry host.entry inquiry.entry)) result }
     {
         let at = self.node_at(alloc, node)?;
         let store = self.nodes[at].store();
-        tell_inquiry(
+        render_inquiry(
             rt,
             alloc,
             &mut self.snapshots,
@@ -58,7 +58,7 @@ impl Shell {
         )
     }
 
-    pub(super) fn same(&self, alloc: Global, left: &[u8], right: &[u8]) -> Told
+    pub(super) fn same(&self, alloc: Global, left: &[u8], right: &[u8]) -> Rendered
         ensures done { Executes self.now self.now (Same left.now right.now) result }
     {
         let left = self.replica(alloc, left)?;
@@ -70,7 +70,7 @@ impl Shell {
         }
     }
 
-    // Tells what a crowd comes to on a copy of what a node holds.
+    // What a crowd leaves on a copy of what a node holds.
     pub(super) fn crowd<R: Threads + Wait + Sync>(
         &self,
         rt: &R,
@@ -78,11 +78,11 @@ impl Shell {
         node: &[u8],
         seats: u32,
         edits: EditCount,
-    ) -> Told
+    ) -> Rendered
         requires room { HasRoom (kept_in self.now) }
         ensures done { Executes self.now self.now (Crowd node.now seats edits) result }
     {
         let replica = self.replica(alloc, node)?;
-        tell_crowd(rt, alloc, replica, seats, edits)
+        render_crowd(rt, alloc, replica, seats, edits)
     }
 }

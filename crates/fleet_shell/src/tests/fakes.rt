@@ -1,11 +1,11 @@
-//! Fake readers, writers and a fake runtime.
+//! Fake readers and writers, and a fake runtime.
 use std::alloc::Global;
 use std::cell::Cell;
 use std::fmt::Display;
 use std::io;
 use std::io::{Error, ErrorKind, Read, Write};
 
-/// Gives a byte a read, each behind an interrupted read if it is told so, and fails from some read on.
+/// Returns one byte per read, each after an interrupted read if `interrupts`, and fails once its reads are used up.
 #[derive(Drop)]
 pub struct Slow<'a> {
     pub bytes: &'a [u8],
@@ -35,7 +35,7 @@ impl Read for Slow<'_> {
     }
 }
 
-/// Gives that many zeros, as many as there is room for at each read.
+/// Returns this many zeros, as many as fit at each read.
 #[derive(Drop)]
 pub struct Zeros(pub usize);
 
@@ -47,7 +47,7 @@ impl Read for Zeros {
     }
 }
 
-/// Takes some bytes a write, and from some write on it fails or takes none.
+/// Takes up to `width` bytes per write, and fails or takes none once its writes are used up.
 #[derive(Drop)]
 pub struct Narrow {
     pub held: Vec<u8>,
@@ -76,7 +76,7 @@ impl Write for Narrow {
     }
 }
 
-/// Keeps the last line of standard error if it hears, and else refuses it.
+/// Keeps the last line of standard error if `hears`, and refuses it otherwise.
 #[derive(Drop)]
 pub struct Noted<'a> {
     pub line: &'a Cell<Option<String>>,

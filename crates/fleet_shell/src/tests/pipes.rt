@@ -1,10 +1,10 @@
-//! Reading and writing without a script behind them: how far they come, and where a limit ends them.
+//! Reading and writing without a script: how far they get, and where a limit ends them.
 use super::fakes::{Slow, Zeros};
 use super::narrow;
 use script_pipes::{ReadFault, Watched, read_all, write_all};
 use std::alloc::Global;
 
-// Whether a script of three bytes is read as this within so many reads, or fails.
+// Whether a script of three bytes is read as this within this many reads, or reading it fails.
 fn is_read(alloc: Global, reads_left: usize, want: Option<&[u8]>) -> bool {
     let mut source = Watched::new(Slow {
         bytes: b"abc",
@@ -25,7 +25,7 @@ fn reads_to_the_end(rt: HostRuntime) {
     assert!(rt; is_read(rt.alloc(), 0, None));
 }
 
-// Whether so many bytes are read, or fail.
+// Whether this many bytes are read, or reading them fails.
 fn is_within(alloc: Global, bytes: usize, want: bool) -> bool {
     match read_all(alloc, &mut Watched::new(Zeros(bytes))) {
         Ok(script) => want && script.len() == bytes,
@@ -40,7 +40,7 @@ fn keeps_the_limit(rt: HostRuntime) {
     assert!(rt; is_within(rt.alloc(), 16_777_217, false));
 }
 
-// Whether three bytes are written, or so many writes of a byte leave this front of them.
+// Whether three bytes are written, or this many writes of one byte leave this prefix of them.
 fn is_written(alloc: Global, writes_left: usize, is_whole: bool, want: &[u8]) -> bool {
     let mut sink = narrow(alloc, 1, writes_left, true);
     let outcome = write_all(&mut sink, b"ok\n");
@@ -48,7 +48,7 @@ fn is_written(alloc: Global, writes_left: usize, is_whole: bool, want: &[u8]) ->
 }
 
 #[test]
-fn writes_a_front(rt: HostRuntime) {
+fn writes_a_prefix(rt: HostRuntime) {
     assert!(rt; is_written(rt.alloc(), 0, false, b""));
     assert!(rt; is_written(rt.alloc(), 2, false, b"ok"));
     assert!(rt; is_written(rt.alloc(), 3, true, b"ok\n"));

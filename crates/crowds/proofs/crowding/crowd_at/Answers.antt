@@ -1,7 +1,7 @@
 use Rattle.std.proofs.Common.{◌∙◌, ap, sym}
+use Rattle.crowds.proofs.Prelude.{Replicated}
+use Rattle.crowds.proofs.Held.{crowd_places_held, crowd_takes}
 use Rattle.std.specs.FinMap as finmap
-use Rattle.replica_store.specs.Replicas.{Replicated}
-use Rattle.crowds.proofs.Held.{crowd_takes, crowd_places_held}
 use Rattle.crowds.proofs.crowding.crowd_at.Goals as goal
 
 pub returns-in_ok-closed-in-Ok-clause-takes : goal.returns-in_ok-closed-in-Ok-clause-takes

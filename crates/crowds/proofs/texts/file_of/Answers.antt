@@ -1,5 +1,5 @@
 use Rattle.std.proofs.Common.{◌∙◌, ap, append_assoc}
-use Rattle.edit_sums.specs.declared.contents.Content.TheVariants.{File}
+use Rattle.crowds.proofs.Prelude.{File}
 use Rattle.crowds.proofs.Made.{file_is}
 use Rattle.crowds.proofs.texts.file_of.Goals as goal
 

@@ -1,7 +1,6 @@
 use Rattle.std.proofs.Common.{◌∙◌}
-use Rattle.crowds.specs.Crowds.{crowd_path}
-use Rattle.crowds.proofs.Paths.{crowd_text_is_path}
-use Rattle.crowds.proofs.Made.{path_is}
+use Rattle.crowds.proofs.Prelude.{crowd_path}
+use Rattle.crowds.proofs.{Made.path_is, Paths.crowd_text_is_path}
 use Rattle.crowds.proofs.texts.path_of.Goals as goal
 
 pub returns-in-Ok : goal.returns-in-Ok

@@ -1,4 +1,4 @@
-use Rattle.crowds.specs.Workers.{AreGathered}
+use Rattle.crowds.proofs.Prelude.{AreGathered}
 use Rattle.crowds.proofs.threads.gather.Given as goal
 
 abbrev pub invariant-loop-came : goal.invariant-loop-came

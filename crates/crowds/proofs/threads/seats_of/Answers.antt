@@ -1,4 +1,4 @@
-use Rattle.std.proofs.Common.{◌∙◌, sym, length-append, arith}
+use Rattle.std.proofs.Common.{◌∙◌, arith, length-append, sym}
 use Rattle.crowds.proofs.Seated.{fresh_more}
 use Rattle.crowds.proofs.threads.seats_of.Goals as goal
 

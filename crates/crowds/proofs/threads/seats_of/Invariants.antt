@@ -1,5 +1,5 @@
 use Rattle.std.proofs.Common.{◌≡◌, length}
-use Rattle.crowds.specs.Workers.{AreFresh}
+use Rattle.crowds.proofs.Prelude.{AreFresh}
 use Rattle.crowds.proofs.threads.seats_of.Given as goal
 
 abbrev pub invariant-loop-worker : goal.invariant-loop-worker

@@ -1,7 +1,7 @@
 use Rattle.std.proofs.Common.{rules}
 use Rattle.std.proofs.lemmas.Result.{IfOk-weaker}
-use Rattle.crowds.specs.Workers.{AreGathered, HaveWorked}
-use Rattle.crowds.proofs.Seated.{none_taken, all_worked}
+use Rattle.crowds.proofs.Prelude.{AreGathered, HaveWorked}
+use Rattle.crowds.proofs.Seated.{all_worked, none_taken}
 use Rattle.crowds.proofs.threads.work_side_by_side.Goals as goal
 
 pub work_all-requires-clause-fresh : goal.work_all-requires-clause-fresh

@@ -1,7 +1,5 @@
-use Rattle.std.proofs.Common.{◌+◌, ◌≤◌, ◌∙◌, ap, sym, subst, List}
-use Rattle.node_histories.specs.declared.events.HistoryEvent.{HistoryEvent}
-use Rattle.crowds.specs.Crowds.{crowd_place}
-use Rattle.crowds.specs.Workers.{own_edits}
+use Rattle.std.proofs.Common.{◌+◌, ◌∙◌, ◌≤◌, ap, List, subst, sym}
+use Rattle.crowds.proofs.Prelude.{crowd_place, HistoryEvent, own_edits}
 use Rattle.crowds.proofs.Own.{own_more}
 use Rattle.crowds.proofs.workers.edit_once.Goals as goal
 
@@ -9,5 +7,5 @@ pub returns-in-Ok-clause-own : goal.returns-in-Ok-clause-own
 returns-in-Ok-clause-own g c =
     let worker = c.args.seat.now.number in
     let at = c.in_ok-place.ensures.place ∙ ap crowd_place c.number.ensures.number in
-    subst (λ (h : List HistoryEvent). own_edits worker c.args.seat.now.seen + 1 ≤ own_edits worker h) (sym c.in-Ok.ensures.told.1)
+    subst (λ (h : List HistoryEvent). own_edits worker c.args.seat.now.seen + 1 ≤ own_edits worker h) (sym c.in-Ok.ensures.token.1)
     (own_more worker c.args.seat.now.seen _ _ at c.in-Ok.ensures.taken)

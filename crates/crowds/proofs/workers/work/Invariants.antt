@@ -1,5 +1,5 @@
 use Rattle.std.proofs.Common.{◌≡◌, ◌≤◌}
-use Rattle.crowds.specs.Workers.{own_edits}
+use Rattle.crowds.proofs.Prelude.{own_edits}
 use Rattle.crowds.proofs.workers.work.Given as goal
 
 abbrev pub invariant-loop-number : goal.invariant-loop-number

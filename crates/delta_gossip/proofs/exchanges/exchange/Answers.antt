@@ -1,9 +1,6 @@
 use Rattle.std.proofs.Common.{ap, refl}
-use Rattle.edit_sums.specs.Sums.{join}
-use Rattle.replica_store.specs.Replicas.{Replicated}
-use Rattle.edit_sums.specs.SumLaws.{store_below_refl, join-left, join-right}
-use Rattle.delta_gossip.specs.Exchanges.{AreBeingJoined}
-use Rattle.delta_gossip.proofs.Joins.{on_err, join_again, joined_within, joined_again}
+use Rattle.delta_gossip.proofs.Prelude.{AreBeingJoined, join, join-left, join-right, Replicated, store_below_refl}
+use Rattle.delta_gossip.proofs.Joins.{join_again, joined_again, joined_within, on_err}
 use Rattle.delta_gossip.proofs.exchanges.exchange.Goals as goal
 
 pub returns-in_err-first-clause-err : goal.returns-in_err-first-clause-err

@@ -1,6 +1,5 @@
-use Rattle.std.proofs.Common.{◌≡◌, Some}
-use Rattle.std.specs.Prelude.{slice_get}
-use Rattle.delta_gossip.proofs.Shown.{got, cut_shown}
+use Rattle.std.proofs.Common.{◌≡◌, slice_get, Some}
+use Rattle.delta_gossip.proofs.Shown.{cut_shown, got}
 use Rattle.delta_gossip.proofs.steps.cut_piece.Goals as goal
 
 pub returns-clause-model : goal.returns-clause-model

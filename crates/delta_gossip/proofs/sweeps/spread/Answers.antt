@@ -1,5 +1,4 @@
-use Rattle.delta_gossip.proofs.Joins.{on_err}
-use Rattle.delta_gossip.proofs.Rounds.{spread_step, spread_refused}
+use Rattle.delta_gossip.proofs.{Joins.on_err, Rounds.spread_refused, Rounds.spread_step}
 use Rattle.delta_gossip.proofs.sweeps.spread.Goals as goal
 
 pub loop-replica-preserved : goal.loop-replica-preserved

@@ -1,7 +1,6 @@
-use Rattle.std.proofs.Common.{◌≡◌, ◌∙◌, ap, arith, length}
-use Rattle.std.specs.Prelude.{replicate, ℕ}
-use Rattle.std.specs.FinMap as finmap
+use Rattle.std.proofs.Common.{◌∙◌, ◌≡◌, ap, arith, length, replicate, ℕ}
 use Rattle.delta_gossip.proofs.Runs.{blank_shown}
+use Rattle.std.specs.FinMap as finmap
 use Rattle.delta_gossip.proofs.worlds.begin.Goals as goal
 
 pub returns-clause-model : goal.returns-clause-model

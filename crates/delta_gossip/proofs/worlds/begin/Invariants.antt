@@ -1,5 +1,4 @@
-use Rattle.std.proofs.Common.{◌≡◌, take, map}
-use Rattle.std.specs.Prelude.{replicate}
+use Rattle.std.proofs.Common.{◌≡◌, map, replicate, take}
 use Rattle.std.specs.FinMap as finmap
 use Rattle.delta_gossip.proofs.worlds.begin.Given as goal
 

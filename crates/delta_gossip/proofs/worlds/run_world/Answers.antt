@@ -1,12 +1,7 @@
-use Rattle.std.proofs.Common.{◌≡◌, ◌++◌, ◌∙◌, subst, length, List}
-use Rattle.std.specs.Prelude.{reverse}
+use Rattle.std.proofs.Common.{◌++◌, ◌∙◌, ◌≡◌, length, List, reverse, subst}
 use Rattle.std.proofs.lemmas.List.{take_all}
-use Rattle.edit_sums.specs.Sums.{sum_of}
-use Rattle.world_law.specs.declared.events.Event.{Event}
-use Rattle.world_law.specs.Worlds.{took, blank}
-use Rattle.world_law.specs.Took.{IsSumOf, Took}
-use Rattle.delta_gossip.specs.Shows.{world_after, IsWorld}
-use Rattle.delta_gossip.proofs.Runs.{after_more, each_shown, agree_shown, same_shown}
+use Rattle.delta_gossip.proofs.Prelude.{blank, Event, IsSumOf, IsWorld, sum_of, Took, took, world_after}
+use Rattle.delta_gossip.proofs.Runs.{after_more, agree_shown, each_shown, same_shown}
 use Rattle.delta_gossip.proofs.worlds.run_world.Goals as goal
 
 pub loop-event-preserved : goal.loop-event-preserved
@@ -25,11 +20,11 @@ returns-clause-sums c honest k =
     each_shown (world_after (length c.args.writers.now) c.args.events.now) c.loop-event.world.replicas.items _ _ (shown c) k (λ es s. s ≡ sum_of es)
     (c.converges.ensures.sums (length c.args.writers.now) c.args.events.now honest k)
 
-pub returns-clause-told : goal.returns-clause-told
-returns-clause-told c honest k =
+pub returns-clause-by_events : goal.returns-clause-by_events
+returns-clause-by_events c honest k =
     each_shown (world_after (length c.args.writers.now) c.args.events.now) c.loop-event.world.replicas.items _ _ (shown c) k
     (λ es s. IsSumOf (Took (length c.args.writers.now) (reverse c.args.events.now) k) s)
-    (c.converges.ensures.told (length c.args.writers.now) c.args.events.now honest k)
+    (c.converges.ensures.by_events (length c.args.writers.now) c.args.events.now honest k)
 
 pub returns-clause-agree : goal.returns-clause-agree
 returns-clause-agree c honest k l same =

@@ -1,13 +1,12 @@
-use Rattle.std.proofs.Common.{◌≡◌, ap, ◌∙◌, map}
+use Rattle.std.proofs.Common.{◌∙◌, ◌≡◌, ap, map}
+use Rattle.delta_pieces.proofs.Prelude.{Entry}
+use Rattle.delta_pieces.proofs.{HostViews.versions_are_digest, Orders.entries_ascend, Orders.map_ascends}
 use Rattle.std.specs.FinMap as finmap
-use Rattle.edit_sums.specs.Entries.{Entry}
-use Rattle.delta_pieces.proofs.Orders.{entries_rise, map_rises}
-use Rattle.delta_pieces.proofs.Views.{versions_are_digest}
 use Rattle.delta_pieces.proofs.asks.digest.Goals as goal
 
 pub from_versions-requires : goal.from_versions-requires
 from_versions-requires c = record {
-  sorted = rw c.in_ok-versions.ensures.versions (map_rises (λ (x : Entry). x.version) (finmap.entries c.store.result.now) ∙ entries_rise c.store.result.now);
+  sorted = rw c.in_ok-versions.ensures.versions (map_ascends (λ (x : Entry). x.version) (finmap.entries c.store.result.now) ∙ entries_ascend c.store.result.now);
 }
 
 pub returns : goal.returns

@@ -1,10 +1,8 @@
-use Rattle.std.proofs.Common.{◌≡◌, ◌+◌, List, IsTrue, Some, take, ap, sym, subst, ◌∙◌}
+use Rattle.std.proofs.Common.{◌+◌, ◌∙◌, ◌≡◌, ap, IsTrue, List, Some, subst, sym, take}
 use Rattle.std.proofs.lemmas.List.{take_all}
 use Rattle.std.specs.FinMap.Entries.{is_sorted}
-use Rattle.load_places.specs.Places.{PlaceParts, place_cmp}
-use Rattle.join_law.specs.declared.versions.Version.{Version}
-use Rattle.world_law.specs.Cuts.{cut, digest_of, only_at}
-use Rattle.delta_pieces.proofs.AtPlaces.{Tells, put_rises, same_cut, tells_past, tells_with, told_is_digest}
+use Rattle.delta_pieces.proofs.Prelude.{cut, digest_of, only_at, place_cmp, PlaceParts, Version}
+use Rattle.delta_pieces.proofs.AtPlaces.{put_ascends, recorded_is_digest, Records, records_past, records_with, same_cut}
 use Rattle.delta_pieces.proofs.asks.digest_at.Goals as goal
 use Rattle.delta_pieces.proofs.asks.digest_at.Goals.{in-Some+in_ok-put_version, in_default}
 
@@ -20,23 +18,23 @@ loop-place-preserved c =
           let held = rw c.store.ensures.store at (sym w.in-Some.ensures.held) in
           let now = ap (λ v. v.items) w.versions-is ∙ w.in_ok-put_version.ensures.put in
           record {
-            sorted = subst (λ (es : List (PlaceParts × Version)). IsTrue (is_sorted place_cmp es)) (sym now) (put_rises place w.in-Some.entry.now.version before c.loop-place.invariant.sorted);
-            tells = subst (Tells store (take (i + 1) places)) (sym now) (tells_with store places i place c.loop-place-test.true c.place-item.is before w.in-Some.entry.now c.loop-place.invariant.tells held);
+            sorted = subst (λ (es : List (PlaceParts × Version)). IsTrue (is_sorted place_cmp es)) (sym now) (put_ascends place w.in-Some.entry.now.version before c.loop-place.invariant.sorted);
+            records = subst (Records store (take (i + 1) places)) (sym now) (records_with store places i place c.loop-place-test.true c.place-item.is before w.in-Some.entry.now c.loop-place.invariant.records held);
           }
       | in_default w ↦
           let none = rw c.store.ensures.store at (sym w.in_default.ensures.held) in
           let now = ap (λ v. v.items) w.versions-is in
           record {
             sorted = subst (λ (es : List (PlaceParts × Version)). IsTrue (is_sorted place_cmp es)) (sym now) c.loop-place.invariant.sorted;
-            tells = subst (Tells store (take (i + 1) places)) (sym now) (tells_past store places i place c.loop-place-test.true c.place-item.is before c.loop-place.invariant.tells none);
+            records = subst (Records store (take (i + 1) places)) (sym now) (records_past store places i place c.loop-place-test.true c.place-item.is before c.loop-place.invariant.records none);
           }
     ]
 
 is_digest : (c : goal.After-from_versions) → c.from_versions.result ≡ digest_of (only_at c.args.places.now c.args.replica.now.store)
 is_digest c =
     let store = c.args.replica.now.store in
-    let tells = subst (λ ps. Tells store ps c.loop-place.versions.items) (take_all c.loop-place.place-index c.args.places.now c.loop-place-test.false) c.loop-place.invariant.tells in
-    told_is_digest store c.args.places.now c.from_versions.result c.loop-place.versions.items c.from_versions.ensures.versions tells
+    let records = subst (λ ps. Records store ps c.loop-place.versions.items) (take_all c.loop-place.place-index c.args.places.now c.loop-place-test.false) c.loop-place.invariant.records in
+    recorded_is_digest store c.args.places.now c.from_versions.result c.loop-place.versions.items c.from_versions.ensures.versions records
 
 pub returns-clause-digest : goal.returns-clause-digest
 returns-clause-digest c = is_digest c

@@ -1,11 +1,11 @@
 use Rattle.std.proofs.Common.{IsTrue, take}
 use Rattle.std.specs.FinMap.Entries.{is_sorted}
-use Rattle.load_places.specs.Places.{place_cmp}
-use Rattle.delta_pieces.proofs.AtPlaces.{Tells}
+use Rattle.delta_pieces.proofs.Prelude.{place_cmp}
+use Rattle.delta_pieces.proofs.AtPlaces.{Records}
 use Rattle.delta_pieces.proofs.asks.digest_at.Given as goal
 
 abbrev pub invariant-loop-place : goal.invariant-loop-place
 invariant-loop-place l = record {
   sorted : IsTrue (is_sorted place_cmp l.versions.items);
-  tells : Tells l.replica.store (take l.place-index l.places) l.versions.items;
+  records : Records l.replica.store (take l.place-index l.places) l.versions.items;
 }

@@ -1,8 +1,6 @@
-use Rattle.std.proofs.Common.{set, ap, ◌∙◌}
+use Rattle.std.proofs.Common.{◌∙◌, ap, set}
 use Rattle.std.specs.Prelude.{insert}
-use Rattle.join_law.specs.declared.versions.Version.{Version}
-use Rattle.load_places.specs.Places.{PlaceParts, place_cmp}
-use Rattle.sorted_pairs.specs.PlaceLaws.{set_is_put, insert_is_put}
+use Rattle.delta_pieces.proofs.Prelude.{insert_is_put, place_cmp, PlaceParts, set_is_put, Version}
 use Rattle.delta_pieces.proofs.asks.put_version.Goals as goal
 
 pub returns-in-Ok : goal.returns-in-Ok

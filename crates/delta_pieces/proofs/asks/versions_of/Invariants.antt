@@ -1,4 +1,4 @@
-use Rattle.std.proofs.Common.{◌≡◌, ◌++◌, map, length}
+use Rattle.std.proofs.Common.{◌++◌, ◌≡◌, length, map}
 use Rattle.std.specs.FinMap as finmap
 use Rattle.delta_pieces.proofs.asks.versions_of.Given as goal
 

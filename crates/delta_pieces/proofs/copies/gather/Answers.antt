@@ -1,6 +1,6 @@
-use Rattle.std.proofs.Common.{◌≡◌, ◌-◌, refl, ap, ◌∙◌, take, arith}
-use Rattle.edit_sums.specs.Sums.{join}
-use Rattle.delta_pieces.proofs.Joined.{sum_at, joined_all, joined_none, none_taken, taken_first, dropped_first}
+use Rattle.std.proofs.Common.{◌-◌, ◌∙◌, ◌≡◌, ap, arith, refl, take}
+use Rattle.delta_pieces.proofs.Prelude.{join}
+use Rattle.delta_pieces.proofs.Joined.{dropped_first, joined_all, joined_none, none_taken, sum_at, taken_first}
 use Rattle.delta_pieces.proofs.copies.gather.Goals as goal
 
 pub loop-left-init : goal.loop-left-init

@@ -1,5 +1,5 @@
-use Rattle.std.proofs.Common.{◌≡◌, take, drop, map}
-use Rattle.edit_sums.specs.Sums.{edit_of, join, sum_of}
+use Rattle.std.proofs.Common.{◌≡◌, drop, map, take}
+use Rattle.delta_pieces.proofs.Prelude.{edit_of, join, sum_of}
 use Rattle.delta_pieces.proofs.copies.gather.Given as goal
 
 abbrev pub invariant-loop-left : goal.invariant-loop-left

@@ -1,6 +1,5 @@
-use Rattle.std.proofs.Common.{◌≡◌, subst, ◌∙◌}
-use Rattle.std.specs.Prelude.{OnOk}
-use Rattle.edit_sums.specs.Sums.{EntryMap, edit_of, with_edit}
+use Rattle.std.proofs.Common.{◌∙◌, ◌≡◌, OnOk, subst}
+use Rattle.delta_pieces.proofs.Prelude.{edit_of, EntryMap, with_edit}
 use Rattle.delta_pieces.proofs.copies.join_copy.Goals as goal
 
 pub returns : goal.returns

@@ -1,7 +1,5 @@
-use Rattle.std.proofs.Common.{◌≡◌, None, ap, ◌∙◌}
-use Rattle.edit_sums.specs.Sums.{join}
-use Rattle.world_law.specs.Cuts.{cut, digest_of}
-use Rattle.world_law.specs.CutLaws.{whole_answer}
+use Rattle.std.proofs.Common.{◌∙◌, ◌≡◌, ap, None}
+use Rattle.delta_pieces.proofs.Prelude.{cut, digest_of, join, whole_answer}
 use Rattle.delta_pieces.proofs.cuts.delta_between.Goals as goal
 
 pub returns : goal.returns

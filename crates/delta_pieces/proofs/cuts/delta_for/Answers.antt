@@ -1,16 +1,13 @@
-use Rattle.std.proofs.Common.{◌≡◌, None, ap, ◌∙◌}
+use Rattle.std.proofs.Common.{◌∙◌, ◌≡◌, ap, None}
+use Rattle.delta_pieces.proofs.Prelude.{cut, join, whole_answer}
+use Rattle.delta_pieces.proofs.{HostViews.newer_is_cut, Orders.entries_ascend}
 use Rattle.std.specs.FinMap as finmap
-use Rattle.edit_sums.specs.Sums.{join}
-use Rattle.world_law.specs.Cuts.{cut}
-use Rattle.world_law.specs.CutLaws.{whole_answer}
-use Rattle.delta_pieces.proofs.Orders.{entries_rise}
-use Rattle.delta_pieces.proofs.Views.{newer_is_cut}
 use Rattle.delta_pieces.proofs.cuts.delta_for.Goals as goal
 
 pub newer_entries-requires : goal.newer_entries-requires
 newer_entries-requires c = record {
-  sorted = rw c.entries.ensures.entries (entries_rise c.store.result.now);
-  versions_sorted = rw c.versions.ensures.versions (entries_rise c.args.asked.now);
+  sorted = rw c.entries.ensures.entries (entries_ascend c.store.result.now);
+  versions_sorted = rw c.versions.ensures.versions (entries_ascend c.args.asked.now);
 }
 
 pub returns : goal.returns

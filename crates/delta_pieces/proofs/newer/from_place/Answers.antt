@@ -1,12 +1,10 @@
-use Rattle.std.proofs.Common.{◌≡◌, List, IsTrue, ap, sym, subst, ◌∙◌}
-use Rattle.std.specs.declared.cmp.Ordering.TheVariants.{Less}
-use Rattle.std.specs.Ordering.{is_lt}
-use Rattle.std.specs.FinMap.Entries.{find, is_sorted, below_all}
-use Rattle.join_law.specs.declared.versions.Version.{Version}
-use Rattle.load_places.specs.Places.{PlaceParts, place_cmp}
-use Rattle.delta_pieces.proofs.Passes.{find_past}
+use Rattle.std.proofs.Common.{◌∙◌, ◌≡◌, ap, IsTrue, List, subst, sym}
 use Rattle.std.proofs.lemmas.Bool.{and_parts}
-use Rattle.list_laws.specs.Orderings.{is_less}
+use Rattle.std.specs.FinMap.Entries.{below_all, find, is_sorted}
+use Rattle.std.specs.Ordering.{is_lt}
+use Rattle.std.specs.declared.cmp.Ordering.TheVariants.{Less}
+use Rattle.delta_pieces.proofs.Prelude.{is_less, place_cmp, PlaceParts, Version}
+use Rattle.delta_pieces.proofs.Passes.{find_past}
 use Rattle.delta_pieces.proofs.newer.from_place.Goals as goal
 
 pub loop-next-preserved : goal.loop-next-preserved

@@ -1,7 +1,7 @@
 use Rattle.std.proofs.Common.{◌≡◌, ◌≢◌, IsTrue, length}
-use Rattle.std.specs.declared.cmp.Ordering.TheVariants.{Less}
 use Rattle.std.specs.FinMap.Entries.{find, is_sorted}
-use Rattle.load_places.specs.Places.{PlaceParts, place_cmp}
+use Rattle.std.specs.declared.cmp.Ordering.TheVariants.{Less}
+use Rattle.delta_pieces.proofs.Prelude.{place_cmp, PlaceParts}
 use Rattle.delta_pieces.proofs.newer.from_place.Given as goal
 
 abbrev pub invariant-loop-next : goal.invariant-loop-next

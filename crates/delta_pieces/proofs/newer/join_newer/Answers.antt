@@ -1,8 +1,6 @@
-use Rattle.std.proofs.Common.{◌≡◌, subst, sym, ap, ◌∙◌}
-use Rattle.std.specs.Prelude.{OnOk}
-use Rattle.edit_sums.specs.Sums.{EntryMap, edit_of, with_edit}
-use Rattle.world_law.specs.Cuts.{is_newer}
-use Rattle.delta_pieces.proofs.Gathers.{join_absent, join_older, join_newer}
+use Rattle.std.proofs.Common.{◌∙◌, ◌≡◌, ap, OnOk, subst, sym}
+use Rattle.delta_pieces.proofs.Prelude.{edit_of, EntryMap, is_newer, with_edit}
+use Rattle.delta_pieces.proofs.Gathers.{join_absent, join_newer, join_older}
 use Rattle.delta_pieces.proofs.newer.join_newer.Goals as goal
 
 pub returns-in_default : goal.returns-in_default

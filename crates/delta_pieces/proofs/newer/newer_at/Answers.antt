@@ -1,7 +1,6 @@
-use Rattle.std.proofs.Common.{Some, ap, sym, ◌∙◌, [], ◌∷◌}
-use Rattle.edit_sums.specs.Sums.{join}
-use Rattle.world_law.specs.Cuts.{cut}
-use Rattle.delta_pieces.proofs.Gathers.{cut_nowhere, cut_at_more}
+use Rattle.std.proofs.Common.{[], ◌∙◌, ◌∷◌, ap, Some, sym}
+use Rattle.delta_pieces.proofs.Prelude.{cut, join}
+use Rattle.delta_pieces.proofs.Gathers.{cut_at_more, cut_nowhere}
 use Rattle.delta_pieces.proofs.newer.newer_at.Goals as goal
 
 pub loop-place-init : goal.loop-place-init

@@ -1,5 +1,5 @@
 use Rattle.std.proofs.Common.{◌≡◌, Some, take}
-use Rattle.world_law.specs.Cuts.{cut}
+use Rattle.delta_pieces.proofs.Prelude.{cut}
 use Rattle.delta_pieces.proofs.newer.newer_at.Given as goal
 
 abbrev pub invariant-loop-place : goal.invariant-loop-place

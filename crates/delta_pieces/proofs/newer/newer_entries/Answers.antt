@@ -1,12 +1,7 @@
-use Rattle.std.proofs.Common.{ap, sym, ◌∙◌}
-use Rattle.std.specs.Prelude.{filter}
+use Rattle.std.proofs.Common.{◌∙◌, ap, filter, sym}
 use Rattle.std.specs.FinMap.Entries.{find}
-use Rattle.load_places.specs.Places.{PlaceParts, place_cmp}
-use Rattle.edit_sums.specs.Entries.{Entry}
-use Rattle.edit_sums.specs.Sums.{join}
-use Rattle.world_law.specs.Cuts.{is_newer}
-use Rattle.delta_pieces.proofs.Passes.{passed, tells_all}
-use Rattle.delta_pieces.proofs.Joined.{sum_at, joined_all, joined_none, passed_first, failed_first}
+use Rattle.delta_pieces.proofs.Prelude.{Entry, is_newer, join, place_cmp, PlaceParts}
+use Rattle.delta_pieces.proofs.{Joined.failed_first, Joined.joined_all, Joined.joined_none, Joined.passed_first, Joined.sum_at, Passes.passed, Passes.records_all}
 use Rattle.delta_pieces.proofs.newer.newer_entries.Goals as goal
 
 pub loop-placed-init : goal.loop-placed-init
@@ -16,35 +11,35 @@ loop-placed-init c =
       newer = joined_all c.new-newer.result (filter newer c.args.entries) c.new-newer.ensures.empty;
       sorted = c.requires.sorted;
       left_sorted = c.requires.versions_sorted;
-      tells = tells_all c.args.versions.now c.args.entries;
+      records = records_all c.args.versions.now c.args.entries;
     }
 
 pub loop-placed-preserved : goal.loop-placed-preserved
 loop-placed-preserved c =
     let newer = λ (p : PlaceParts × Entry). is_newer p.1.version (find place_cmp p.0 c.args.versions.now) in
     let is = c.in-Some.ensures.first in
-    let now = passed c.args.versions.now c.loop-placed.left.now _ c.in-Some.placed c.next_entry.new.self _ _ _ _ is c.loop-placed.invariant.sorted c.loop-placed.invariant.tells
+    let now = passed c.args.versions.now c.loop-placed.left.now _ c.in-Some.placed c.next_entry.new.self _ _ _ _ is c.loop-placed.invariant.sorted c.loop-placed.invariant.records
     c.from_place-left.ensures.held c.entry.ensures.entry c.version_at.ensures.version c.is_newer.ensures.newer in
     record {
-      newer = failed_first c.loop-placed.newer c.in-Some.placed c.next_entry.new.self c.loop-placed.entries is newer _ c.loop-placed.invariant.newer (sym now.told ∙ c.if-is_newer.false);
+      newer = failed_first c.loop-placed.newer c.in-Some.placed c.next_entry.new.self c.loop-placed.entries is newer _ c.loop-placed.invariant.newer (sym now.recorded ∙ c.if-is_newer.false);
       sorted = now.sorted;
       left_sorted = c.from_place-left.ensures.sorted;
-      tells = now.tells;
+      records = now.records;
     }
 
 pub loop-placed-preserved-in-Continue-1 : goal.loop-placed-preserved-in-Continue-1
 loop-placed-preserved-in-Continue-1 c =
     let newer = λ (p : PlaceParts × Entry). is_newer p.1.version (find place_cmp p.0 c.args.versions.now) in
     let is = c.in-Some.ensures.first in
-    let now = passed c.args.versions.now c.loop-placed.left.now _ c.in-Some.placed c.next_entry.new.self _ _ _ _ is c.loop-placed.invariant.sorted c.loop-placed.invariant.tells
+    let now = passed c.args.versions.now c.loop-placed.left.now _ c.in-Some.placed c.next_entry.new.self _ _ _ _ is c.loop-placed.invariant.sorted c.loop-placed.invariant.records
     c.from_place-left.ensures.held c.entry.ensures.entry c.version_at.ensures.version c.is_newer.ensures.newer in
     record {
       newer =
           ap (λ s. join s (sum_at (filter newer c.next_entry.new.self))) c.in_ok-join_copy.ensures.ok
-          ∙ passed_first c.loop-placed.newer c.in-Some.placed c.next_entry.new.self c.loop-placed.entries is newer _ c.loop-placed.invariant.newer (sym now.told ∙ c.if-is_newer.true);
+          ∙ passed_first c.loop-placed.newer c.in-Some.placed c.next_entry.new.self c.loop-placed.entries is newer _ c.loop-placed.invariant.newer (sym now.recorded ∙ c.if-is_newer.true);
       sorted = now.sorted;
       left_sorted = c.from_place-left.ensures.sorted;
-      tells = now.tells;
+      records = now.records;
     }
 
 pub returns : goal.returns

@@ -1,30 +1,27 @@
-use Rattle.std.proofs.Common.{◌≡◌, ap, sym, ◌∙◌}
+use Rattle.std.proofs.Common.{◌∙◌, ◌≡◌, ap, sym}
 use Rattle.std.specs.Option.{option_copied, option_map}
+use Rattle.delta_pieces.proofs.Prelude.{digest_of, Entry, is_newer, join}
+use Rattle.delta_pieces.proofs.{HostViews.news_is_cut, Joined.Compared, Joined.failed_zipped, Joined.held_version, Joined.is_news_zipped, Joined.joined_all, Joined.joined_none, Joined.news, Joined.news_of_digest, Joined.passed_zipped, Joined.sum_at}
 use Rattle.std.specs.FinMap as finmap
-use Rattle.edit_sums.specs.Entries.{Entry}
-use Rattle.edit_sums.specs.Sums.{join}
-use Rattle.world_law.specs.Cuts.{is_newer, digest_of}
-use Rattle.delta_pieces.proofs.Views.{news_is_cut}
-use Rattle.delta_pieces.proofs.Joined.{Compared, sum_at, news, is_news_beside, news_of_digest, held_version, joined_all, joined_none, passed_beside, failed_beside}
 use Rattle.delta_pieces.proofs.newer.newer_than.Goals as goal
 
 pub loop-placed-init : goal.loop-placed-init
 loop-placed-init c =
-    joined_all c.new-newer.result (news c.entries_beside-both.result) c.new-newer.ensures.empty
-    ∙ ap (λ bs. sum_at (news bs)) c.entries_beside-both.ensures.entries ∙ ap sum_at (news_of_digest c.args.other.now (finmap.entries c.args.store.now))
+    joined_all c.new-newer.result (news c.entries_zipped-both.result) c.new-newer.ensures.empty
+    ∙ ap (λ bs. sum_at (news bs)) c.entries_zipped-both.ensures.entries ∙ ap sum_at (news_of_digest c.args.other.now (finmap.entries c.args.store.now))
 
 pub loop-placed-preserved : goal.loop-placed-preserved
 loop-placed-preserved c =
     let both : Compared = (c.in-Some.placed, option_copied c.in-Some.held) in
-    let told : c.is_news.result ≡ is_news_beside both = c.is_news.ensures.news ∙ ap (λ (e : Entry). is_newer e.version (option_map (λ x. x.now.version) c.in-Some.held)) c.entry.ensures.entry ∙ ap (is_newer both.0.1.version) (held_version c.in-Some.held) in
-    failed_beside c.loop-placed.newer both c.next_entry.new.self c.loop-placed.both c.in-Some.ensures.first _ c.loop-placed.invariant (sym told ∙ c.if-is_news.false)
+    let recorded : c.is_news.result ≡ is_news_zipped both = c.is_news.ensures.news ∙ ap (λ (e : Entry). is_newer e.version (option_map (λ x. x.now.version) c.in-Some.held)) c.entry.ensures.entry ∙ ap (is_newer both.0.1.version) (held_version c.in-Some.held) in
+    failed_zipped c.loop-placed.newer both c.next_entry.new.self c.loop-placed.both c.in-Some.ensures.first _ c.loop-placed.invariant (sym recorded ∙ c.if-is_news.false)
 
 pub loop-placed-preserved-in-Continue-1 : goal.loop-placed-preserved-in-Continue-1
 loop-placed-preserved-in-Continue-1 c =
     let both : Compared = (c.in-Some.placed, option_copied c.in-Some.held) in
-    let told : c.is_news.result ≡ is_news_beside both = c.is_news.ensures.news ∙ ap (λ (e : Entry). is_newer e.version (option_map (λ x. x.now.version) c.in-Some.held)) c.entry.ensures.entry ∙ ap (is_newer both.0.1.version) (held_version c.in-Some.held) in
+    let recorded : c.is_news.result ≡ is_news_zipped both = c.is_news.ensures.news ∙ ap (λ (e : Entry). is_newer e.version (option_map (λ x. x.now.version) c.in-Some.held)) c.entry.ensures.entry ∙ ap (is_newer both.0.1.version) (held_version c.in-Some.held) in
     ap (λ s. join s (sum_at (news c.next_entry.new.self))) c.in_ok-join_copy.ensures.ok
-    ∙ passed_beside c.loop-placed.newer both c.next_entry.new.self c.loop-placed.both c.in-Some.ensures.first _ c.loop-placed.invariant (sym told ∙ c.if-is_news.true)
+    ∙ passed_zipped c.loop-placed.newer both c.next_entry.new.self c.loop-placed.both c.in-Some.ensures.first _ c.loop-placed.invariant (sym recorded ∙ c.if-is_news.true)
 
 pub returns : goal.returns
 returns c = record { cut = joined_none c.loop-placed.newer (news c.loop-placed.both) (ap news c.in_default.ensures.first.0) ∙ c.loop-placed.invariant ∙ news_is_cut c.args.store.now (digest_of c.args.other.now) }

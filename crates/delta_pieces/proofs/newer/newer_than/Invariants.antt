@@ -1,9 +1,7 @@
-use Rattle.std.proofs.Common.{◌≡◌, length, map}
-use Rattle.std.specs.Prelude.{filter}
+use Rattle.std.proofs.Common.{◌≡◌, filter, length, map}
+use Rattle.delta_pieces.proofs.Prelude.{digest_of, is_newer, join}
+use Rattle.delta_pieces.proofs.Joined.{news, sum_at}
 use Rattle.std.specs.FinMap as finmap
-use Rattle.edit_sums.specs.Sums.{join}
-use Rattle.world_law.specs.Cuts.{is_newer, digest_of}
-use Rattle.delta_pieces.proofs.Joined.{sum_at, news}
 use Rattle.delta_pieces.proofs.newer.newer_than.Given as goal
 
 abbrev pub invariant-loop-placed : goal.invariant-loop-placed

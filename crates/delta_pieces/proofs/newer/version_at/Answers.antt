@@ -1,7 +1,7 @@
-use Rattle.std.proofs.Common.{◌≡◌, true, false, ap, sym, ◌∙◌}
+use Rattle.std.proofs.Common.{◌∙◌, ◌≡◌, ap, false, sym, true}
 use Rattle.std.specs.Ordering.{is_eq}
-use Rattle.load_places.specs.Places.{place_cmp}
-use Rattle.delta_pieces.proofs.Passes.{find_first, find_before_first}
+use Rattle.delta_pieces.proofs.Prelude.{place_cmp}
+use Rattle.delta_pieces.proofs.Passes.{find_before_first, find_first}
 use Rattle.delta_pieces.proofs.newer.version_at.Goals as goal
 
 pub returns-then-is_eq : goal.returns-then-is_eq

@@ -1,6 +1,5 @@
 use Rattle.std.proofs.Common.{◌≡◌, map, take}
-use Rattle.unit_name.specs.Names.{word}
-use Rattle.dropins.specs.Taken.{dirs_with}
+use Rattle.dropins.proofs.Prelude.{dirs_with, word}
 use Rattle.dropins.proofs.dirs.kind_dirs.Given as goal
 
 abbrev pub invariant-loop-kind : goal.invariant-loop-kind

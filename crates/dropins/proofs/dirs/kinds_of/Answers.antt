@@ -1,6 +1,5 @@
 use Rattle.std.proofs.Common.{◌∙◌, ap, arith, map, sym}
-use Rattle.unit_name.specs.Names.{word}
-use Rattle.dropins.specs.FolderLists.{is_among}
+use Rattle.dropins.proofs.Prelude.{is_among, word}
 use Rattle.dropins.proofs.KindWords.{kind_known, kind_new}
 use Rattle.dropins.proofs.dirs.kinds_of.Goals as goal
 use Rattle.dropins.proofs.dirs.kinds_of.Goals.{then-not-has_kind+in_ok-push, else-not-has_kind}

@@ -1,17 +1,17 @@
-use Rattle.std.proofs.Common.{◌∙◌, sym, subst}
+use Rattle.std.proofs.Common.{◌∙◌, subst, sym}
 use Rattle.std.proofs.lemmas.Bool.{true≢false}
-use Rattle.unit_name.specs.Names.{IsName}
+use Rattle.dropins.proofs.Prelude.{IsName}
 use Rattle.dropins.proofs.Cuts.{cut_is, only_memory}
 use Rattle.dropins.proofs.folder_lists.cut_name.Goals as goal
 use Rattle.dropins.proofs.folder_lists.cut_name.Goals.{in-Memory, in_default}
 
 pub returns-in-Ok : goal.returns-in-Ok
 returns-in-Ok c = record {
-  cut = c.in-Ok.ensures.same ∙ cut_is c.args.name.now c.args.prefix.now _ _ _ _ _ c.bytes.ensures.lawful c.deref.ensures.value c.in_ok-extend_from_slice.ensures.items c.in_ok-bytes.ensures.items c.prefix.ensures.prefix c.bytes.ensures.bytes;
+  cut = c.in-Ok.ensures.same ∙ cut_is c.args.name.now c.args.prefix.now _ _ _ _ _ c.bytes.ensures.well_formed c.deref.ensures.value c.in_ok-extend_from_slice.ensures.items c.in_ok-bytes.ensures.items c.prefix.ensures.prefix c.bytes.ensures.bytes;
 }
 
 pub prove-unreachable-requires : goal.prove-unreachable-requires
 prove-unreachable-requires c =
-    let b = cut_is c.args.name.now c.args.prefix.now _ _ _ _ _ c.bytes.ensures.lawful c.deref.ensures.value c.in_ok-extend_from_slice.ensures.items c.in_ok-bytes.ensures.items c.prefix.ensures.prefix c.bytes.ensures.bytes in
-    let m = only_memory _ c.in-Err.fault (subst IsName (sym b) c.requires.lawful) c.in-Err.ensures.fault in
+    let b = cut_is c.args.name.now c.args.prefix.now _ _ _ _ _ c.bytes.ensures.well_formed c.deref.ensures.value c.in_ok-extend_from_slice.ensures.items c.in_ok-bytes.ensures.items c.prefix.ensures.prefix c.bytes.ensures.bytes in
+    let m = only_memory _ c.in-Err.fault (subst IsName (sym b) c.requires.well_formed) c.in-Err.ensures.fault in
     elim c.match-matches.branch [ in-Memory w ↦ true≢false (sym w.matches-is ∙ c.if-prove.true) | in_default w ↦ w.in_default.not-Memory m ]

@@ -1,7 +1,6 @@
-use Rattle.std.proofs.Common.{◌≡◌, [], take, fold}
+use Rattle.std.proofs.Common.{[], ◌≡◌, fold, take}
 use Rattle.std.specs.List.{flat_map}
-use Rattle.dropins.specs.FolderLists.{with_name, folders_of}
-use Rattle.dropins.specs.Listings.{IsKept}
+use Rattle.dropins.proofs.Prelude.{folders_of, IsKept, with_name}
 use Rattle.dropins.proofs.folder_lists.folders.Given as goal
 
 abbrev pub invariant-loop-name : goal.invariant-loop-name

@@ -1,16 +1,13 @@
-use Rattle.std.proofs.Common.{◌≡◌, ◌≢◌, ◌∷◌, ◌∙◌, ℕ, List, [], Bool, true, false, not, IsTrue, ⊎_elim, refl, sym, ap}
+use Rattle.std.proofs.Common.{[], ◌∙◌, ◌∷◌, ◌≡◌, ◌≢◌, ap, Bool, false, IsTrue, List, not, refl, sym, true, ℕ, ⊎_elim}
 use Rattle.std.specs.List.{list_any}
-use Rattle.unit_name.specs.declared.names.Shape.TheVariants.{Plain, Template, Instance}
-use Rattle.unit_name.specs.Names.{Name, prefix, shape}
-use Rattle.dropins.specs.FolderLists.{is_dash, folders}
-use Rattle.dropins.specs.FolderLaws.{one_folder}
+use Rattle.dropins.proofs.Prelude.{folders, Instance, is_dash, Name, one_folder, Plain, prefix, shape, Template}
 use Rattle.dropins.proofs.folder_lists.is_only_folder.Goals as goal
 
 not_so : (b : Bool) → IsTrue (not b) → b ≡ false
 not_so true h = cc (h)
 not_so false h = refl
 
--- no instance, and no dash in the prefix
+-- No instance, and no dash in the prefix.
 only_folder : (n : Name) (text : List ℕ) (dashed : Bool) → shape n ≢ Instance → text ≡ prefix n → dashed ≡ list_any is_dash text → IsTrue (not dashed) → folders (n ∷ []) ≡ n ∷ []
 only_folder n text dashed other is_prefix is_dashed plain =
     one_folder n other (ap (list_any is_dash) (sym is_prefix) ∙ sym is_dashed ∙ not_so dashed plain)

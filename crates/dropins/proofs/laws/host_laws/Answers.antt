@@ -1,4 +1,4 @@
-use Rattle.dropins.specs.HostLaws.{drop_ins_are_the_fleets, hosts_without_places_have_these_drop_ins, hosts_without_places_have_these_links, links_are_the_fleets}
+use Rattle.dropins.proofs.Prelude.{drop_ins_are_the_fleets, hosts_without_places_have_these_drop_ins, hosts_without_places_have_these_links, links_are_the_fleets}
 use Rattle.dropins.proofs.laws.host_laws.Goals as goal
 
 pub returns : goal.returns

@@ -1,4 +1,4 @@
-use Rattle.dropins.specs.OverLaws.{names_or_else_types, something_is_taken_over, over_once, folders_decide_over, removals_give_back_over}
+use Rattle.dropins.proofs.Prelude.{folders_decide_over, names_or_else_types, over_once, removals_give_back_over, something_is_taken_over}
 use Rattle.dropins.proofs.laws.over_laws.Goals as goal
 
 pub returns-clause-either : goal.returns-clause-either

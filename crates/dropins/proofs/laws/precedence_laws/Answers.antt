@@ -1,4 +1,4 @@
-use Rattle.dropins.specs.PrecedenceLaws.{levels_go_first, something_is_taken, taken_once, masks_hide, folders_decide, removals_give_back}
+use Rattle.dropins.proofs.Prelude.{folders_decide, levels_go_first, masks_hide, removals_give_back, something_is_taken, taken_once}
 use Rattle.dropins.proofs.laws.precedence_laws.Goals as goal
 
 pub returns-clause-levels : goal.returns-clause-levels

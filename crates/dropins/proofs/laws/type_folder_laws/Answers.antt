@@ -1,4 +1,4 @@
-use Rattle.dropins.specs.TypeFolderLaws.{names_go_first, types_come_last, masks_hide_types, names_alone_without_types}
+use Rattle.dropins.proofs.Prelude.{masks_hide_types, names_alone_without_types, names_go_first, types_come_last}
 use Rattle.dropins.proofs.laws.type_folder_laws.Goals as goal
 
 pub returns-clause-first : goal.returns-clause-first

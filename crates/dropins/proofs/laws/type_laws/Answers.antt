@@ -1,4 +1,4 @@
-use Rattle.dropins.specs.TypeLaws.{types_are_kinds, one_type, folders_keep_types, words_are_no_names, no_name_has_a_types_folder}
+use Rattle.dropins.proofs.Prelude.{folders_keep_types, no_name_has_a_types_folder, one_type, types_are_kinds, words_are_no_names}
 use Rattle.dropins.proofs.laws.type_laws.Goals as goal
 
 pub returns-clause-kinds : goal.returns-clause-kinds

@@ -1,6 +1,6 @@
 use Rattle.std.proofs.Common.{◌≡◌, map, take}
-use Rattle.dropins.specs.Taken.{entry_place}
+use Rattle.dropins.proofs.Prelude.{entry_place}
 use Rattle.dropins.proofs.orders.places_of.Given as goal
 
 abbrev pub invariant-loop-placed : goal.invariant-loop-placed
-invariant-loop-placed l = l.places.items ≡ map (entry_place l.seen) (take l.placed-index l.entries)
+invariant-loop-placed l = l.places.items ≡ map (entry_place l.view) (take l.placed-index l.entries)

@@ -1,7 +1,7 @@
 use Rattle.std.proofs.Common.{◌∙◌, ap, cond, None, sym}
 use Rattle.std.specs.Option.{option_or}
 use Rattle.std.specs.Str.{bytes_eq}
-use Rattle.dropins.specs.Walks.{first_for, take_of}
+use Rattle.dropins.proofs.Prelude.{first_for, take_of}
 use Rattle.dropins.proofs.Placed.{placed}
 use Rattle.dropins.proofs.precedence.add_entry.Goals as goal
 

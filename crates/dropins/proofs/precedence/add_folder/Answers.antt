@@ -1,14 +1,13 @@
 use Rattle.std.proofs.Common.{◌∙◌, ap, sym}
 use Rattle.std.specs.Option.{option_or}
-use Rattle.list_laws.specs.FirstSaid.{first_said, or_assoc, or_none}
-use Rattle.dropins.specs.Walks.{first_for, said_for}
+use Rattle.dropins.proofs.Prelude.{first_for, first_said, or_assoc, or_none, said_for}
 use Rattle.dropins.proofs.Found.{folder_entries_say}
 use Rattle.dropins.proofs.precedence.add_folder.Goals as goal
 
 pub loop-placed-init : goal.loop-placed-init
 loop-placed-init c f =
     ap (λ es. option_or (first_for c.args.found.now.items f) (first_said (said_for c.args.search f) es)) c.entries_in-entries.ensures.entries
-    ∙ ap (option_or (first_for c.args.found.now.items f)) (folder_entries_say c.args.level c.args.dir.now f c.args.seen.now c.args.search)
+    ∙ ap (option_or (first_for c.args.found.now.items f)) (folder_entries_say c.args.level c.args.dir.now f c.args.view.now c.args.search)
 
 pub loop-placed-preserved : goal.loop-placed-preserved
 loop-placed-preserved c f =

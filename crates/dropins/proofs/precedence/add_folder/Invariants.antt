@@ -1,14 +1,13 @@
-use Rattle.std.proofs.Common.{◌≡◌, ℕ, List, length}
+use Rattle.std.proofs.Common.{◌≡◌, length, List, ℕ}
 use Rattle.std.specs.Option.{option_or}
-use Rattle.list_laws.specs.FirstSaid.{first_said}
-use Rattle.dropins.specs.Walks.{first_for, path, said_for, take_at}
+use Rattle.dropins.proofs.Prelude.{first_for, first_said, path, said_for, take_at}
 use Rattle.dropins.proofs.precedence.add_folder.Given as goal
 
 abbrev pub invariant-loop-placed : goal.invariant-loop-placed
 invariant-loop-placed l =
     (f : List ℕ)
     → option_or (first_for l.found.items f) (first_said (said_for l.search f) l.entries)
-    ≡ option_or (first_for l.initial.found.items f) (take_at l.seen l.search (path l.level l.dir f))
+    ≡ option_or (first_for l.initial.found.items f) (take_at l.view l.search (path l.level l.dir f))
 
 abbrev pub decreases-loop-placed : goal.decreases-loop-placed
 decreases-loop-placed l = length l.entries

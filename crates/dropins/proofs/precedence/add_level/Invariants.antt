@@ -1,7 +1,7 @@
-use Rattle.std.proofs.Common.{◌≡◌, ℕ, List, take}
+use Rattle.std.proofs.Common.{◌≡◌, List, take, ℕ}
 use Rattle.std.specs.Option.{option_or}
-use Rattle.dropins.specs.Walks.{first_for, took_in}
+use Rattle.dropins.proofs.Prelude.{first_for, took_in}
 use Rattle.dropins.proofs.precedence.add_level.Given as goal
 
 abbrev pub invariant-loop-dir : goal.invariant-loop-dir
-invariant-loop-dir l = (f : List ℕ) → first_for l.found.items f ≡ option_or (first_for l.initial.found.items f) (took_in l.seen l.search (take l.dir-index l.dirs) f l.level)
+invariant-loop-dir l = (f : List ℕ) → first_for l.found.items f ≡ option_or (first_for l.initial.found.items f) (took_in l.view l.search (take l.dir-index l.dirs) f l.level)

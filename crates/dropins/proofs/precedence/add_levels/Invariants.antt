@@ -1,9 +1,7 @@
-use Rattle.std.proofs.Common.{◌≡◌, ℕ, List, take}
+use Rattle.std.proofs.Common.{◌≡◌, List, take, ℕ}
 use Rattle.std.specs.Option.{option_or}
-use Rattle.list_laws.specs.FirstSaid.{first_said}
-use Rattle.load_places.specs.Levels.{levels}
-use Rattle.dropins.specs.Walks.{first_for, took_in}
+use Rattle.dropins.proofs.Prelude.{first_for, first_said, levels, took_in}
 use Rattle.dropins.proofs.precedence.add_levels.Given as goal
 
 abbrev pub invariant-loop-level : goal.invariant-loop-level
-invariant-loop-level l = (f : List ℕ) → first_for l.found.items f ≡ option_or (first_for l.initial.found.items f) (first_said (took_in l.seen l.search l.dirs f) (take l.level levels))
+invariant-loop-level l = (f : List ℕ) → first_for l.found.items f ≡ option_or (first_for l.initial.found.items f) (first_said (took_in l.view l.search l.dirs f) (take l.level levels))

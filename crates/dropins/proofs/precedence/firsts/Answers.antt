@@ -1,11 +1,10 @@
-use Rattle.std.proofs.Common.{◌≡◌, ◌∙◌, ℕ, List, ap, None}
+use Rattle.std.proofs.Common.{◌∙◌, ◌≡◌, ap, List, None, ℕ}
+use Rattle.std.proofs.lemmas.Iterator.Adapters.{fact_from_collect, YieldsList-from_vec}
+use Rattle.std.proofs.lemmas.Result.{IfOk-weaker}
 use Rattle.std.specs.BTreeMap.{get, IsFromIterResult}
 use Rattle.std.specs.Map.{update_all}
 use Rattle.std.specs.Ordering.{eq_by_cmp}
-use Rattle.std.proofs.lemmas.Iterator.Adapters.{fact_from_collect, YieldsList-from_vec}
-use Rattle.std.proofs.lemmas.Result.{IfOk-weaker}
-use Rattle.unit_name.specs.Names.{name_cmp}
-use Rattle.dropins.specs.Walks.{first_for}
+use Rattle.dropins.proofs.Prelude.{first_for, name_cmp}
 use Rattle.dropins.proofs.Placed.{firsts_stay}
 use Rattle.dropins.proofs.precedence.firsts.Goals as goal
 

@@ -1,14 +1,13 @@
-use Rattle.std.proofs.Common.{◌≡◌, ◌∙◌, ℕ, List, ap}
+use Rattle.std.proofs.Common.{◌∙◌, ◌≡◌, ap, List, ℕ}
+use Rattle.std.proofs.lemmas.Result.{IfOk-weaker}
 use Rattle.std.specs.BTreeMap.{get}
 use Rattle.std.specs.Option.{option_or}
-use Rattle.std.proofs.lemmas.Result.{IfOk-weaker}
-use Rattle.unit_name.specs.Names.{name_cmp}
-use Rattle.dropins.specs.Walks.{first_for, took, took_over}
+use Rattle.dropins.proofs.Prelude.{first_for, name_cmp, took, took_over}
 use Rattle.dropins.proofs.precedence.taken.Goals as goal
 
 pub returns : goal.returns
 returns c =
-    let s = c.args.seen.now in
+    let s = c.args.view.now in
     let x = c.args.search in
     record {
       taken =

@@ -1,5 +1,5 @@
-use Rattle.std.proofs.Common.{◌≡◌, ◌++◌}
-use Rattle.dropins.specs.Walks.{unmasked}
+use Rattle.std.proofs.Common.{◌++◌, ◌≡◌}
+use Rattle.dropins.proofs.Prelude.{unmasked}
 use Rattle.dropins.proofs.precedence.unmasked.Given as goal
 
 abbrev pub invariant-loop-take : goal.invariant-loop-take

@@ -1,4 +1,4 @@
-use Rattle.edit_sums.specs.CounterLaws.{high_of-sum_of, high_of-join}
+use Rattle.edit_sums.proofs.Prelude.{high_of-join, high_of-sum_of}
 use Rattle.edit_sums.proofs.laws.counters_of_sums.Goals as goal
 
 pub returns-clause-sum : goal.returns-clause-sum

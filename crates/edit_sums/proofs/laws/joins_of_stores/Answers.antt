@@ -1,4 +1,4 @@
-use Rattle.edit_sums.specs.SumLaws.{join-left, join-right, join-least, join_comm, join_assoc, join_idem}
+use Rattle.edit_sums.proofs.Prelude.{join-least, join-left, join-right, join_assoc, join_comm, join_idem}
 use Rattle.edit_sums.proofs.laws.joins_of_stores.Goals as goal
 
 pub returns : goal.returns

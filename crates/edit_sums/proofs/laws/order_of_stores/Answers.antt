@@ -1,4 +1,4 @@
-use Rattle.edit_sums.specs.SumLaws.{store_below_refl, store_below_trans, store_below_antisym}
+use Rattle.edit_sums.proofs.Prelude.{store_below_antisym, store_below_refl, store_below_trans}
 use Rattle.edit_sums.proofs.laws.order_of_stores.Goals as goal
 
 pub returns-clause-reflexive : goal.returns-clause-reflexive

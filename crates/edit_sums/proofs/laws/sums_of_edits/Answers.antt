@@ -1,4 +1,4 @@
-use Rattle.edit_sums.specs.SumLaws.{sum_of-IsSum, sum_of-append, sum_of-least, sum_of-same_edits}
+use Rattle.edit_sums.proofs.Prelude.{sum_of-append, sum_of-IsSum, sum_of-least, sum_of-same_edits}
 use Rattle.edit_sums.proofs.laws.sums_of_edits.Goals as goal
 
 pub returns : goal.returns

@@ -1,4 +1,4 @@
-use Rattle.edit_sums.specs.WinnerLaws.{counters_decide, writers_decide, sorts_decide}
+use Rattle.edit_sums.proofs.Prelude.{counters_decide, sorts_decide, writers_decide}
 use Rattle.edit_sums.proofs.laws.winners_of_sums.Goals as goal
 
 pub returns-clause-counters : goal.returns-clause-counters

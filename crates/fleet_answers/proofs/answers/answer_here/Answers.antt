@@ -1,7 +1,7 @@
-use Rattle.std.specs.Option.{option_copied}
 use Rattle.std.proofs.lemmas.Result.{IfOk-weaker}
-use Rattle.fleet_answers.specs.Answers.{IsAnswer, IsTold}
-use Rattle.fleet_answers.proofs.Told.{answers, own_host, own_known}
+use Rattle.std.specs.Option.{option_copied}
+use Rattle.fleet_answers.proofs.Prelude.{IsAnswer, IsReturned}
+use Rattle.fleet_answers.proofs.Returned.{answers, own_host, own_known}
 use Rattle.fleet_answers.proofs.answers.answer_here.Goals as goal
 
 pub answer-requires : goal.answer-requires
@@ -14,7 +14,7 @@ answer-requires c = record {
 
 pub returns-in-Ok : goal.returns-in-Ok
 returns-in-Ok c = record {
-  answer = IfOk-weaker c.answer.result (IsTold c.in-Ok.snapshot c.args.question.now) (IsAnswer c.args.store.now c.args.extra.now c.args.question.now)
+  answer = IfOk-weaker c.answer.result (IsReturned c.in-Ok.snapshot c.args.question.now) (IsAnswer c.args.store.now c.args.extra.now c.args.question.now)
       (answers c.args.store.now c.args.extra.now c.args.question.now c.in_ok-names.field-0 c.in-Some.names c.in-Some.is c.in_ok-names.ensures.names c.deref.result.now
-      c.deref.ensures.value (option_copied c.host.result) c.host.ensures.host c.in-Ok.snapshot c.in-Ok.ensures.snapshot c.in_ok-names.ensures.template) c.answer.ensures.told;
+      c.deref.ensures.value (option_copied c.host.result) c.host.ensures.host c.in-Ok.snapshot c.in-Ok.ensures.snapshot c.in_ok-names.ensures.template) c.answer.ensures.returned;
 }

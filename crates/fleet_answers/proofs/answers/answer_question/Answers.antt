@@ -1,6 +1,6 @@
 use Rattle.std.specs.Option.{option_copied}
-use Rattle.fleet_answers.specs.Answers.{IsAnswer, IsTold}
-use Rattle.fleet_answers.proofs.Told.{answers, of_mapped, own_host, own_known}
+use Rattle.fleet_answers.proofs.Prelude.{IsAnswer, IsReturned}
+use Rattle.fleet_answers.proofs.Returned.{answers, of_mapped, own_host, own_known}
 use Rattle.fleet_answers.proofs.answers.answer_question.Goals as goal
 
 pub answer-requires : goal.answer-requires
@@ -13,7 +13,7 @@ answer-requires g c = record {
 
 pub returns-in-Ok-by_workers-clause-answer : goal.returns-in-Ok-by_workers-clause-answer
 returns-in-Ok-by_workers-clause-answer g c =
-    of_mapped (IsTold c.in-Ok-by_workers.snapshot c.args.question.now) (IsAnswer c.args.store.now c.args.extra.now c.args.question.now) _ c.answer.result c.map_err.result
+    of_mapped (IsReturned c.in-Ok-by_workers.snapshot c.args.question.now) (IsAnswer c.args.store.now c.args.extra.now c.args.question.now) _ c.answer.result c.map_err.result
     (answers c.args.store.now c.args.extra.now c.args.question.now c.in-Ok.names c.in-Some.names c.in-Some.is c.in-Ok.ensures.names c.deref.result.now c.deref.ensures.value
     (option_copied c.host.result) c.host.ensures.host c.in-Ok-by_workers.snapshot c.in-Ok-by_workers.ensures.snapshot c.in-Ok.ensures.template)
-    c.map_err.ensures.cases c.map_err.ensures.variant c.answer.ensures.told
+    c.map_err.ensures.cases c.map_err.ensures.variant c.answer.ensures.returned

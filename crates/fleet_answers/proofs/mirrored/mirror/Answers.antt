@@ -1,8 +1,6 @@
-use Rattle.std.proofs.Common.{ap, sym, ◌∙◌, arith}
-use Rattle.edit_sums.specs.declared.entries.Edit.{Edit}
-use Rattle.edit_sums.specs.Sums.{visible_at, with_edit}
-use Rattle.replica_store.specs.Replicas.{Replicated, next_version}
-use Rattle.fleet_answers.proofs.Mirrors.{put_there, put_elsewhere}
+use Rattle.std.proofs.Common.{◌∙◌, ap, arith, sym}
+use Rattle.fleet_answers.proofs.Prelude.{Edit, next_version, Replicated, visible_at, with_edit}
+use Rattle.fleet_answers.proofs.Mirrors.{put_elsewhere, put_there}
 use Rattle.fleet_answers.proofs.mirrored.mirror.Goals as goal
 
 pub returns-in-Ok-clause-there : goal.returns-in-Ok-clause-there

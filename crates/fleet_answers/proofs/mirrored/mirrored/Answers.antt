@@ -1,5 +1,5 @@
-use Rattle.std.proofs.Common.{◌≡◌, ◌+◌, ◌∷◌, arith, suc, drop, drop-cons, sym, ap, ◌∙◌}
-use Rattle.load_places.specs.Places.{PlaceParts}
+use Rattle.std.proofs.Common.{◌+◌, ◌∙◌, ◌∷◌, ◌≡◌, ap, arith, drop, drop-cons, suc, sym}
+use Rattle.fleet_answers.proofs.Prelude.{PlaceParts}
 use Rattle.fleet_answers.proofs.Mirrors.{one_fewer}
 use Rattle.fleet_answers.proofs.mirrored.mirrored.Goals as goal
 

@@ -1,4 +1,4 @@
-use Rattle.std.proofs.Common.{◌≡◌, ◌++◌, take}
+use Rattle.std.proofs.Common.{◌++◌, ◌≡◌, take}
 use Rattle.fleet_answers.proofs.names.append_copies.Given as goal
 
 abbrev pub invariant-loop-other : goal.invariant-loop-other

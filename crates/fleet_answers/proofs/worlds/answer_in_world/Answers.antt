@@ -1,8 +1,6 @@
 use Rattle.std.proofs.Common.{length, subst}
-use Rattle.edit_sums.specs.Sums.{EntryMap}
-use Rattle.fleet_answers.specs.Answers.{IsAnswer}
-use Rattle.fleet_answers.proofs.Fleets.{IsOfReplica, agrees, as_told, holds_least, holds_same_later, of_store, of_sum}
-use Rattle.fleet_answers.proofs.Held.{got}
+use Rattle.fleet_answers.proofs.Prelude.{EntryMap, IsAnswer}
+use Rattle.fleet_answers.proofs.{Fleets.agrees, Fleets.by_events, Fleets.holds_least, Fleets.holds_same_later, Fleets.IsOfReplica, Fleets.of_store, Fleets.of_sum, Held.got}
 use Rattle.fleet_answers.proofs.worlds.answer_in_world.Given.{Over}
 use Rattle.fleet_answers.proofs.worlds.answer_in_world.Goals as goal
 
@@ -20,8 +18,8 @@ returns-in-Some-clause-model g c = of_store (length c.args.writers.now) c.args.e
 pub returns-in-Some-clause-sum : goal.returns-in-Some-clause-sum
 returns-in-Some-clause-sum g c = of_sum (length c.args.writers.now) c.args.events.now (of_replica g c) c.in-Ok.ensures.sums
 
-pub returns-in-Some-clause-told : goal.returns-in-Some-clause-told
-returns-in-Some-clause-told g c = as_told (length c.args.writers.now) c.args.events.now (of_replica g c) c.in-Ok.ensures.told
+pub returns-in-Some-clause-by_events : goal.returns-in-Some-clause-by_events
+returns-in-Some-clause-by_events g c = by_events (length c.args.writers.now) c.args.events.now (of_replica g c) c.in-Ok.ensures.by_events
 
 pub returns-in-Some-clause-same : goal.returns-in-Some-clause-same
 returns-in-Some-clause-same g c = agrees (length c.args.writers.now) c.args.events.now (of_replica g c) c.in-Ok.ensures.same

@@ -1,31 +1,28 @@
-use Rattle.std.proofs.Common.{rules, ℕ, Vec, Global, refl, sym, ap, ◌∙◌}
+use Rattle.std.proofs.Common.{◌∙◌, ap, Global, refl, rules, sym, Vec, ℕ}
 use Rattle.std.proofs.lemmas.Bool.{eqb-true}
 use Rattle.std.proofs.lemmas.List.{nil_from_length}
-use Rattle.script_words.specs.Lines.{lines_of}
-use Rattle.script_words.specs.LinesLaws.{lines_of-nil}
-use Rattle.fleet_script.specs.Holds.{kept_in}
-use Rattle.fleet_script.proofs.Runs.{begins, moved, line_answered, flushed, front_written, answered, whatever, extended, not_extended}
-use Rattle.fleet_script.proofs.Rooms.{has_room}
+use Rattle.fleet_script.proofs.Prelude.{kept_in, lines_of, lines_of-nil}
+use Rattle.fleet_script.proofs.{Rooms.has_room, Runs.answered, Runs.begins, Runs.extended, Runs.flushed, Runs.line_answered, Runs.moved, Runs.not_extended, Runs.prefix_written, Runs.whatever}
 use Rattle.fleet_script.proofs.running.answer_all.Goals as goal
 use Rattle.fleet_script.proofs.running.answer_all.Goals.{then-len-ge-BATCH+in_ok-write_all, else-len-ge-BATCH}
 
 pub loop-rest-init : goal.loop-rest-init
 loop-rest-init g c = (begins c.args.script.now c.new-pending.result.items (kept_in c.new-shell.result) (g.K.Sink.contents c.args.writer.now) c.new-shell.ensures.blank c.new-pending.ensures.items, refl)
 
-pub returns-in_default-clause-front : goal.returns-in_default-clause-front
-returns-in_default-clause-front g c = whatever _ c.give_up.result
-    (front_written c.args.script.now c.loop-rest.rest.now c.loop-rest.pending.items (kept_in c.loop-rest.shell) (g.K.Sink.contents c.args.writer.now) (g.K.Sink.contents c.loop-rest.writer) (g.K.Sink.contents c.give_up.new.writer)
-    (rw c.deref.ensures.value at c.give_up.ensures.front) c.loop-rest.invariant.0)
+pub returns-in_default-clause-prefix : goal.returns-in_default-clause-prefix
+returns-in_default-clause-prefix g c = whatever _ c.give_up.result
+    (prefix_written c.args.script.now c.loop-rest.rest.now c.loop-rest.pending.items (kept_in c.loop-rest.shell) (g.K.Sink.contents c.args.writer.now) (g.K.Sink.contents c.loop-rest.writer) (g.K.Sink.contents c.give_up.new.writer)
+    (rw c.deref.ensures.value at c.give_up.ensures.prefix) c.loop-rest.invariant.0)
 
-pub returns-then-is_err-clause-front : goal.returns-then-is_err-clause-front
-returns-then-is_err-clause-front g c = whatever _ c.give_up-then-is_err.result
-    (front_written c.args.script.now c.loop-rest.rest.now c.loop-rest.pending.items (kept_in c.loop-rest.shell) (g.K.Sink.contents c.args.writer.now) (g.K.Sink.contents c.loop-rest.writer) (g.K.Sink.contents c.give_up-then-is_err.new.writer)
-    (rw (c.deref-then-is_err.ensures.value ∙ not_extended c.extend_from_slice.result c.extend_from_slice.new.self.items c.loop-rest.pending.items c.deref-in-loop-rest.result.now (sym c.if-is_err.ensures.value) c.extend_from_slice.ensures.items) at c.give_up-then-is_err.ensures.front) c.loop-rest.invariant.0)
+pub returns-then-is_err-clause-prefix : goal.returns-then-is_err-clause-prefix
+returns-then-is_err-clause-prefix g c = whatever _ c.give_up-then-is_err.result
+    (prefix_written c.args.script.now c.loop-rest.rest.now c.loop-rest.pending.items (kept_in c.loop-rest.shell) (g.K.Sink.contents c.args.writer.now) (g.K.Sink.contents c.loop-rest.writer) (g.K.Sink.contents c.give_up-then-is_err.new.writer)
+    (rw (c.deref-then-is_err.ensures.value ∙ not_extended c.extend_from_slice.result c.extend_from_slice.new.self.items c.loop-rest.pending.items c.deref-in-loop-rest.result.now (sym c.if-is_err.ensures.value) c.extend_from_slice.ensures.items) at c.give_up-then-is_err.ensures.prefix) c.loop-rest.invariant.0)
 
-pub returns-in_err-write_all-clause-front : goal.returns-in_err-write_all-clause-front
-returns-in_err-write_all-clause-front g c = whatever _ c.from_residual.result
-    (front_written c.args.script.now c.cut_line.result.1.now c.extend_from_slice.new.self.items (kept_in c.answer_line.new.self) (g.K.Sink.contents c.args.writer.now) (g.K.Sink.contents c.loop-rest.writer) (g.K.Sink.contents c.write_all.new.sink)
-    (rw c.deref-then-len-ge-BATCH.ensures.value at c.in_err-write_all.ensures.front)
+pub returns-in_err-write_all-clause-prefix : goal.returns-in_err-write_all-clause-prefix
+returns-in_err-write_all-clause-prefix g c = whatever _ c.from_residual.result
+    (prefix_written c.args.script.now c.cut_line.result.1.now c.extend_from_slice.new.self.items (kept_in c.answer_line.new.self) (g.K.Sink.contents c.args.writer.now) (g.K.Sink.contents c.loop-rest.writer) (g.K.Sink.contents c.write_all.new.sink)
+    (rw c.deref-then-len-ge-BATCH.ensures.value at c.in_err-write_all.ensures.prefix)
     (line_answered c.args.script.now c.loop-rest.rest.now _ c.cut_line.result.1.now c.in-Ok.answer.items c.loop-rest.pending.items c.extend_from_slice.new.self.items (kept_in c.loop-rest.shell) (kept_in c.answer_line.new.self) _ _ c.cut_line.ensures.lines c.in-Ok.ensures.answered
     (rw c.deref-in-loop-rest.ensures.value at (extended c.extend_from_slice.result c.extend_from_slice.new.self.items c.loop-rest.pending.items c.deref-in-loop-rest.result.now (sym c.if-is_err.ensures.value) c.extend_from_slice.ensures.items)) c.loop-rest.invariant.0))
 
@@ -46,10 +43,10 @@ loop-rest-preserved g c =
       )
     ]
 
-pub returns-in_err-write_all-2-clause-front : goal.returns-in_err-write_all-2-clause-front
-returns-in_err-write_all-2-clause-front g c = whatever _ c.from_residual-in_err-write_all-2.result
-    (front_written c.args.script.now c.loop-rest.rest.now c.loop-rest.pending.items (kept_in c.loop-rest.shell) (g.K.Sink.contents c.args.writer.now) (g.K.Sink.contents c.loop-rest.writer) (g.K.Sink.contents c.write_all-2.new.sink)
-    (rw c.deref-2.ensures.value at c.in_err-write_all-2.ensures.front) c.loop-rest.invariant.0)
+pub returns-in_err-write_all-2-clause-prefix : goal.returns-in_err-write_all-2-clause-prefix
+returns-in_err-write_all-2-clause-prefix g c = whatever _ c.from_residual-in_err-write_all-2.result
+    (prefix_written c.args.script.now c.loop-rest.rest.now c.loop-rest.pending.items (kept_in c.loop-rest.shell) (g.K.Sink.contents c.args.writer.now) (g.K.Sink.contents c.loop-rest.writer) (g.K.Sink.contents c.write_all-2.new.sink)
+    (rw c.deref-2.ensures.value at c.in_err-write_all-2.ensures.prefix) c.loop-rest.invariant.0)
 
 pub returns-clause-ok : goal.returns-clause-ok
 returns-clause-ok g c =

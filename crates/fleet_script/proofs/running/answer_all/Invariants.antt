@@ -1,5 +1,5 @@
 use Rattle.std.proofs.Common.{◌≡◌, length}
-use Rattle.fleet_script.specs.Holds.{kept_in}
+use Rattle.fleet_script.proofs.Prelude.{kept_in}
 use Rattle.fleet_script.proofs.Runs.{Progress}
 use Rattle.fleet_script.proofs.running.answer_all.Given as goal
 

@@ -1,19 +1,18 @@
-use Rattle.std.proofs.Common.{◌+◌, arith, subst, List}
-use Rattle.unit_name.specs.Names.{Name}
-use Rattle.fragment_choice.specs.Indexes.{Collects, IsOwnLink}
-use Rattle.fragment_choice.proofs.Indexing.{IsOwnBelow, collects_none, collects_level, collects_levels}
+use Rattle.std.proofs.Common.{◌+◌, arith, List, subst}
+use Rattle.fragment_choice.proofs.Prelude.{Collects, IsOwnLink, Name}
+use Rattle.fragment_choice.proofs.Indexing.{collects_level, collects_levels, collects_none, IsOwnBelow}
 use Rattle.fragment_choice.proofs.aliases.linked_names.Goals as goal
 
 pub loop-level-init : goal.loop-level-init
-loop-level-init c = collects_none (IsOwnBelow c.args.seen.now 0) c.new-names.result.keys (λ n l. absurd (let lt = l.1 in omega arith))
+loop-level-init c = collects_none (IsOwnBelow c.args.view.now 0) c.new-names.result.keys (λ n l. absurd (let lt = l.1 in omega arith))
 
 pub loop-level-preserved : goal.loop-level-preserved
 loop-level-preserved c =
-    collects_level c.args.seen.now c.loop-level.level (c.loop-level.level + 1) c.new-names.result.keys c.loop-level.names.keys c.add_linked.new.names.keys (omega arith) c.loop-level.invariant c.in_ok-add_linked.ensures.added
+    collects_level c.args.view.now c.loop-level.level (c.loop-level.level + 1) c.new-names.result.keys c.loop-level.names.keys c.add_linked.new.names.keys (omega arith) c.loop-level.invariant c.in_ok-add_linked.ensures.added
 
 pub returns : goal.returns
 returns c = record {
   linked =
-      subst (λ (old : List Name). Collects (IsOwnLink c.args.seen.now) old c.loop-level.names.keys) c.new-names.ensures.empty
-      (collects_levels c.args.seen.now c.loop-level.level c.new-names.result.keys c.loop-level.names.keys (λ l h. let all = c.loop-level-test.false in omega (arith, h, all)) c.loop-level.invariant);
+      subst (λ (old : List Name). Collects (IsOwnLink c.args.view.now) old c.loop-level.names.keys) c.new-names.ensures.empty
+      (collects_levels c.args.view.now c.loop-level.level c.new-names.result.keys c.loop-level.names.keys (λ l h. let all = c.loop-level-test.false in omega (arith, h, all)) c.loop-level.invariant);
 }

@@ -1,6 +1,6 @@
-use Rattle.fragment_choice.specs.Indexes.{Collects}
+use Rattle.fragment_choice.proofs.Prelude.{Collects}
 use Rattle.fragment_choice.proofs.Indexing.{IsOwnBelow}
 use Rattle.fragment_choice.proofs.aliases.linked_names.Given as goal
 
 abbrev pub invariant-loop-level : goal.invariant-loop-level
-invariant-loop-level l = Collects (IsOwnBelow l.seen l.level) l.initial.names.keys l.names.keys
+invariant-loop-level l = Collects (IsOwnBelow l.view l.level) l.initial.names.keys l.names.keys

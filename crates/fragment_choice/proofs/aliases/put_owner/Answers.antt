@@ -1,9 +1,6 @@
-use Rattle.std.proofs.Common.{◌≡◌, Some, ap, sym, subst, ◌∙◌}
+use Rattle.std.proofs.Common.{◌∙◌, ◌≡◌, ap, Some, subst, sym}
 use Rattle.std.proofs.lemmas.Result.{on_ok_weaker}
-use Rattle.unit_name.specs.Names.{Name}
-use Rattle.fragment_choice.specs.declared.choices.Choice.{Choice}
-use Rattle.fragment_choice.specs.declared.choices.Choice.TheVariants.{Alias}
-use Rattle.fragment_choice.specs.Indexes.{Puts}
+use Rattle.fragment_choice.proofs.Prelude.{Alias, Choice, Name, Puts}
 use Rattle.fragment_choice.proofs.Indexing.{puts_said}
 use Rattle.fragment_choice.proofs.aliases.put_owner.Goals as goal
 

@@ -1,4 +1,4 @@
-use Rattle.fragment_choice.specs.LikenessLaws.{aliases_are_alike, chains_are_alike, mains_are_alike}
+use Rattle.fragment_choice.proofs.Prelude.{aliases_are_alike, chains_are_alike, mains_are_alike}
 use Rattle.fragment_choice.proofs.laws.likeness_laws.Goals as goal
 
 pub returns : goal.returns

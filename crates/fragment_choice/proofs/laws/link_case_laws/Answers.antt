@@ -1,4 +1,4 @@
-use Rattle.fragment_choice.specs.LinkCaseLaws.{kinds_make_bad, shapes_make_bad, targets_make_bad, no_link_is_a_loop, good_links_make_aliases}
+use Rattle.fragment_choice.proofs.Prelude.{good_links_make_aliases, kinds_make_bad, no_link_is_a_loop, shapes_make_bad, targets_make_bad}
 use Rattle.fragment_choice.proofs.laws.link_case_laws.Goals as goal
 
 pub returns : goal.returns

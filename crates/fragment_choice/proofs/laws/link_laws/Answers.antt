@@ -1,4 +1,4 @@
-use Rattle.fragment_choice.specs.LinkLaws.{aliases_have_links, instances_keep_their_part}
+use Rattle.fragment_choice.proofs.Prelude.{aliases_have_links, instances_keep_their_part}
 use Rattle.fragment_choice.proofs.laws.link_laws.Goals as goal
 
 pub returns : goal.returns

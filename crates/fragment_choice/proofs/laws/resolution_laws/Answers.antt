@@ -1,5 +1,4 @@
-use Rattle.fragment_choice.specs.ResolutionLaws.{choices_decide, following_finds_the_end, mains_are_their_own, no_alias_stands}
-use Rattle.fragment_choice.specs.FragmentLaws.{fragments_are_files, fragments_are_own, fragments_have_no_folder}
+use Rattle.fragment_choice.proofs.Prelude.{choices_decide, following_finds_the_end, fragments_are_files, fragments_are_own, fragments_have_no_folder, mains_are_their_own, no_alias_stands}
 use Rattle.fragment_choice.proofs.laws.resolution_laws.Goals as goal
 
 pub returns : goal.returns

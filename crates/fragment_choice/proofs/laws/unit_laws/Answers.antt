@@ -1,4 +1,4 @@
-use Rattle.fragment_choice.specs.UnitNameLaws.{mains_decide, names_have_the_main, names_dont_meet, one_list_of_names}
+use Rattle.fragment_choice.proofs.Prelude.{mains_decide, names_dont_meet, names_have_the_main, one_list_of_names}
 use Rattle.fragment_choice.proofs.laws.unit_laws.Goals as goal
 
 pub returns : goal.returns

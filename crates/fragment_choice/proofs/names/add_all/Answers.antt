@@ -1,9 +1,8 @@
-use Rattle.std.proofs.Common.{◌≡◌, ◌++◌, [], ◌∷◌, ap, refl, map, sym, subst, ◌∙◌, List}
-use Rattle.std.specs.BTreeSet.{insert_key}
+use Rattle.std.proofs.Common.{[], ◌++◌, ◌∙◌, ◌∷◌, ◌≡◌, ap, List, map, refl, subst, sym}
 use Rattle.std.proofs.lemmas.List.{map-id}
 use Rattle.std.proofs.lemmas.Map.Iter.{iter_end}
-use Rattle.unit_name.specs.Names.{Name, name_cmp}
-use Rattle.fragment_choice.specs.Indexes.{Adds}
+use Rattle.std.specs.BTreeSet.{insert_key}
+use Rattle.fragment_choice.proofs.Prelude.{Adds, Name, name_cmp}
 use Rattle.fragment_choice.proofs.Levels.{adds_none, adds_one}
 use Rattle.fragment_choice.proofs.names.add_all.Goals as goal
 

@@ -1,5 +1,5 @@
 use Rattle.std.proofs.Common.{◌≡◌}
-use Rattle.fragment_choice.specs.Indexes.{Adds}
+use Rattle.fragment_choice.proofs.Prelude.{Adds}
 use Rattle.fragment_choice.proofs.names.add_all.Given as goal
 
 abbrev pub invariant-loop-name : goal.invariant-loop-name

@@ -1,8 +1,7 @@
-use Rattle.std.proofs.Common.{◌+◌, ◌++◌, ◌∷◌, [], take, ap, refl, subst, sym, ◌∙◌, List}
+use Rattle.std.proofs.Common.{[], ◌++◌, ◌+◌, ◌∙◌, ◌∷◌, ap, List, refl, subst, sym, take}
 use Rattle.std.proofs.lemmas.List.{take_all, take_more}
 use Rattle.std.specs.BTreeSet.{insert_key}
-use Rattle.unit_name.specs.Names.{Name, name_cmp}
-use Rattle.fragment_choice.specs.Indexes.{Adds}
+use Rattle.fragment_choice.proofs.Prelude.{Adds, Name, name_cmp}
 use Rattle.fragment_choice.proofs.Levels.{adds_none, adds_one}
 use Rattle.fragment_choice.proofs.names.gather_owners.Goals as goal
 
@@ -12,9 +11,9 @@ loop-owner-init c = adds_none [] c.args.others.now.keys refl
 pub loop-owner-preserved : goal.loop-owner-preserved
 loop-owner-preserved c =
     let i = c.loop-owner.owner-index in
-    let front = take i c.args.owners.now in
-    adds_one front (take (i + 1) c.args.owners.now) c.args.others.now.keys c.loop-owner.others.keys c.put.new.others.keys c.owner-item.result
-    (take_more c.args.owners.now i c.owner-item.result c.loop-owner-test.true ∙ ap (λ (x : Name). front ++ x ∷ []) (sym c.owner-item.is)) c.loop-owner.invariant
+    let prefix = take i c.args.owners.now in
+    adds_one prefix (take (i + 1) c.args.owners.now) c.args.others.now.keys c.loop-owner.others.keys c.put.new.others.keys c.owner-item.result
+    (take_more c.args.owners.now i c.owner-item.result c.loop-owner-test.true ∙ ap (λ (x : Name). prefix ++ x ∷ []) (sym c.owner-item.is)) c.loop-owner.invariant
     (c.in_ok-put.ensures.put ∙ ap (insert_key name_cmp c.loop-owner.others.keys) c.in_ok-try_clone.ensures.copy)
 
 pub returns : goal.returns

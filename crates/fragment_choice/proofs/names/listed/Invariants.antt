@@ -1,4 +1,4 @@
-use Rattle.std.proofs.Common.{◌≡◌, ◌∷◌}
+use Rattle.std.proofs.Common.{◌∷◌, ◌≡◌}
 use Rattle.fragment_choice.proofs.names.listed.Given as goal
 
 abbrev pub invariant-loop-other : goal.invariant-loop-other

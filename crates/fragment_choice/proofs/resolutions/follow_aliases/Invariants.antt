@@ -1,5 +1,5 @@
-use Rattle.std.proofs.Common.{◌≡◌, ◌-◌}
-use Rattle.fragment_choice.specs.Resolutions.{follow, resolution}
+use Rattle.std.proofs.Common.{◌-◌, ◌≡◌}
+use Rattle.fragment_choice.proofs.Prelude.{follow, resolution}
 use Rattle.fragment_choice.proofs.resolutions.follow_aliases.Given as goal
 
 abbrev pub invariant-loop-step : goal.invariant-loop-step

@@ -1,11 +1,10 @@
 use Rattle.std.proofs.Common.{◌+◌, length}
-use Rattle.index_rows.specs.MarkLaws.{unset}
-use Rattle.index_rows.specs.Steps.{LeadsInside}
+use Rattle.index_rows.proofs.Prelude.{LeadsInside, unset}
 use Rattle.index_rows.proofs.Works.{IsWork}
 use Rattle.index_rows.proofs.closures.reached_inside.Given as goal
 
 abbrev pub invariant-loop-node : goal.invariant-loop-node
-invariant-loop-node l = IsWork (length l.inside) (LeadsInside l.inside l.steps) l.sources l.seen.items l.todo.items
+invariant-loop-node l = IsWork (length l.inside) (LeadsInside l.inside l.successors) l.sources l.seen.items l.todo.items
 
 abbrev pub decreases-loop-node : goal.decreases-loop-node
 decreases-loop-node l = unset l.seen.items + length l.todo.items

@@ -1,11 +1,10 @@
 use Rattle.std.proofs.Common.{◌+◌, length}
-use Rattle.index_rows.specs.MarkLaws.{unset}
-use Rattle.index_rows.specs.Steps.{steps_from}
+use Rattle.index_rows.proofs.Prelude.{successors_from, unset}
 use Rattle.index_rows.proofs.Levels.{IsLevel}
 use Rattle.index_rows.proofs.shortest.distances.Given as goal
 
 abbrev pub invariant-loop-alloc : goal.invariant-loop-alloc
-invariant-loop-alloc l = IsLevel l.count (steps_from l.steps) l.sources l.distance l.seen.items l.level.items l.pairs.items
+invariant-loop-alloc l = IsLevel l.count (successors_from l.successors) l.sources l.distance l.seen.items l.level.items l.pairs.items
 
 abbrev pub decreases-loop-alloc : goal.decreases-loop-alloc
 decreases-loop-alloc l = unset l.seen.items + length l.level.items

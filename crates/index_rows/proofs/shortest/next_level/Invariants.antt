@@ -1,8 +1,7 @@
 use Rattle.std.proofs.Common.{[], take}
 use Rattle.std.specs.List.{flat_map}
-use Rattle.index_rows.specs.Spreads.{IsSpread}
-use Rattle.index_rows.specs.Steps.{steps_from}
+use Rattle.index_rows.proofs.Prelude.{IsSpread, successors_from}
 use Rattle.index_rows.proofs.shortest.next_level.Given as goal
 
 abbrev pub invariant-loop-node : goal.invariant-loop-node
-invariant-loop-node l = IsSpread l.fn.seen.items l.seen.items [] l.next.items (flat_map (steps_from l.steps) (take l.node-index l.level))
+invariant-loop-node l = IsSpread l.fn.seen.items l.seen.items [] l.next.items (flat_map (successors_from l.successors) (take l.node-index l.level))

@@ -1,4 +1,4 @@
-use Rattle.std.proofs.Common.{◌≡◌, ◌++◌, map, take}
+use Rattle.std.proofs.Common.{◌++◌, ◌≡◌, map, take}
 use Rattle.index_rows.proofs.shortest.push_level.Given as goal
 
 abbrev pub invariant-loop-node : goal.invariant-loop-node

@@ -1,7 +1,4 @@
-use Rattle.inverse_deps.specs.AskedLaws.{asking_makes_no_edges}
-use Rattle.inverse_deps.specs.EdgeLaws.{dependencies_are_edges, edges_come_from_names, lists_are_of_all_edges, one_list_by_kind, one_list_of_edges}
-use Rattle.inverse_deps.specs.LinkLaws.{asking_makes_no_links, rows_make_the_links}
-use Rattle.inverse_deps.specs.RowLaws.{rows_make_the_edges}
+use Rattle.inverse_deps.proofs.Prelude.{adjacency_makes_the_edges, adjacency_makes_the_links, asking_makes_no_edges, asking_makes_no_links, dependencies_are_edges, edges_come_from_names, lists_are_of_all_edges, one_list_by_kind, one_list_of_edges}
 use Rattle.inverse_deps.proofs.laws.edge_laws.Goals as goal
 
 pub returns-clause-one : goal.returns-clause-one
@@ -22,11 +19,11 @@ returns-clause-names c = edges_come_from_names
 pub returns-clause-asked : goal.returns-clause-asked
 returns-clause-asked c = asking_makes_no_edges
 
-pub returns-clause-rows : goal.returns-clause-rows
-returns-clause-rows c = rows_make_the_edges
+pub returns-clause-adjacency : goal.returns-clause-adjacency
+returns-clause-adjacency c = adjacency_makes_the_edges
 
 pub returns-clause-links_asked : goal.returns-clause-links_asked
 returns-clause-links_asked c = asking_makes_no_links
 
 pub returns-clause-links : goal.returns-clause-links
-returns-clause-links c = rows_make_the_links
+returns-clause-links c = adjacency_makes_the_links

@@ -1,11 +1,7 @@
-use Rattle.std.proofs.Common.{◌≡◌, ◌+◌, ◌++◌, ◌∷◌, [], List, map, take, get_or, ap, subst, sym, ◌∙◌}
-use Rattle.std.specs.List.{All}
+use Rattle.std.proofs.Common.{[], ◌++◌, ◌+◌, ◌∙◌, ◌∷◌, ◌≡◌, All, ap, get_or, List, map, subst, sym, take}
 use Rattle.std.proofs.lemmas.List.{map-append, take_more}
 use Rattle.std.proofs.lemmas.List.Elements.{All-push}
-use Rattle.setting_rules.specs.declared.dependency_lists.DependencyList.{DependencyList}
-use Rattle.setting_rules.specs.declared.kinds.DepKind.{DepKind}
-use Rattle.setting_rules.specs.declared.kinds.DepKind.TheVariants.{Before}
-use Rattle.inverse_deps.specs.Edges.{AreEdgesFrom}
+use Rattle.inverse_deps.proofs.Prelude.{AreEdgesFrom, Before, DependencyList, DepKind}
 use Rattle.inverse_deps.proofs.Linking.{edges_linked}
 use Rattle.inverse_deps.proofs.unit_edges.edges_of.Goals as goal
 

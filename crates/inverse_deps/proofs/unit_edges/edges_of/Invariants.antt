@@ -1,7 +1,5 @@
-use Rattle.std.proofs.Common.{◌≡◌, map, take}
-use Rattle.std.specs.List.{All}
-use Rattle.setting_rules.specs.declared.dependency_lists.DependencyList.{DependencyList}
-use Rattle.inverse_deps.specs.Edges.{AreEdgesFrom}
+use Rattle.std.proofs.Common.{◌≡◌, All, map, take}
+use Rattle.inverse_deps.proofs.Prelude.{AreEdgesFrom, DependencyList}
 use Rattle.inverse_deps.proofs.unit_edges.edges_of.Given as goal
 
 abbrev pub invariant-loop-kind : goal.invariant-loop-kind

@@ -1,16 +1,15 @@
-use Rattle.std.proofs.Common.{◌<◌, ℕ, List, map, ap, subst, sym, ◌∙◌}
-use Rattle.std.specs.List.{All}
-use Rattle.inverse_deps.specs.Numbers.{count_of, name_at}
-use Rattle.inverse_deps.proofs.Linking.{linked, numbers_within}
+use Rattle.std.proofs.Common.{◌<◌, ◌∙◌, All, ap, List, map, subst, sym, ℕ}
+use Rattle.inverse_deps.proofs.Prelude.{count_of, name_at}
+use Rattle.inverse_deps.proofs.Linking.{indices_within, linked}
 use Rattle.inverse_deps.proofs.unit_edges.linked_by.Goals as goal
 
 pub names_at-requires : goal.names_at-requires
 names_at-requires c =
     let P : List ℕ → Type 0 = λ is. All (λ i. i < count_of c.args.loaded.now) is in
-    record { numbers = subst P (sym c.deref.ensures.value) (numbers_within c.args.loaded.now c.args.links.now c.args.kind c.in_ok-numbers.numbers.items c.in_ok-numbers.ensures.numbers c.requires.links) }
+    record { indices = subst P (sym c.deref.ensures.value) (indices_within c.args.loaded.now c.args.links.now c.args.kind c.in_ok-indices.indices.items c.in_ok-indices.ensures.indices c.requires.links) }
 
 pub returns : goal.returns
 returns c = record {
-  names = linked c.args.loaded.now c.args.links.now c.args.kind c.in_ok-numbers.numbers.items c.in_ok-numbers.ensures.numbers c.in_ok-names_at.field-0.items c.in_byte_order.result
+  names = linked c.args.loaded.now c.args.links.now c.args.kind c.in_ok-indices.indices.items c.in_ok-indices.ensures.indices c.in_ok-names_at.field-0.items c.in_byte_order.result
       (c.in_ok-names_at.ensures.names ∙ ap (map (name_at c.args.loaded.now)) c.deref.ensures.value) c.in_byte_order.ensures.names;
 }

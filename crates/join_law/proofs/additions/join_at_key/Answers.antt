@@ -1,9 +1,6 @@
-use Rattle.std.proofs.Common.{Some, refl, ap, sym, ◌∙◌}
-use Rattle.sorted_pairs.specs.PlaceLaws.{find_at, find_gap}
-use Rattle.join_law.specs.Maps.{is_none_or}
-use Rattle.join_law.specs.MapLaws.{entry_not_least}
-use Rattle.join_law.proofs.MapEdits.{joined_is_map, joined_is_join, between_is_map, between_is_between, inserted_is_map, inserted_is_join, added_with}
-use Rattle.join_law.proofs.Outcomes.{on_ok_weaker, on_err_weaker, if_ok_weaker, by_outcome}
+use Rattle.std.proofs.Common.{◌∙◌, ap, refl, Some, sym}
+use Rattle.join_law.proofs.Prelude.{entry_not_least, find_at, find_gap, is_none_or}
+use Rattle.join_law.proofs.{MapEdits.added_with, MapEdits.between_is_between, MapEdits.between_is_map, MapEdits.inserted_is_join, MapEdits.inserted_is_map, MapEdits.joined_is_join, MapEdits.joined_is_map, Outcomes.by_outcome, Outcomes.if_ok_weaker, Outcomes.on_err_weaker, Outcomes.on_ok_weaker}
 use Rattle.join_law.proofs.additions.join_at_key.Goals as goal
 
 pub returns-in-Ok-clause-ok : goal.returns-in-Ok-clause-ok
@@ -61,7 +58,7 @@ pub returns-in_ok-insert-in-Some-clause-map : goal.returns-in_ok-insert-in-Some-
 returns-in_ok-insert-in-Some-clause-map g c =
     let held = rw c.in-Some.is at c.in_ok-value-in-Err.ensures.held in
     rw c.in_ok-insert-in-Some.ensures.items
-    (inserted_is_map g.K.Ord.cmp g.met.K.Ord.total g.A.Value.Join.is_valid g.A.Value.Join.below g.met.A.Value.Join.reflexive g.met.A.Value.Join.transitive c.args.key _ _ c.requires c.in-Some.value held.not_least (rw c.deref.ensures.value at c.in-Err.ensures.absent) held.lawful)
+    (inserted_is_map g.K.Ord.cmp g.met.K.Ord.total g.A.Value.Join.is_valid g.A.Value.Join.below g.met.A.Value.Join.reflexive g.met.A.Value.Join.transitive c.args.key _ _ c.requires c.in-Some.value held.not_least (rw c.deref.ensures.value at c.in-Err.ensures.absent) held.well_formed)
 
 pub returns-in_ok-insert-in-Some-clause-added : goal.returns-in_ok-insert-in-Some-clause-added
 returns-in_ok-insert-in-Some-clause-added g c =

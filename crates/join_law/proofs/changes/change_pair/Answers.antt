@@ -1,8 +1,6 @@
-use Rattle.std.proofs.Common.{Some, ap, sym, subst, ◌∙◌, set}
-use Rattle.sorted_pairs.specs.PlaceLaws.{find_at, find_gap}
-use Rattle.join_law.specs.Maps.{IsMap, is_some_and}
-use Rattle.join_law.proofs.MapEdits.{set_same, joined_is_map, joined_is_join}
-use Rattle.join_law.proofs.Outcomes.{on_true_weaker, on_false_weaker, by_answer}
+use Rattle.std.proofs.Common.{◌∙◌, ap, set, Some, subst, sym}
+use Rattle.join_law.proofs.Prelude.{find_at, find_gap, is_some_and, IsMap}
+use Rattle.join_law.proofs.{MapEdits.joined_is_join, MapEdits.joined_is_map, MapEdits.set_same, Outcomes.by_answer, Outcomes.on_false_weaker, Outcomes.on_true_weaker}
 use Rattle.join_law.proofs.changes.change_pair.Goals as goal
 
 pub returns-in-Ok-clause-made : goal.returns-in-Ok-clause-made

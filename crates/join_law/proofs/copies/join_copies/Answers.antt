@@ -1,10 +1,8 @@
-use Rattle.std.proofs.Common.{◌≡◌, [], ◌∷◌, None, drop, sym, subst, arith}
-use Rattle.std.specs.Bool.{OnTrue, OnFalse}
+use Rattle.std.proofs.Common.{[], ◌∷◌, ◌≡◌, arith, drop, None, subst, sym}
+use Rattle.std.specs.Bool.{OnFalse, OnTrue}
+use Rattle.join_law.proofs.Prelude.{AreCopiesJoined, IsHeld, IsJoin, IsMap, MapBelow}
+use Rattle.join_law.proofs.CopyWalks.{copied_all, copied_first, copied_more, drop_is_map, held_at, not_known, rest_copied, still_known, stopped_joined, take_rest}
 use Rattle.std.specs.FinMap.{find}
-use Rattle.join_law.specs.Order.{IsJoin}
-use Rattle.join_law.specs.Maps.{IsHeld, IsMap, MapBelow}
-use Rattle.join_law.specs.Outcomes.{AreCopiesJoined}
-use Rattle.join_law.proofs.CopyWalks.{held_at, take_rest, drop_is_map, copied_first, copied_all, copied_more, stopped_joined, still_known, rest_copied, not_known}
 use Rattle.join_law.proofs.copies.join_copies.Goals as goal
 
 pub join_pair_copy-requires-clause-held : goal.join_pair_copy-requires-clause-held

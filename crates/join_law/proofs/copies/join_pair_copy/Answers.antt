@@ -1,7 +1,6 @@
-use Rattle.std.proofs.Common.{◌≡◌, ap, ◌∙◌, set}
-use Rattle.join_law.proofs.MapEdits.{set_same, joined_is_map, joined_is_join, known_here, between_is_map, between_is_between, unchanged_is_between, inserted_is_map, inserted_is_join, not_known}
-use Rattle.sorted_pairs.specs.PlaceLaws.{find_gap}
-use Rattle.join_law.proofs.Outcomes.{on_err}
+use Rattle.std.proofs.Common.{◌∙◌, ◌≡◌, ap, set}
+use Rattle.join_law.proofs.Prelude.{find_gap}
+use Rattle.join_law.proofs.{MapEdits.between_is_between, MapEdits.between_is_map, MapEdits.inserted_is_join, MapEdits.inserted_is_map, MapEdits.joined_is_join, MapEdits.joined_is_map, MapEdits.known_here, MapEdits.not_known, MapEdits.set_same, MapEdits.unchanged_is_between, Outcomes.on_err}
 use Rattle.join_law.proofs.copies.join_pair_copy.Goals as goal
 
 pub returns-in_err-insert_copy-in-Err-clause-known : goal.returns-in_err-insert_copy-in-Err-clause-known
@@ -45,7 +44,7 @@ returns-in_err-join_copy-in-Ok-clause-single g c =
 pub returns-in_ok-insert_copy-in-Err-clause-map : goal.returns-in_ok-insert_copy-in-Err-clause-map
 returns-in_ok-insert_copy-in-Err-clause-map g c =
     rw c.in_ok-insert_copy-in-Err.ensures.ok
-    (inserted_is_map g.K.Ord.cmp g.met.K.Ord.total g.V.Join.is_valid g.V.Join.below g.met.V.Join.reflexive g.met.V.Join.transitive c.args.key.now _ _ c.requires.map c.args.value.now c.requires.held.not_least (rw c.deref.ensures.value at c.in-Err.ensures.absent) c.requires.held.lawful)
+    (inserted_is_map g.K.Ord.cmp g.met.K.Ord.total g.V.Join.is_valid g.V.Join.below g.met.V.Join.reflexive g.met.V.Join.transitive c.args.key.now _ _ c.requires.map c.args.value.now c.requires.held.not_least (rw c.deref.ensures.value at c.in-Err.ensures.absent) c.requires.held.well_formed)
 
 pub returns-in_ok-insert_copy-in-Err-clause-ok : goal.returns-in_ok-insert_copy-in-Err-clause-ok
 returns-in_ok-insert_copy-in-Err-clause-ok g c =

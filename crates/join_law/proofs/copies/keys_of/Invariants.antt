@@ -1,4 +1,4 @@
-use Rattle.std.proofs.Common.{◌≡◌, take, map}
+use Rattle.std.proofs.Common.{◌≡◌, map, take}
 use Rattle.join_law.proofs.copies.keys_of.Given as goal
 
 abbrev pub invariant-loop-pair : goal.invariant-loop-pair

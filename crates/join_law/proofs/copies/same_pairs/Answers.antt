@@ -1,7 +1,7 @@
-use Rattle.std.proofs.Common.{◌≡◌, true, false, refl, sym, ap, ◌∙◌, arith}
-use Rattle.std.specs.Ordering.{is_eq}
+use Rattle.std.proofs.Common.{◌∙◌, ◌≡◌, ap, arith, false, refl, sym, true}
 use Rattle.std.specs.Cmp.{tied_itself}
-use Rattle.list_laws.specs.Orderings.{is_equal}
+use Rattle.std.specs.Ordering.{is_eq}
+use Rattle.join_law.proofs.Prelude.{is_equal}
 use Rattle.join_law.proofs.CopyWalks.{same_at, same_more}
 use Rattle.join_law.proofs.copies.same_pairs.Goals as goal
 

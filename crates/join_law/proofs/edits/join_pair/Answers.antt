@@ -1,7 +1,6 @@
-use Rattle.std.proofs.Common.{subst, ap, sym, refl, ◌∙◌, set}
-use Rattle.std.specs.Prelude.{IsSome}
-use Rattle.sorted_pairs.specs.PlaceLaws.{find_at, find_gap}
-use Rattle.join_law.proofs.MapEdits.{set_same, joined_is_map, joined_is_join, partly_is_map, partly_is_join, refused_is_join, inserted_is_map, inserted_is_join}
+use Rattle.std.proofs.Common.{◌∙◌, ap, IsSome, refl, set, subst, sym}
+use Rattle.join_law.proofs.Prelude.{find_at, find_gap}
+use Rattle.join_law.proofs.MapEdits.{inserted_is_join, inserted_is_map, joined_is_join, joined_is_map, partly_is_join, partly_is_map, refused_is_join, set_same}
 use Rattle.join_law.proofs.edits.join_pair.Goals as goal
 
 pub returns-in-Ok-join_from-clause-map : goal.returns-in-Ok-join_from-clause-map

@@ -1,4 +1,4 @@
-use Rattle.join_law.proofs.Ends.{under_way_more, single_stopped, stopped_is_join, stopped_is_map}
+use Rattle.join_law.proofs.Ends.{single_stopped, stopped_is_join, stopped_is_map, under_way_more}
 use Rattle.join_law.proofs.edits.join_pairs.Goals as goal
 
 pub returns-in-Ok : goal.returns-in-Ok

@@ -1,10 +1,7 @@
-use Rattle.std.proofs.Common.{◌≡◌, [], ◌∷◌, ◌++◌, get_or, length, ap, sym, subst, ◌∙◌, arith}
+use Rattle.std.proofs.Common.{[], ◌++◌, ◌∙◌, ◌∷◌, ◌≡◌, ap, arith, get_or, length, subst, sym}
 use Rattle.std.specs.declared.cmp.Ordering.TheVariants.{Less}
-use Rattle.sorted_pairs.specs.Places.{AreBelow}
-use Rattle.join_law.specs.Order.{IsBetween, IsJoin}
-use Rattle.join_law.specs.Maps.{IsHeld, IsMap, MapBelow}
-use Rattle.join_law.proofs.Behind.{keys_rise}
-use Rattle.join_law.proofs.CopyWalks.{held_at, copied_first, copied_all, copied_more, stopped_joined}
+use Rattle.join_law.proofs.Prelude.{AreBelow, IsBetween, IsHeld, IsJoin, IsMap, MapBelow}
+use Rattle.join_law.proofs.{After.keys_ascend, CopyWalks.copied_all, CopyWalks.copied_first, CopyWalks.copied_more, CopyWalks.held_at, CopyWalks.stopped_joined}
 use Rattle.join_law.proofs.passes.pass_copies.Goals as goal
 
 pub loop-pair-init : goal.loop-pair-init
@@ -36,7 +33,7 @@ loop-pair-preserved g c =
       before = λ j d past within.
           c.in_ok-place_copy.ensures.below (get_or c.args.other.now j d).0
           (subst (λ pair. g.K.Ord.cmp pair.0 (get_or c.args.other.now j d).0 ≡ Less) (sym c.pair-item.is)
-          (keys_rise g.K.Ord.cmp c.args.other.now c.loop-pair.pair-index j c.pair-item.result d c.requires.other_map.sorted (omega arith) within));
+          (keys_ascend g.K.Ord.cmp c.args.other.now c.loop-pair.pair-index j c.pair-item.result d c.requires.other_map.sorted (omega arith) within));
       room = omega arith;
     }
 

@@ -1,10 +1,6 @@
-use Rattle.std.proofs.Common.{◌<◌, [], ◌∷◌, ◌++◌, List, suc, get_or, length, ap, sym, subst, ◌∙◌, arith}
-use Rattle.sorted_pairs.specs.Places.{AreBelow}
-use Rattle.join_law.specs.Order.{IsJoin, IsPartialJoin}
-use Rattle.join_law.specs.Maps.{IsMap, MapBelow}
-use Rattle.join_law.proofs.Behind.{keys_rise}
-use Rattle.join_law.proofs.Ends.{IsUnderWay, under_way_first}
-use Rattle.join_law.proofs.FrontWalks.{front_held, front_more, front_stopped, front_back, front_single}
+use Rattle.std.proofs.Common.{[], ◌++◌, ◌<◌, ◌∙◌, ◌∷◌, ap, arith, get_or, length, List, subst, suc, sym}
+use Rattle.join_law.proofs.Prelude.{AreBelow, IsJoin, IsMap, IsPartialJoin, MapBelow}
+use Rattle.join_law.proofs.{After.keys_ascend, Ends.IsUnderWay, Ends.under_way_first, PrefixWalks.prefix_back, PrefixWalks.prefix_held, PrefixWalks.prefix_more, PrefixWalks.prefix_single, PrefixWalks.prefix_stopped}
 use Rattle.join_law.proofs.passes.pass_pairs.Goals as goal
 
 pub loop-key-init : goal.loop-key-init
@@ -26,16 +22,16 @@ place_pair-requires-clause-map g c =
 pub place_pair-requires-clause-held : goal.place_pair-requires-clause-held
 place_pair-requires-clause-held g c =
     let u = subst (λ left. IsUnderWay g.K.Ord.cmp g.V.Join.is_valid g.V.Join.below g.V.Join.is_single c.args.ahead.now.items c.args.other.now.items (c.loop-key.passed.items ++ c.loop-key.ahead.items) left) c.in-Some.ensures.items c.loop-key.invariant.under_way in
-    front_held g.K.Ord.cmp g.met.K.Ord.total g.V.Join.is_valid g.V.Join.below g.met.V.Join.reflexive g.met.V.Join.transitive g.V.Join.is_single c.args.ahead.now.items c.args.other.now.items (c.loop-key.passed.items ++ c.loop-key.ahead.items) c.in-Some.key c.in-Some.value c.pop_front.new.self.items u
+    prefix_held g.K.Ord.cmp g.met.K.Ord.total g.V.Join.is_valid g.V.Join.below g.met.V.Join.reflexive g.met.V.Join.transitive g.V.Join.is_single c.args.ahead.now.items c.args.other.now.items (c.loop-key.passed.items ++ c.loop-key.ahead.items) c.in-Some.key c.in-Some.value c.pop_front.new.self.items u
 
 pub loop-key-preserved : goal.loop-key-preserved
 loop-key-preserved g c =
     let u = subst (λ left. IsUnderWay g.K.Ord.cmp g.V.Join.is_valid g.V.Join.below g.V.Join.is_single c.args.ahead.now.items c.args.other.now.items (c.loop-key.passed.items ++ c.loop-key.ahead.items) left) c.in-Some.ensures.items c.loop-key.invariant.under_way in
     record {
-      under_way = front_more g.K.Ord.cmp g.met.K.Ord.total g.V.Join.is_valid g.V.Join.below g.met.V.Join.reflexive g.met.V.Join.transitive g.V.Join.is_single c.args.ahead.now.items c.args.other.now.items (c.loop-key.passed.items ++ c.loop-key.ahead.items) c.in-Some.key c.in-Some.value c.pop_front.new.self.items u _ c.in_default-place_pair.ensures.map (subst (λ now. IsJoin (MapBelow g.K.Ord.cmp g.V.Join.below) now ((c.in-Some.key, c.in-Some.value) ∷ []) (c.place_pair.new.passed.items ++ c.place_pair.new.ahead.items)) c.pass_below.ensures.pairs c.in_default-place_pair.ensures.ok);
+      under_way = prefix_more g.K.Ord.cmp g.met.K.Ord.total g.V.Join.is_valid g.V.Join.below g.met.V.Join.reflexive g.met.V.Join.transitive g.V.Join.is_single c.args.ahead.now.items c.args.other.now.items (c.loop-key.passed.items ++ c.loop-key.ahead.items) c.in-Some.key c.in-Some.value c.pop_front.new.self.items u _ c.in_default-place_pair.ensures.map (subst (λ now. IsJoin (MapBelow g.K.Ord.cmp g.V.Join.below) now ((c.in-Some.key, c.in-Some.value) ∷ []) (c.place_pair.new.passed.items ++ c.place_pair.new.ahead.items)) c.pass_below.ensures.pairs c.in_default-place_pair.ensures.ok);
       before = λ j d lt.
           c.in_default-place_pair.ensures.below (get_or c.pop_front.new.self.items j d).0
-          (keys_rise g.K.Ord.cmp ((c.in-Some.key, c.in-Some.value) ∷ c.pop_front.new.self.items) 0 (suc j) (c.in-Some.key, c.in-Some.value) d u.left_map.sorted (omega arith) (omega (arith, lt)));
+          (keys_ascend g.K.Ord.cmp ((c.in-Some.key, c.in-Some.value) ∷ c.pop_front.new.self.items) 0 (suc j) (c.in-Some.key, c.in-Some.value) d u.left_map.sorted (omega arith) (omega (arith, lt)));
       room = omega (arith, c.in-Some.ensures.len);
     }
 
@@ -45,8 +41,8 @@ returns-in-Ok-clause-joined g c =
     let partly = subst (λ now. IsPartialJoin (MapBelow g.K.Ord.cmp g.V.Join.below) now ((c.in-Some.key, c.in-Some.value) ∷ []) (c.place_pair.new.passed.items ++ c.place_pair.new.ahead.items) (c.in-Err.field-0.rest ∷ [])) c.pass_below.ensures.pairs c.in-Err.ensures.refused in
     record {
       map = c.in-Err.ensures.map;
-      other_map = rw c.in-Ok.ensures.items (front_back g.K.Ord.cmp g.met.K.Ord.total g.V.Join.is_valid g.V.Join.below g.met.V.Join.reflexive g.met.V.Join.transitive g.V.Join.is_single c.args.ahead.now.items c.args.other.now.items (c.loop-key.passed.items ++ c.loop-key.ahead.items) c.in-Some.key c.in-Some.value c.pop_front.new.self.items u _ _ c.in-Err.ensures.key partly c.in-Err.ensures.left c.in-Err.ensures.rest_valid);
+      other_map = rw c.in-Ok.ensures.items (prefix_back g.K.Ord.cmp g.met.K.Ord.total g.V.Join.is_valid g.V.Join.below g.met.V.Join.reflexive g.met.V.Join.transitive g.V.Join.is_single c.args.ahead.now.items c.args.other.now.items (c.loop-key.passed.items ++ c.loop-key.ahead.items) c.in-Some.key c.in-Some.value c.pop_front.new.self.items u _ _ c.in-Err.ensures.key partly c.in-Err.ensures.left c.in-Err.ensures.rest_valid);
       ok = tt;
-      refused = rw c.in-Ok.ensures.items (front_stopped g.K.Ord.cmp g.met.K.Ord.total g.V.Join.is_valid g.V.Join.below g.met.V.Join.reflexive g.met.V.Join.transitive g.V.Join.is_single c.args.ahead.now.items c.args.other.now.items (c.loop-key.passed.items ++ c.loop-key.ahead.items) c.in-Some.key c.in-Some.value c.pop_front.new.self.items u _ _ c.in-Err.ensures.key partly c.in-Err.ensures.left);
-      single = front_single g.K.Ord.cmp g.met.K.Ord.total g.V.Join.is_valid g.V.Join.below g.met.V.Join.reflexive g.met.V.Join.transitive g.V.Join.is_single c.args.ahead.now.items c.args.other.now.items (c.loop-key.passed.items ++ c.loop-key.ahead.items) c.in-Some.key c.in-Some.value c.pop_front.new.self.items u _ (λ single. c.in-Err.ensures.single single ∙ c.pass_below.ensures.pairs);
+      refused = rw c.in-Ok.ensures.items (prefix_stopped g.K.Ord.cmp g.met.K.Ord.total g.V.Join.is_valid g.V.Join.below g.met.V.Join.reflexive g.met.V.Join.transitive g.V.Join.is_single c.args.ahead.now.items c.args.other.now.items (c.loop-key.passed.items ++ c.loop-key.ahead.items) c.in-Some.key c.in-Some.value c.pop_front.new.self.items u _ _ c.in-Err.ensures.key partly c.in-Err.ensures.left);
+      single = prefix_single g.K.Ord.cmp g.met.K.Ord.total g.V.Join.is_valid g.V.Join.below g.met.V.Join.reflexive g.met.V.Join.transitive g.V.Join.is_single c.args.ahead.now.items c.args.other.now.items (c.loop-key.passed.items ++ c.loop-key.ahead.items) c.in-Some.key c.in-Some.value c.pop_front.new.self.items u _ (λ single. c.in-Err.ensures.single single ∙ c.pass_below.ensures.pairs);
     }

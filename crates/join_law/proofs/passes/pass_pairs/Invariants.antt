@@ -1,7 +1,7 @@
-use Rattle.std.proofs.Common.{◌+◌, ◌≤◌, ◌<◌, ◌++◌, ℕ, length, get_or, vec_len}
+use Rattle.std.proofs.Common.{◌++◌, ◌+◌, ◌<◌, ◌≤◌, get_or, length, vec_len, ℕ}
 use Rattle.std.specs.Vec.{vec_capacity}
 use Rattle.std.specs.VecDeque.{deque_len}
-use Rattle.sorted_pairs.specs.Places.{AreBelow}
+use Rattle.join_law.proofs.Prelude.{AreBelow}
 use Rattle.join_law.proofs.Ends.{IsUnderWay}
 use Rattle.join_law.proofs.passes.pass_pairs.Given as goal
 

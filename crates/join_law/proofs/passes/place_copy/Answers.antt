@@ -1,7 +1,6 @@
 use Rattle.std.proofs.Common.{[], ◌∷◌}
-use Rattle.sorted_pairs.specs.PlaceLaws.{below_append, below_further}
-use Rattle.join_law.proofs.Outcomes.{on_err}
-use Rattle.join_law.proofs.PassEdits.{joined_is_map, joined_is_join, between_is_map, between_is_between, added_is_map, added_is_join}
+use Rattle.join_law.proofs.Prelude.{below_append, below_further}
+use Rattle.join_law.proofs.{Outcomes.on_err, PassEdits.added_is_join, PassEdits.added_is_map, PassEdits.between_is_between, PassEdits.between_is_map, PassEdits.joined_is_join, PassEdits.joined_is_map}
 use Rattle.join_law.proofs.passes.place_copy.Goals as goal
 
 pub returns-in_err-join_copy-clause-map : goal.returns-in_err-join_copy-clause-map
@@ -29,7 +28,7 @@ pub returns-in_err-try_clone-clause-below : goal.returns-in_err-try_clone-clause
 returns-in_err-try_clone-clause-below g c = λ next less. below_further g.K.Ord.cmp g.met.K.Ord.total c.args.key.now next less c.args.passed.now.items c.requires.below
 
 pub returns-clause-map : goal.returns-clause-map
-returns-clause-map g c = rw (c.in-Ok.ensures.items, c.in_ok-copy.ensures.copy, c.in_ok-try_clone.ensures.copy) (added_is_map g.K.Ord.cmp g.met.K.Ord.total g.V.Join.is_valid g.V.Join.below g.met.V.Join.reflexive g.met.V.Join.transitive c.args.key.now c.args.passed.now.items c.args.ahead.now.items c.requires.map c.requires.below c.args.value.now c.requires.held.not_least c.if-is_first.ensures.gap c.requires.held.lawful)
+returns-clause-map g c = rw (c.in-Ok.ensures.items, c.in_ok-copy.ensures.copy, c.in_ok-try_clone.ensures.copy) (added_is_map g.K.Ord.cmp g.met.K.Ord.total g.V.Join.is_valid g.V.Join.below g.met.V.Join.reflexive g.met.V.Join.transitive c.args.key.now c.args.passed.now.items c.args.ahead.now.items c.requires.map c.requires.below c.args.value.now c.requires.held.not_least c.if-is_first.ensures.gap c.requires.held.well_formed)
 
 pub returns-clause-ok : goal.returns-clause-ok
 returns-clause-ok g c = rw (c.in-Ok.ensures.items, c.in_ok-copy.ensures.copy, c.in_ok-try_clone.ensures.copy) (added_is_join g.K.Ord.cmp g.met.K.Ord.total g.V.Join.is_valid g.V.Join.below g.met.V.Join.reflexive g.met.V.Join.transitive c.args.key.now c.args.passed.now.items c.args.ahead.now.items c.requires.map c.requires.below c.args.value.now c.requires.held.not_least c.if-is_first.ensures.gap)

@@ -1,6 +1,6 @@
 use Rattle.std.proofs.Common.{[], ◌∷◌}
-use Rattle.sorted_pairs.specs.PlaceLaws.{below_append, below_further}
-use Rattle.join_law.proofs.PassEdits.{joined_is_map, joined_is_join, partly_is_map, partly_is_join, added_is_map, added_is_join}
+use Rattle.join_law.proofs.Prelude.{below_append, below_further}
+use Rattle.join_law.proofs.PassEdits.{added_is_join, added_is_map, joined_is_join, joined_is_map, partly_is_join, partly_is_map}
 use Rattle.join_law.proofs.passes.place_pair.Goals as goal
 
 pub returns-in-Err-clause-map : goal.returns-in-Err-clause-map
@@ -22,7 +22,7 @@ pub returns-in-Ok-clause-below : goal.returns-in-Ok-clause-below
 returns-in-Ok-clause-below g c = λ next less. below_further g.K.Ord.cmp g.met.K.Ord.total c.args.key next less c.args.passed.now.items c.requires.below
 
 pub returns-clause-map : goal.returns-clause-map
-returns-clause-map g c = rw c.in-Ok-push.ensures.items (added_is_map g.K.Ord.cmp g.met.K.Ord.total g.V.Join.is_valid g.V.Join.below g.met.V.Join.reflexive g.met.V.Join.transitive c.args.key c.args.passed.now.items c.args.ahead.now.items c.requires.map c.requires.below c.args.value c.requires.held.not_least c.if-is_first.ensures.gap c.requires.held.lawful)
+returns-clause-map g c = rw c.in-Ok-push.ensures.items (added_is_map g.K.Ord.cmp g.met.K.Ord.total g.V.Join.is_valid g.V.Join.below g.met.V.Join.reflexive g.met.V.Join.transitive c.args.key c.args.passed.now.items c.args.ahead.now.items c.requires.map c.requires.below c.args.value c.requires.held.not_least c.if-is_first.ensures.gap c.requires.held.well_formed)
 
 pub returns-clause-ok : goal.returns-clause-ok
 returns-clause-ok g c = rw c.in-Ok-push.ensures.items (added_is_join g.K.Ord.cmp g.met.K.Ord.total g.V.Join.is_valid g.V.Join.below g.met.V.Join.reflexive g.met.V.Join.transitive c.args.key c.args.passed.now.items c.args.ahead.now.items c.requires.map c.requires.below c.args.value c.requires.held.not_least c.if-is_first.ensures.gap)

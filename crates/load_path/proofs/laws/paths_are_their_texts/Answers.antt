@@ -1,4 +1,4 @@
-use Rattle.load_path.specs.TextLaws.{are_their_texts}
+use Rattle.load_path.proofs.Prelude.{are_their_texts}
 use Rattle.load_path.proofs.laws.paths_are_their_texts.Goals as goal
 
 pub returns : goal.returns

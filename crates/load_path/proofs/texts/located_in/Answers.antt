@@ -1,6 +1,5 @@
-use Rattle.std.proofs.Common.{sym, ap, ◌∙◌}
-use Rattle.load_path.specs.Paths.{below_directory}
-use Rattle.load_path.specs.TextLaws.{located-start, located_here, located_later}
+use Rattle.std.proofs.Common.{◌∙◌, ap, sym}
+use Rattle.load_path.proofs.Prelude.{below_directory, located-start, located_here, located_later}
 use Rattle.load_path.proofs.texts.located_in.Goals as goal
 
 pub loop-rank-init : goal.loop-rank-init

@@ -1,10 +1,8 @@
-use Rattle.std.proofs.Common.{rules, arith, ◌<◌, ◌≤◌, ◌-◌, length}
-use Rattle.std.specs.BTreeMap.{keys}
+use Rattle.std.proofs.Common.{◌-◌, ◌<◌, ◌≤◌, arith, length, rules}
 use Rattle.std.proofs.lemmas.Map.Entries.{length-keys_of}
-use Rattle.name_closure.specs.ListedLaws.{Listed}
-use Rattle.name_closure.specs.LimitLaws.{not_over}
-use Rattle.name_closure.specs.Loading.{LeadsByLoad}
-use Rattle.name_closure.proofs.Rounding.{under_way_start, under_way_more, length-found, closure_at_end, over_in_round}
+use Rattle.std.specs.BTreeMap.{keys}
+use Rattle.name_closure.proofs.Prelude.{LeadsByLoad, Listed, not_over}
+use Rattle.name_closure.proofs.Rounding.{closure_at_end, length-found, over_in_round, under_way_more, under_way_start}
 use Rattle.name_closure.proofs.closures.close_by_rounds.Goals as goal
 
 pub loop-alloc-init : goal.loop-alloc-init
@@ -24,7 +22,7 @@ returns-then-len-limit-clause-over g c =
     c.loop-alloc.invariant.way g.met.K.Ord.total g.met.K.Key.exact (search rules)
 
 pub load_round-requires : goal.load_round-requires
-load_round-requires g c = c.requires.ready c.loop-alloc.fresh c.loop-alloc.invariant.way.fresh_rising c.loop-alloc.invariant.way.fresh_nodes
+load_round-requires g c = c.requires.ready c.loop-alloc.fresh c.loop-alloc.invariant.way.fresh_ascending c.loop-alloc.invariant.way.fresh_nodes
 
 pub add_loaded-requires-clause-found : goal.add_loaded-requires-clause-found
 add_loaded-requires-clause-found g c = c.loop-alloc.invariant.way.loaded
@@ -40,7 +38,7 @@ loop-alloc-smaller g c =
     let round = rw c.in_ok-pairs.was at (c.requires.loads c.loop-alloc.fresh c.load_round.result c.load_round.ensures) in
     let long =
     length-found g.K.Ord.cmp (g.L.Loads.is_node loader) (g.L.Loads.is_loaded loader) (g.L.Loads.named loader) c.args.sources.now _ _ _ _
-    c.loop-alloc.invariant.way round.loads c.in_ok-add_loaded.ensures.joined g.met.K.Ord.total g.met.K.Key.exact c.add_loaded.ensures.rising in
+    c.loop-alloc.invariant.way round.loads c.in_ok-add_loaded.ensures.joined g.met.K.Ord.total g.met.K.Key.exact c.add_loaded.ensures.ascending in
     let some : 0 < length c.loop-alloc.fresh.items = search rules in
     let fits : length c.loop-alloc.fresh.items ≤ c.args.limit - length c.loop-alloc.found.entries = search rules in
     omega arith
@@ -52,13 +50,13 @@ loop-alloc-preserved g c =
     let said = c.in_ok-add_loaded.ensures in
     let long =
     length-found g.K.Ord.cmp (g.L.Loads.is_node loader) (g.L.Loads.is_loaded loader) (g.L.Loads.named loader) c.args.sources.now _ _ _ _
-    c.loop-alloc.invariant.way round.loads said.joined g.met.K.Ord.total g.met.K.Key.exact c.add_loaded.ensures.rising in
+    c.loop-alloc.invariant.way round.loads said.joined g.met.K.Ord.total g.met.K.Key.exact c.add_loaded.ensures.ascending in
     let fits : length c.loop-alloc.fresh.items ≤ c.args.limit - length c.loop-alloc.found.entries = search rules in
     let room : length c.loop-alloc.found.entries ≤ c.args.limit = c.loop-alloc.invariant.room in
     record {
       way =
           under_way_more g.K.Ord.cmp (g.L.Loads.is_node loader) (g.L.Loads.is_loaded loader) (g.L.Loads.named loader) c.args.sources.now _ _ _ _
-          c.loop-alloc.invariant.way round.loads said.joined (g.met.L.Loads.one loader) _ _ said.entries c.add_loaded.ensures.rising round.others round.can_load
+          c.loop-alloc.invariant.way round.loads said.joined (g.met.L.Loads.one loader) _ _ said.entries c.add_loaded.ensures.ascending round.others round.can_load
           c.new_of-fresh-in-loop-alloc.ensures.fresh;
       room = omega arith;
     }

@@ -1,4 +1,4 @@
-use Rattle.std.proofs.Common.{◌≤◌, ◌-◌, length}
+use Rattle.std.proofs.Common.{◌-◌, ◌≤◌, length}
 use Rattle.name_closure.proofs.Rounding.{IsUnderWay}
 use Rattle.name_closure.proofs.closures.close_by_rounds.Given as goal
 

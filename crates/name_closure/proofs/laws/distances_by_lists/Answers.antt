@@ -1,4 +1,4 @@
-use Rattle.name_closure.specs.ListedLaws.{listed_distance}
+use Rattle.name_closure.proofs.Prelude.{listed_distance}
 use Rattle.name_closure.proofs.laws.distances_by_lists.Goals as goal
 
 pub returns : goal.returns

@@ -1,8 +1,4 @@
-use Rattle.name_closure.specs.ClosureLaws.{one_closure}
-use Rattle.name_closure.specs.LimitLaws.{not_over}
-use Rattle.name_closure.specs.ListedLaws.{Listed}
-use Rattle.name_closure.specs.Loading.{LeadsByLoad}
-use Rattle.name_closure.specs.LoadingLaws.{leads_by_one, one_load_of_nodes}
+use Rattle.name_closure.proofs.Prelude.{leads_by_one, LeadsByLoad, Listed, not_over, one_closure, one_load_of_nodes}
 use Rattle.name_closure.proofs.laws.loaded_closures.Goals as goal
 
 pub returns-clause-leads : goal.returns-clause-leads

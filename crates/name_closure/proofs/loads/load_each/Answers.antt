@@ -1,6 +1,6 @@
-use Rattle.std.proofs.Common.{◌∷◌, [], rules}
+use Rattle.std.proofs.Common.{[], ◌∷◌, rules}
 use Rattle.std.proofs.lemmas.List.Elements.{All-rest}
-use Rattle.name_closure.specs.LoadingLaws.{loads_none, loads_one, loads_append}
+use Rattle.name_closure.proofs.Prelude.{loads_append, loads_none, loads_one}
 use Rattle.name_closure.proofs.Insertions.{holds_next}
 use Rattle.name_closure.proofs.loads.load_each.Goals as goal
 

@@ -1,6 +1,5 @@
-use Rattle.std.proofs.Common.{◌≡◌, ◌∙◌, false, rules, sym, append_assoc}
+use Rattle.std.proofs.Common.{◌∙◌, ◌≡◌, append_assoc, false, IsTrue, rules, sym}
 use Rattle.std.proofs.lemmas.Bool.{true≢false}
-use Rattle.std.specs.Prelude.{IsTrue}
 use Rattle.std.specs.Map.{keys_of}
 use Rattle.name_closure.proofs.Others.{apart_more, others_kept, others_more}
 use Rattle.name_closure.proofs.names.add_others.Goals as goal
@@ -10,7 +9,7 @@ loop-node-preserved-in-Continue-1 g c =
     let other : c.is_own.result ≡ false = search rules in
     record {
       others = rw (c.in_ok-push.ensures.items, ← append_assoc) (others_more (keys_of c.args.pairs.now) _ _ c.in-Some.node c.loop-node.invariant.others);
-      apart = λ rising old. rw c.in_ok-push.ensures.items (apart_more (keys_of c.args.pairs.now) c.loop-node.names.items c.in-Some.node (c.loop-node.invariant.apart rising old) (λ own. true≢false (sym (c.is_own.ensures.seen rising own) ∙ other)));
+      apart = λ ascending old. rw c.in_ok-push.ensures.items (apart_more (keys_of c.args.pairs.now) c.loop-node.names.items c.in-Some.node (c.loop-node.invariant.apart ascending old) (λ own. true≢false (sym (c.is_own.ensures.seen ascending own) ∙ other)));
     }
 
 pub loop-node-preserved : goal.loop-node-preserved

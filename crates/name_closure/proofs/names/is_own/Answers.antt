@@ -1,9 +1,8 @@
-use Rattle.std.proofs.Common.{◌≡◌, ◌∙◌, ◌<◌, length, get_or, rules, sym, ap, true}
+use Rattle.std.proofs.Common.{◌<◌, ◌∙◌, ◌≡◌, ap, get_or, length, rules, sym, true}
 use Rattle.std.proofs.lemmas.Fn.{always_returns_same}
 use Rattle.std.specs.Ordering.{is_eq}
-use Rattle.list_laws.specs.Orderings.{is_equal}
-use Rattle.name_closure.proofs.Others.{key_at}
-use Rattle.name_closure.proofs.Searched.{not_missed}
+use Rattle.name_closure.proofs.Prelude.{is_equal}
+use Rattle.name_closure.proofs.{Others.key_at, Searched.not_missed}
 use Rattle.name_closure.proofs.names.is_own.Goals as goal
 
 pub returns-in-Ok : goal.returns-in-Ok
@@ -16,7 +15,7 @@ returns-in-Ok g c = record {
       key_at c.args.node.now c.args.pairs.now c.in-Ok.at c.index-pairs-at.result within
       (g.met.K.Key.exact key c.args.node.now (is_equal _ (sym (g.met.K.Ord.matches_eq key c.args.node.now) ∙ equal))));
   seen =
-      λ rising among. (
+      λ ascending among. (
       let key = (get_or c.args.pairs.now c.in-Ok.at c.index-pairs-at.result).0 in
       let at_key = c.in-Ok.ensures.position (λ pair. g.K.Ord.cmp pair.0 c.args.node.now) (always_returns_same _ _ _ (λ a r f called. (search rules, search rules))) c.index-pairs-at.result in
       c.eq.ensures ∙ g.met.K.Ord.matches_eq key c.args.node.now ∙ ap is_eq at_key);
@@ -26,7 +25,7 @@ pub returns-in-Err : goal.returns-in-Err
 returns-in-Err g c = record {
   own = λ h. cc;
   seen =
-      λ rising among. (
+      λ ascending among. (
       let by_key = c.in-Err.ensures.position (λ pair. g.K.Ord.cmp pair.0 c.args.node.now) (always_returns_same _ _ _ (λ a r f called. (search rules, search rules))) in
-      absurd (not_missed g.K.Ord.cmp g.met.K.Ord.total c.args.node.now c.args.pairs.now c.in-Err.field-0 rising by_key among));
+      absurd (not_missed g.K.Ord.cmp g.met.K.Ord.total c.args.node.now c.args.pairs.now c.in-Err.field-0 ascending by_key among));
 }

@@ -1,10 +1,9 @@
-use Rattle.std.proofs.Common.{◌≡◌, ◌<◌, length, arith, rules, take, subst, sym, ap}
+use Rattle.std.proofs.Common.{◌<◌, ◌≡◌, ap, arith, length, rules, subst, sym, take}
 use Rattle.std.proofs.lemmas.Grind.{common_steps}
-use Rattle.std.specs.Map.{keys_of}
 use Rattle.std.proofs.lemmas.List.Elements.{All-append, All-get_or}
-use Rattle.name_closure.specs.Loading.{AreOthers}
-use Rattle.name_closure.proofs.Others.{key_at, made_more, others_after, others_of_members, others_of_same}
-use Rattle.name_closure.proofs.Rounding.{holds_among, holds_of_part}
+use Rattle.std.specs.Map.{keys_of}
+use Rattle.name_closure.proofs.Prelude.{AreOthers}
+use Rattle.name_closure.proofs.{Others.key_at, Others.made_more, Others.others_after, Others.others_of_members, Others.others_of_same, Rounding.holds_among, Rounding.holds_of_part}
 use Rattle.name_closure.proofs.names.others_named.Goals as goal
 
 pub loop-one-preserved : goal.loop-one-preserved
@@ -28,7 +27,7 @@ loop-one-preserved g c =
           subst (λ v. AreOthers own v c.add_others.new.names.items)
           (made_more (λ (p : g.row.K.Denot × g.row.L-Loaded.Denot). g.L.Loads.named loader p.1) part c.loop-one.one-index pair pair c.in_ok-more.more.items within is c.in_ok-more.ensures.named)
           (others_after own _ c.loop-one.names.items c.in_ok-more.more.items c.add_others.new.names.items c.loop-one.invariant.others added);
-      apart = λ rising. c.in_ok-add_others.ensures.apart rising (c.loop-one.invariant.apart rising);
+      apart = λ ascending. c.in_ok-add_others.ensures.apart ascending (c.loop-one.invariant.apart ascending);
       nodes =
           holds_of_part (g.L.Loads.is_node loader) _ c.add_others.new.names.items
           (All-append (g.L.Loads.is_node loader) c.loop-one.names.items c.in_ok-more.more.items c.loop-one.invariant.nodes (c.in_ok-more.ensures.nodes pair.0 node loaded))
@@ -47,4 +46,4 @@ returns-clause-nodes g c =
     (λ n h. (c.each_once-2.ensures.members n).0 h)
 
 pub returns-clause-apart : goal.returns-clause-apart
-returns-clause-apart g c = λ rising n h. c.loop-one.invariant.apart rising n ((c.each_once-2.ensures.members n).0 h)
+returns-clause-apart g c = λ ascending n h. c.loop-one.invariant.apart ascending n ((c.each_once-2.ensures.members n).0 h)

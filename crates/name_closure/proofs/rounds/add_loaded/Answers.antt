@@ -1,9 +1,8 @@
-use Rattle.std.specs.BTreeMap.{IsFromIterResult, keys}
-use Rattle.std.specs.Map.{keys_of}
 use Rattle.std.proofs.lemmas.Iterator.Adapters.{fact_from_collect, YieldsList-from_vec}
 use Rattle.std.proofs.lemmas.Result.{IfOk-weaker}
-use Rattle.name_closure.specs.Growth.{AreJoined}
-use Rattle.name_closure.specs.Loading.{AreLoaded}
+use Rattle.std.specs.BTreeMap.{IsFromIterResult, keys}
+use Rattle.std.specs.Map.{keys_of}
+use Rattle.name_closure.proofs.Prelude.{AreJoined, AreLoaded}
 use Rattle.name_closure.proofs.Adding.{added_joins, added_loaded}
 use Rattle.name_closure.proofs.rounds.add_loaded.Goals as goal
 

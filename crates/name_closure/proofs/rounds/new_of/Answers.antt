@@ -1,9 +1,8 @@
-use Rattle.std.specs.BTreeMap.{is_at, keys}
-use Rattle.std.specs.List.{list_any}
-use Rattle.std.specs.Prelude.{not}
-use Rattle.std.proofs.Common.{rules}
+use Rattle.std.proofs.Common.{not, rules}
 use Rattle.std.proofs.lemmas.Fn.{filter_same}
 use Rattle.std.proofs.lemmas.Map.Made.{is_some-lookup}
+use Rattle.std.specs.BTreeMap.{is_at, keys}
+use Rattle.std.specs.List.{list_any}
 use Rattle.name_closure.proofs.News.{news_are}
 use Rattle.name_closure.proofs.rounds.new_of.Goals as goal
 
@@ -12,5 +11,5 @@ returns g c = record {
   fresh =
       news_are g.K.Ord.cmp g.met.K.Ord.total g.met.K.Key.exact (keys c.args.found.now) c.args.nodes.items c.retain.new.self.items c.each_once.result.items
       (filter_same _ (λ n. not (list_any (is_at (g.K.Ord.cmp n)) (keys c.args.found.now))) _ (λ x b f' k. search (rules, is_some-lookup)) _ _ c.retain.ensures.filtered)
-      c.each_once.ensures.rising c.each_once.ensures.members;
+      c.each_once.ensures.ascending c.each_once.ensures.members;
 }

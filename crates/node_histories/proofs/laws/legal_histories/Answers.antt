@@ -1,4 +1,4 @@
-use Rattle.node_histories.specs.HistoryLaws.{legal_opening, legal_above, legal_apart}
+use Rattle.node_histories.proofs.Prelude.{legal_above, legal_apart, legal_opening}
 use Rattle.node_histories.proofs.laws.legal_histories.Goals as goal
 
 pub returns-clause-opening : goal.returns-clause-opening

@@ -1,4 +1,4 @@
-use Rattle.node_histories.specs.HistoryWorldLaws.{worlds_hold}
+use Rattle.node_histories.proofs.Prelude.{worlds_hold}
 use Rattle.node_histories.proofs.laws.worlds_of_histories.Goals as goal
 
 pub returns : goal.returns

@@ -1,10 +1,7 @@
-use Rattle.std.proofs.Common.{List, [], ◌∷◌, subst, inl, inr}
-use Rattle.std.specs.List.{All}
+use Rattle.std.proofs.Common.{[], ◌∷◌, All, inl, inr, List, subst}
 use Rattle.std.proofs.lemmas.List.{take_all}
 use Rattle.std.proofs.lemmas.List.Elements.{All-head, All-tail}
-use Rattle.list_laws.specs.Members.{IsAmong}
-use Rattle.unit_name.specs.Names.{Name}
-use Rattle.parallel_load.specs.Universe.{IsSource}
+use Rattle.parallel_load.proofs.Prelude.{IsAmong, IsSource, Name}
 use Rattle.parallel_load.proofs.Keeping.{all_more}
 use Rattle.parallel_load.proofs.asked.are_sources.Goals as goal
 
@@ -16,12 +13,12 @@ of_each P (x ∷ xs) all n (inr h) = of_each P xs (All-tail P x xs all) n h
 
 pub loop-name-preserved : goal.loop-name-preserved
 loop-name-preserved c =
-    all_more (IsSource c.args.seen.now c.args.others.now) c.args.names.now c.loop-name.name-index c.name-item.result c.name-item.result c.loop-name-test.true
+    all_more (IsSource c.args.view.now c.args.others.now) c.args.names.now c.loop-name.name-index c.name-item.result c.name-item.result c.loop-name-test.true
     c.name-item.is c.loop-name.invariant (c.is_source.ensures.source c.if-not-is_source.false)
 
 pub returns : goal.returns
 returns c =
-    let P : Name → Type 0 = IsSource c.args.seen.now c.args.others.now in
+    let P : Name → Type 0 = IsSource c.args.view.now c.args.others.now in
     record {
       sources = λ _. of_each P c.args.names.now (subst (All P) (take_all c.loop-name.name-index c.args.names.now c.loop-name-test.false) c.loop-name.invariant);
     }

@@ -1,9 +1,7 @@
-use Rattle.std.proofs.Common.{◌≡◌, ◌||◌, Bool, true, false, List, [], ◌∷◌, refl, sym, ◌∙◌, inl, inr}
+use Rattle.std.proofs.Common.{[], ◌||◌, ◌∙◌, ◌∷◌, ◌≡◌, Bool, false, inl, inr, List, refl, sym, true}
 use Rattle.std.specs.List.{list_any}
 use Rattle.std.specs.Ordering.{eq_by_cmp}
-use Rattle.list_laws.specs.Members.{IsAmong}
-use Rattle.unit_name.specs.Names.{Name, name_cmp}
-use Rattle.unit_name.specs.NameLaws.{name_eq-Decides}
+use Rattle.parallel_load.proofs.Prelude.{IsAmong, Name, name_cmp, name_eq-Decides}
 use Rattle.parallel_load.proofs.asked.is_source.Goals as goal
 
 -- the test of one more name

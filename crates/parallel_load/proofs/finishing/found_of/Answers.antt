@@ -1,18 +1,15 @@
-use Rattle.std.proofs.Common.{◌∙◌, List, IsTrue, subst, sym}
+use Rattle.std.proofs.Common.{◌∙◌, IsTrue, List, subst, sym}
 use Rattle.std.specs.FinMap.{is_sorted}
-use Rattle.unit_name.specs.Names.{Name, name_cmp}
-use Rattle.parallel_load.specs.declared.loaded.NameLoad.{NameLoad}
-use Rattle.parallel_load.specs.Numbering.{AreNumbered}
-use Rattle.parallel_load.specs.UniverseLaws.{sorted_from}
+use Rattle.parallel_load.proofs.Prelude.{AreIndexed, Name, name_cmp, NameLoad, sorted_from}
 use Rattle.parallel_load.proofs.finishing.found_of.Goals as goal
 
 pub of-requires : goal.of-requires
 of-requires c = record {
   sorted =
       subst (λ (ps : List (Name × NameLoad)). IsTrue (is_sorted name_cmp ps)) (sym (c.as_slice.ensures.value ∙ c.in_ok-pairs.ensures.pairs))
-      (sorted_from c.args.found.entries c.requires.rising);
+      (sorted_from c.args.found.entries c.requires.ascending);
 }
 
 pub returns-clause-mains : goal.returns-clause-mains
 returns-clause-mains c =
-    subst (λ (ps : List (Name × NameLoad)). AreNumbered ps ps c.in_ok-mains.mains) (c.as_slice.ensures.value ∙ c.in_ok-pairs.ensures.pairs) c.in_ok-mains.ensures.mains
+    subst (λ (ps : List (Name × NameLoad)). AreIndexed ps ps c.in_ok-mains.mains) (c.as_slice.ensures.value ∙ c.in_ok-pairs.ensures.pairs) c.in_ok-mains.ensures.mains

@@ -1,19 +1,15 @@
-use Rattle.std.proofs.Common.{◌≡◌, ℕ, List, ap, sym, ◌∙◌, subst}
-use Rattle.std.specs.Prelude.{◌↔◌}
-use Rattle.std.specs.Option.{option_copied}
-use Rattle.std.specs.Ordering.{eq_by_cmp}
+use Rattle.std.proofs.Common.{◌↔◌, ◌∙◌, ◌≡◌, ap, List, subst, sym, ℕ}
 use Rattle.std.proofs.lemmas.List.Filters.{dedup_is}
 use Rattle.std.proofs.lemmas.Option.{same_Some}
-use Rattle.list_laws.specs.Members.{IsAmong}
-use Rattle.unit_name.specs.Names.{Name, name_cmp}
-use Rattle.unit_loads.specs.declared.units.Unit.{Unit as LoadedUnit}
-use Rattle.unit_loads.specs.Footprints.{footprint}
-use Rattle.parallel_load.proofs.Keeping.{order_rises, order_stays}
+use Rattle.std.specs.Option.{option_copied}
+use Rattle.std.specs.Ordering.{eq_by_cmp}
+use Rattle.parallel_load.proofs.Prelude.{footprint, IsAmong, LoadedUnit, Name, name_cmp}
+use Rattle.parallel_load.proofs.Keeping.{order_ascends, order_stays}
 use Rattle.parallel_load.proofs.footprints.footprint.Goals as goal
 
-pub returns-clause-rising : goal.returns-clause-rising
-returns-clause-rising c =
-    order_rises c.in_ok-parts.parts.items c.sort_unstable.new.self.items c.dedup.new.self.items c.sort_unstable.ensures.permutation c.sort_unstable.ensures.sorted (dedup_is (eq_by_cmp name_cmp) _ _ c.dedup.ensures.filtered)
+pub returns-clause-ascending : goal.returns-clause-ascending
+returns-clause-ascending c =
+    order_ascends c.in_ok-parts.parts.items c.sort_unstable.new.self.items c.dedup.new.self.items c.sort_unstable.ensures.permutation c.sort_unstable.ensures.sorted (dedup_is (eq_by_cmp name_cmp) _ _ c.dedup.ensures.filtered)
 
 pub returns-clause-exact : goal.returns-clause-exact
 returns-clause-exact c unit e =

@@ -1,4 +1,4 @@
-use Rattle.parallel_load.specs.UniverseLaws.{dependencies_are_loaded, dependencies_are_mains, mains_have_units, names_have_mains, units_are_their_own_mains}
+use Rattle.parallel_load.proofs.Prelude.{dependencies_are_loaded, dependencies_are_mains, mains_have_units, names_have_mains, units_are_their_own_mains}
 use Rattle.parallel_load.proofs.laws.load_laws.Goals as goal
 
 pub returns : goal.returns

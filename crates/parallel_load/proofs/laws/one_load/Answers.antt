@@ -1,4 +1,4 @@
-use Rattle.parallel_load.specs.LoadLaws.{one_load}
+use Rattle.parallel_load.proofs.Prelude.{one_load}
 use Rattle.parallel_load.proofs.laws.one_load.Goals as goal
 
 pub returns : goal.returns

@@ -1,4 +1,4 @@
-use Rattle.parallel_load.specs.TouchedLaws.{touched_words_decide, untouched_agree}
+use Rattle.parallel_load.proofs.Prelude.{touched_words_decide, untouched_agree}
 use Rattle.parallel_load.proofs.laws.touched_laws.Goals as goal
 
 pub returns : goal.returns

@@ -1,4 +1,4 @@
-use Rattle.std.proofs.Common.{◌≡◌, ◌++◌, take}
+use Rattle.std.proofs.Common.{◌++◌, ◌≡◌, take}
 use Rattle.parallel_load.proofs.loader.add_names.Given as goal
 
 abbrev pub invariant-loop-name : goal.invariant-loop-name

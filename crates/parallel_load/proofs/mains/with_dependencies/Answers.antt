@@ -1,6 +1,5 @@
-use Rattle.std.proofs.Common.{List, ap, sym, ◌∙◌}
-use Rattle.setting_rules.specs.declared.dependency_lists.DependencyList.{DependencyList}
-use Rattle.unit_loads.specs.declared.units.Unit.{Unit as LoadedUnit}
+use Rattle.std.proofs.Common.{◌∙◌, ap, List, sym}
+use Rattle.parallel_load.proofs.Prelude.{DependencyList, LoadedUnit}
 use Rattle.parallel_load.proofs.Keeping.{lists_same}
 use Rattle.parallel_load.proofs.mains.with_dependencies.Goals as goal
 

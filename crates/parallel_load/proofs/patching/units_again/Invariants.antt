@@ -1,12 +1,9 @@
-use Rattle.std.proofs.Common.{◌<◌, length, take}
-use Rattle.std.specs.List.{All}
+use Rattle.std.proofs.Common.{◌<◌, All, length, take}
 use Rattle.std.specs.Option.{option_copied}
-use Rattle.path_maps.specs.Views.{view_of}
-use Rattle.parallel_load.specs.LoadRows.{AreReadOrLeft}
-use Rattle.parallel_load.specs.Patched.{with_loads}
+use Rattle.parallel_load.proofs.Prelude.{AreReadOrLeft, host_view_of, with_loads}
 use Rattle.parallel_load.proofs.patching.units_again.Given as goal
 
-abbrev pub invariant-loop-number : goal.invariant-loop-number
-invariant-loop-number l =
+abbrev pub invariant-loop-index : goal.invariant-loop-index
+invariant-loop-index l =
     All (λ u. u.0 < length l.names) l.units.items
-    × AreReadOrLeft (view_of l.store (option_copied l.host)) l.kept.mains (take l.number-index l.hit) l.names l.named (with_loads l.names l.units.items)
+    × AreReadOrLeft (host_view_of l.store (option_copied l.host)) l.kept.mains (take l.index-index l.affected) l.names l.named (with_loads l.names l.units.items)

@@ -1,31 +1,24 @@
-use Rattle.std.proofs.Common.{◌≡◌, ℕ, List, Option, ap, sym, ◌∙◌, subst}
-use Rattle.std.specs.List.{All}
-use Rattle.std.specs.Option.{IfSome}
-use Rattle.path_maps.specs.Views.{View, view_of}
-use Rattle.unit_name.specs.Names.{Name}
-use Rattle.parallel_load.specs.declared.loaded.NameLoad.{NameLoad}
-use Rattle.parallel_load.specs.Refreshes.{IsHeldOn, IsStill}
-use Rattle.parallel_load.specs.Universe.{IsTooLarge}
-use Rattle.parallel_load.specs.UniverseLaws.{sorted_from}
-use Rattle.parallel_load.proofs.Settling.{found_from, over_here, refused_over}
-use Rattle.parallel_load.proofs.Staying.{held_loaded, held_sorted, same_sources, words_stay}
+use Rattle.std.proofs.Common.{◌∙◌, ◌≡◌, All, ap, List, Option, subst, sym, ℕ}
+use Rattle.std.specs.Prelude.{IfSome}
+use Rattle.parallel_load.proofs.Prelude.{host_view_of, HostViewMap, IsHeldOn, IsStill, IsTooLarge, Name, NameLoad, sorted_from}
+use Rattle.parallel_load.proofs.{Normalizing.found_from, Normalizing.over_here, Normalizing.refused_over, Staying.held_loaded, Staying.held_sorted, Staying.same_sources, Staying.words_stay}
 use Rattle.parallel_load.proofs.refreshing.found_again.Goals as goal
 
 pub of-loader-requires-clause-sorted : goal.of-loader-requires-clause-sorted
 of-loader-requires-clause-sorted c =
-    held_sorted c.args.loaded.now.names c.in_ok-held.held.items c.in_ok-held.ensures.still.keys_are (sorted_from c.args.loaded.now.names c.requires.before.load_is.universe.rising)
+    held_sorted c.args.loaded.now.names c.in_ok-held.held.items c.in_ok-held.ensures.still.keys_are (sorted_from c.args.loaded.now.names c.requires.before.load_is.universe.ascending)
 
 pub of-loader-requires-clause-loaded : goal.of-loader-requires-clause-loaded
 of-loader-requires-clause-loaded c =
-    let P : List ℕ → Type 0 = λ hit. All (λ (p : Name × Option NameLoad). IfSome p.1 (IsStill hit c.args.loaded.now.names c.args.loaded.now.named p.0)) c.in_ok-held.held.items in
-    subst (λ (v : View). All (IsHeldOn v) c.in_ok-held.held.items) (sym (c.new.ensures.index ∙ c.in_ok-index.ensures.seen ∙ ap (view_of c.args.store.now) c.host-host.ensures.host))
-    (held_loaded c.args.loaded.now c.args.store.now c.args.touched.now c.requires.before c.requires.words c.args.parts.now c.requires.parts c.in_ok-hit.hit.items c.in_ok-hit.ensures.hit c.in_ok-held.held.items
+    let P : List ℕ → Type 0 = λ affected. All (λ (p : Name × Option NameLoad). IfSome p.1 (IsStill affected c.args.loaded.now.names c.args.loaded.now.named p.0)) c.in_ok-held.held.items in
+    subst (λ (v : HostViewMap). All (IsHeldOn v) c.in_ok-held.held.items) (sym (c.new.ensures.index ∙ c.in_ok-index.ensures.view ∙ ap (host_view_of c.args.store.now) c.host-host.ensures.host))
+    (held_loaded c.args.loaded.now c.args.store.now c.args.touched.now c.requires.before c.requires.words c.args.parts.now c.requires.parts c.in_ok-affected.affected.items c.in_ok-affected.ensures.affected c.in_ok-held.held.items
     (subst P c.deref.ensures.value c.in_ok-held.ensures.still.each))
 
 pub returns-in_err-close_loaded-clause-over : goal.returns-in_err-close_loaded-clause-over
 returns-in_err-close_loaded-clause-over c =
-    let v = view_of c.args.store.now c.args.loaded.now.host in
-    let is : c.of-loader.result ≡ v = c.of-loader.ensures.seen ∙ c.new.ensures.index ∙ c.in_ok-index.ensures.seen ∙ ap (view_of c.args.store.now) c.host-host.ensures.host in
+    let v = host_view_of c.args.store.now c.args.loaded.now.host in
+    let is : c.of-loader.result ≡ v = c.of-loader.ensures.view ∙ c.new.ensures.index ∙ c.in_ok-index.ensures.view ∙ ap (host_view_of c.args.store.now) c.host-host.ensures.host in
     let own = words_stay c.args.loaded.now c.args.store.now c.args.touched.now c.requires.before c.requires.words in
     let same = same_sources v c.args.loaded.now.words c.get.result.now c.extra.result.now c.args.loaded.now.extra c.in_ok-sources.sources.items (c.get.ensures.value ∙ c.words-words.ensures.words) c.extra.ensures.extra own c.in_ok-sources.ensures.sources in
     refused_over c.from_residual-in_err-close_loaded.result _ (IsTooLarge v c.args.loaded.now.extra) c.from_residual-in_err-close_loaded.ensures.1
@@ -33,8 +26,8 @@ returns-in_err-close_loaded-clause-over c =
 
 pub returns-clause-found : goal.returns-clause-found
 returns-clause-found c =
-    let v = view_of c.args.store.now c.args.loaded.now.host in
-    let is : c.of-loader.result ≡ v = c.of-loader.ensures.seen ∙ c.new.ensures.index ∙ c.in_ok-index.ensures.seen ∙ ap (view_of c.args.store.now) c.host-host.ensures.host in
+    let v = host_view_of c.args.store.now c.args.loaded.now.host in
+    let is : c.of-loader.result ≡ v = c.of-loader.ensures.view ∙ c.new.ensures.index ∙ c.in_ok-index.ensures.view ∙ ap (host_view_of c.args.store.now) c.host-host.ensures.host in
     let own = words_stay c.args.loaded.now c.args.store.now c.args.touched.now c.requires.before c.requires.words in
     let same = same_sources v c.args.loaded.now.words c.get.result.now c.extra.result.now c.args.loaded.now.extra c.in_ok-sources.sources.items (c.get.ensures.value ∙ c.words-words.ensures.words) c.extra.ensures.extra own c.in_ok-sources.ensures.sources in
     found_from v c.of-loader.result is c.args.loaded.now.extra c.in_ok-sources.sources.items c.deref-2.result.now same c.deref-2.ensures.value

@@ -1,16 +1,12 @@
-use Rattle.std.proofs.Common.{◌≡◌, ◌++◌, ◌∷◌, [], Option, List, take, refl, ap, sym, ◌∙◌, append_assoc}
-use Rattle.std.specs.List.{filter_map}
+use Rattle.std.proofs.Common.{[], ◌++◌, ◌∙◌, ◌∷◌, ◌≡◌, ap, append_assoc, List, Option, refl, sym, take}
 use Rattle.std.proofs.lemmas.List.{take_all}
-use Rattle.unit_name.specs.Names.{Name}
-use Rattle.fragment_choice.specs.AliasWords.{Target}
-use Rattle.parallel_load.specs.OwnWords.{NamedWords}
-use Rattle.parallel_load.specs.Sources.{whole_name}
-use Rattle.parallel_load.proofs.Rows.{sources_are}
-use Rattle.parallel_load.proofs.Steps.{made_none, made_one}
+use Rattle.std.specs.List.{filter_map}
+use Rattle.parallel_load.proofs.Prelude.{Name, NamedWords, Target, whole_name}
+use Rattle.parallel_load.proofs.{Rows.sources_are, Steps.made_none, Steps.made_one}
 use Rattle.parallel_load.proofs.sources.sources.Goals as goal
 use Rattle.parallel_load.proofs.sources.sources.Goals.{in-Some+in_ok-push, in_default}
 
--- the unit name that stands at a name with its words
+-- the unit name of an entry of the list of link targets, if it is one
 name_in : Name × List Target → Option Name
 name_in p = whole_name p.0
 

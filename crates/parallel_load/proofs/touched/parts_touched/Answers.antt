@@ -1,11 +1,10 @@
-use Rattle.std.proofs.Common.{List, ℕ, ap, sym, ◌∙◌, subst, take, ◌+◌}
-use Rattle.std.specs.List.{All}
-use Rattle.std.specs.Option.{option_copied}
+use Rattle.std.proofs.Common.{◌+◌, ◌∙◌, All, ap, List, subst, sym, take, ℕ}
 use Rattle.std.proofs.lemmas.List.{take_all}
-use Rattle.parallel_load.specs.Touched.{HasParts}
+use Rattle.std.specs.Option.{option_copied}
+use Rattle.parallel_load.proofs.Prelude.{HasParts}
 use Rattle.parallel_load.proofs.Staying.{parts_more, parts_same}
 use Rattle.parallel_load.proofs.touched.parts_touched.Goals as goal
-use Rattle.parallel_load.proofs.touched.parts_touched.Goals.{then-is_seen+in_ok-add_parts, else-is_seen}
+use Rattle.parallel_load.proofs.touched.parts_touched.Goals.{then-is_viewed+in_ok-add_parts, else-is_viewed}
 
 pub loop-place-preserved : goal.loop-place-preserved
 loop-place-preserved c =
@@ -13,14 +12,14 @@ loop-place-preserved c =
     let i = c.loop-place.place-index in
     let x = c.place-item.result in
     let P : List (List ℕ) → Type 0 = λ ps. All (HasParts host ps) (take (i + 1) c.args.touched.now) in
-    elim c.if-is_seen.branch [
-      | then-is_seen+in_ok-add_parts w ↦
+    elim c.if-is_viewed.branch [
+      | then-is_viewed+in_ok-add_parts w ↦
           subst P (sym (ap (λ v. v.items) w.parts-is))
           (parts_more host c.loop-place.parts.items w.add_parts.new.parts.items c.args.touched.now i x x c.loop-place-test.true c.place-item.is
           w.in_ok-add_parts.ensures.added c.loop-place.invariant)
-      | else-is_seen w ↦
+      | else-is_viewed w ↦
           subst P (sym (ap (λ v. v.items) w.parts-is))
-          (parts_same host c.loop-place.parts.items c.args.touched.now i x x c.loop-place-test.true c.place-item.is (sym c.is_seen.ensures.seen ∙ w.if-is_seen.false) c.loop-place.invariant)
+          (parts_same host c.loop-place.parts.items c.args.touched.now i x x c.loop-place-test.true c.place-item.is (sym c.is_viewed.ensures.view ∙ w.if-is_viewed.false) c.loop-place.invariant)
     ]
 
 pub returns : goal.returns

@@ -1,7 +1,6 @@
-use Rattle.std.proofs.Common.{take}
-use Rattle.std.specs.List.{All}
+use Rattle.std.proofs.Common.{All, take}
 use Rattle.std.specs.Option.{option_copied}
-use Rattle.parallel_load.specs.Touched.{HasParts}
+use Rattle.parallel_load.proofs.Prelude.{HasParts}
 use Rattle.parallel_load.proofs.touched.parts_touched.Given as goal
 
 abbrev pub invariant-loop-place : goal.invariant-loop-place

@@ -1,19 +1,18 @@
 use Rattle.std.proofs.Common.{arith}
-use Rattle.std.specs.Ordering.{eq_by_cmp}
 use Rattle.std.proofs.lemmas.List.Filters.{dedup_is}
-use Rattle.unit_name.specs.Names.{name_cmp}
-use Rattle.parallel_load.proofs.Keeping.{order_rises, order_stays}
-use Rattle.parallel_load.proofs.Rows.{names_are_shown, one_level_more}
+use Rattle.std.specs.Ordering.{eq_by_cmp}
+use Rattle.parallel_load.proofs.Prelude.{name_cmp}
+use Rattle.parallel_load.proofs.{Keeping.order_ascends, Keeping.order_stays, Rows.names_are_shown, Rows.one_level_more}
 use Rattle.parallel_load.proofs.words.shown_names.Goals as goal
 
 pub loop-level-preserved : goal.loop-level-preserved
 loop-level-preserved c =
     let lvl = c.loop-level-test.true in
-    (one_level_more c.args.seen.now c.loop-level.level c.loop-level.names.items c.add_shown.new.names.items c.loop-level.invariant.0 c.in_ok-add_shown.ensures.added, omega arith)
+    (one_level_more c.args.view.now c.loop-level.level c.loop-level.names.items c.add_shown.new.names.items c.loop-level.invariant.0 c.in_ok-add_shown.ensures.added, omega arith)
 
-pub returns-clause-rising : goal.returns-clause-rising
-returns-clause-rising c =
-    order_rises c.loop-level.names.items c.sort_unstable.new.self.items c.dedup.new.self.items c.sort_unstable.ensures.permutation c.sort_unstable.ensures.sorted
+pub returns-clause-ascending : goal.returns-clause-ascending
+returns-clause-ascending c =
+    order_ascends c.loop-level.names.items c.sort_unstable.new.self.items c.dedup.new.self.items c.sort_unstable.ensures.permutation c.sort_unstable.ensures.sorted
     (dedup_is (eq_by_cmp name_cmp) _ _ c.dedup.ensures.filtered)
 
 pub returns-clause-shown : goal.returns-clause-shown
@@ -22,5 +21,5 @@ returns-clause-shown c n =
     let no = c.loop-level-test.false in
     let stays = order_stays c.loop-level.names.items c.sort_unstable.new.self.items c.dedup.new.self.items c.sort_unstable.ensures.permutation c.sort_unstable.ensures.sorted
     (dedup_is (eq_by_cmp name_cmp) _ _ c.dedup.ensures.filtered) n in
-    let shown = names_are_shown c.args.seen.now c.loop-level.names.items c.loop-level.level c.loop-level.invariant.0 (omega arith) n in
+    let shown = names_are_shown c.args.view.now c.loop-level.names.items c.loop-level.level c.loop-level.invariant.0 (omega arith) n in
     (λ h. shown.0 (stays.0 h), λ h. stays.1 (shown.1 h))

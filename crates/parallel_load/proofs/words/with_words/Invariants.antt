@@ -1,6 +1,6 @@
 use Rattle.std.proofs.Common.{◌≡◌, map}
-use Rattle.parallel_load.specs.Words.{with_own_words}
+use Rattle.parallel_load.proofs.Prelude.{with_own_link_targets}
 use Rattle.parallel_load.proofs.words.with_words.Given as goal
 
 abbrev pub invariant-loop-name : goal.invariant-loop-name
-invariant-loop-name l = l.names.items ≡ map (with_own_words l.seen) l.yielded
+invariant-loop-name l = l.names.items ≡ map (with_own_link_targets l.view) l.yielded

@@ -1,7 +1,6 @@
-use Rattle.std.proofs.Common.{◌≡◌, ◌+◌, length}
+use Rattle.std.proofs.Common.{◌+◌, ◌≡◌, length}
 use Rattle.std.specs.Prelude.{max}
-use Rattle.edit_sums.specs.Sums.{greatest_counter}
-use Rattle.path_maps.specs.PlaceMaps.{all_listed}
+use Rattle.path_maps.proofs.Prelude.{all_listed, greatest_counter}
 use Rattle.path_maps.proofs.counts.count_entries.Given as goal
 
 abbrev pub invariant-loop-placed : goal.invariant-loop-placed

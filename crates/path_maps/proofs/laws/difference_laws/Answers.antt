@@ -1,4 +1,4 @@
-use Rattle.path_maps.specs.DifferenceLaws.{changed_or_same}
+use Rattle.path_maps.proofs.Prelude.{changed_or_same}
 use Rattle.path_maps.proofs.laws.difference_laws.Goals as goal
 
 pub returns : goal.returns

@@ -1,8 +1,6 @@
-use Rattle.std.proofs.Common.{ap, sym, ◌∙◌}
+use Rattle.std.proofs.Common.{◌∙◌, ap, sym}
+use Rattle.path_maps.proofs.Prelude.{Host, scope_cmp, ScopeMap}
 use Rattle.std.specs.FinMap.{find}
-use Rattle.load_places.specs.Places.{scope_cmp}
-use Rattle.load_places.specs.declared.places.Scope.TheVariants.{Host}
-use Rattle.path_maps.specs.PlaceMaps.{ScopeMap}
 use Rattle.path_maps.proofs.look_ups.host_at.Goals as goal
 
 pub returns-in-Ok : goal.returns-in-Ok

@@ -1,7 +1,6 @@
 use Rattle.std.proofs.Common.{rules}
 use Rattle.std.proofs.lemmas.Fn.{always_returns_same}
-use Rattle.load_places.specs.Places.{scope_cmp}
-use Rattle.load_places.specs.declared.places.Scope.TheVariants.{Host}
+use Rattle.path_maps.proofs.Prelude.{Host, scope_cmp}
 use Rattle.path_maps.proofs.Searches.{scope_places}
 use Rattle.path_maps.proofs.look_ups.host_place.Goals as goal
 

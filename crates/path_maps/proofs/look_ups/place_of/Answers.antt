@@ -1,8 +1,6 @@
-use Rattle.std.proofs.Common.{length, sym, ap, ◌∙◌}
+use Rattle.std.proofs.Common.{◌∙◌, ap, length, sym}
 use Rattle.std.specs.Cmp.Lexicographic.{nat_list_cmp_total}
-use Rattle.sorted_pairs.specs.PlaceLaws.{find_gap}
-use Rattle.sorted_pairs.specs.SearchLaws.{behind_last, last_has}
-use Rattle.path_maps.specs.PathMaps.{bytes_cmp}
+use Rattle.path_maps.proofs.Prelude.{after_last, bytes_cmp, find_gap, last_has}
 use Rattle.path_maps.proofs.Searches.{place_at}
 use Rattle.path_maps.proofs.look_ups.place_of.Goals as goal
 
@@ -11,7 +9,7 @@ returns-in-Less-clause-absent g c =
     let key = c.args.key.now in
     let pairs = c.args.pairs.now in
     let tied = ap (λ bytes. bytes_cmp bytes key) (sym c.as_slice.ensures.bytes) ∙ sym c.order.ensures.order in
-    let gap = behind_last bytes_cmp nat_list_cmp_total key pairs _ _ c.in-Some.ensures.cases.0 c.requires.sorted (tied ∙ c.in-Less.is) in
+    let gap = after_last bytes_cmp nat_list_cmp_total key pairs _ _ c.in-Some.ensures.cases.0 c.requires.sorted (tied ∙ c.in-Less.is) in
     find_gap bytes_cmp key nat_list_cmp_total pairs (length pairs) c.requires.sorted gap
 
 pub returns-in-Equal-clause-found : goal.returns-in-Equal-clause-found

@@ -1,6 +1,6 @@
 use Rattle.std.proofs.Common.{rules}
 use Rattle.std.proofs.lemmas.Fn.{always_returns_same}
-use Rattle.path_maps.specs.PathMaps.{bytes_cmp}
+use Rattle.path_maps.proofs.Prelude.{bytes_cmp}
 use Rattle.path_maps.proofs.Searches.{places}
 use Rattle.path_maps.proofs.look_ups.search.Goals as goal
 

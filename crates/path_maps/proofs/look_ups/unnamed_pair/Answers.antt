@@ -1,4 +1,4 @@
-use Rattle.std.proofs.Common.{length, ◌==◌, ap, ◌∙◌}
+use Rattle.std.proofs.Common.{◌==◌, ◌∙◌, ap, length}
 use Rattle.std.proofs.lemmas.Option.{same_Some}
 use Rattle.path_maps.proofs.Searches.{unnamed_nowhere}
 use Rattle.path_maps.proofs.look_ups.unnamed_pair.Goals as goal

@@ -1,12 +1,11 @@
-use Rattle.std.proofs.Common.{◌≡◌, ◌∙◌, ap, refl, sym, subst, true, false, IsTrue}
+use Rattle.std.proofs.Common.{◌∙◌, ◌≡◌, ap, false, IsTrue, refl, subst, sym, true}
+use Rattle.std.proofs.lemmas.Bool.{and_parts}
+use Rattle.std.specs.FinMap.Entries.{below_all, find, is_sorted}
 use Rattle.std.specs.Ordering.{is_eq, is_gt}
 use Rattle.std.specs.declared.cmp.Ordering.{Ordering}
-use Rattle.std.specs.declared.cmp.Ordering.TheVariants.{Less, Equal, Greater}
-use Rattle.list_laws.specs.Orderings.{is_equal}
-use Rattle.std.proofs.lemmas.Bool.{and_parts}
-use Rattle.std.specs.FinMap.Entries.{find, is_sorted, below_all}
-use Rattle.path_maps.specs.PathMaps.{bytes_cmp}
-use Rattle.path_maps.proofs.FoundBehind.{not_below_itself, not_below, none_of, past_lesser, past_equal, found_first, none_first}
+use Rattle.std.specs.declared.cmp.Ordering.TheVariants.{Equal, Greater, Less}
+use Rattle.path_maps.proofs.Prelude.{bytes_cmp, is_equal}
+use Rattle.path_maps.proofs.FoundAfter.{found_first, none_first, none_of, not_below, not_below_itself, past_equal, past_lesser}
 use Rattle.path_maps.proofs.meets.meet.Goals as goal
 
 is_beyond : (o : Ordering) → is_gt o ≡ true → o ≡ Greater
@@ -23,16 +22,16 @@ pub returns-in_default-clause-found : goal.returns-in_default-clause-found
 returns-in_default-clause-found g c =
     none_of c.args.key.now c.loop.left.now c.in_default.ensures.cases ∙ c.loop.invariant.held c.args.key.now (not_below_itself c.args.key.now)
 
-pub returns-in_default-clause-behind : goal.returns-in_default-clause-behind
-returns-in_default-clause-behind g c k less = c.loop.invariant.held k (not_below c.args.key.now k less)
+pub returns-in_default-clause-after : goal.returns-in_default-clause-after
+returns-in_default-clause-after g c k less = c.loop.invariant.held k (not_below c.args.key.now k less)
 
 pub returns-then-eq-clause-found : goal.returns-then-eq-clause-found
 returns-then-eq-clause-found g c =
     found_first c.args.key.now c.in-Some.pair.now c.in-Some.rest.now (is_equal (bytes_cmp c.in-Some.pair.now.0 c.args.key.now) (sym c.eq.ensures ∙ c.if-eq.true))
     ∙ ap (find bytes_cmp c.args.key.now) (sym c.in-Some.ensures.cases.0) ∙ c.loop.invariant.held c.args.key.now (not_below_itself c.args.key.now)
 
-pub returns-then-eq-clause-behind : goal.returns-then-eq-clause-behind
-returns-then-eq-clause-behind g c k less =
+pub returns-then-eq-clause-after : goal.returns-then-eq-clause-after
+returns-then-eq-clause-after g c k less =
     past_equal c.args.key.now c.in-Some.pair.now c.in-Some.rest.now (is_equal (bytes_cmp c.in-Some.pair.now.0 c.args.key.now) (sym c.eq.ensures ∙ c.if-eq.true)) k less
     ∙ ap (find bytes_cmp k) (sym c.in-Some.ensures.cases.0) ∙ c.loop.invariant.held k (not_below c.args.key.now k less)
 
@@ -42,8 +41,8 @@ returns-then-is_gt-clause-found g c =
     none_first c.args.key.now c.in-Some.pair.now c.in-Some.rest.now (is_beyond (bytes_cmp c.in-Some.pair.now.0 c.args.key.now) (ap is_gt (sym c.cmp.ensures) ∙ sym c.is_gt.ensures ∙ c.if-is_gt.true)) sorted
     ∙ ap (find bytes_cmp c.args.key.now) (sym c.in-Some.ensures.cases.0) ∙ c.loop.invariant.held c.args.key.now (not_below_itself c.args.key.now)
 
-pub returns-then-is_gt-clause-behind : goal.returns-then-is_gt-clause-behind
-returns-then-is_gt-clause-behind g c k less = c.loop.invariant.held k (not_below c.args.key.now k less)
+pub returns-then-is_gt-clause-after : goal.returns-then-is_gt-clause-after
+returns-then-is_gt-clause-after g c k less = c.loop.invariant.held k (not_below c.args.key.now k less)
 
 pub loop-preserved : goal.loop-preserved
 loop-preserved g c =
@@ -58,5 +57,5 @@ loop-preserved g c =
 pub returns-clause-found : goal.returns-clause-found
 returns-clause-found g c = c.search.ensures.found ∙ c.loop.invariant.held c.args.key.now (not_below_itself c.args.key.now)
 
-pub returns-clause-behind : goal.returns-clause-behind
-returns-clause-behind g c k less = c.search.ensures.behind k less ∙ c.loop.invariant.held k (not_below c.args.key.now k less)
+pub returns-clause-after : goal.returns-clause-after
+returns-clause-after g c k less = c.search.ensures.after k less ∙ c.loop.invariant.held k (not_below c.args.key.now k less)

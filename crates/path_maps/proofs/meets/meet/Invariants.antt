@@ -1,7 +1,7 @@
-use Rattle.std.proofs.Common.{◌≡◌, ◌≢◌, List, ℕ, IsTrue}
-use Rattle.std.specs.declared.cmp.Ordering.TheVariants.{Less}
+use Rattle.std.proofs.Common.{◌≡◌, ◌≢◌, IsTrue, List, ℕ}
 use Rattle.std.specs.FinMap.Entries.{find, is_sorted}
-use Rattle.path_maps.specs.PathMaps.{bytes_cmp}
+use Rattle.std.specs.declared.cmp.Ordering.TheVariants.{Less}
+use Rattle.path_maps.proofs.Prelude.{bytes_cmp}
 use Rattle.path_maps.proofs.meets.meet.Given as goal
 
 abbrev pub invariant-loop : goal.invariant-loop

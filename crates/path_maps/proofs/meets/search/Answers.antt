@@ -1,9 +1,8 @@
-use Rattle.std.proofs.Common.{◌∙◌, ap, sym, subst, IsTrue, ◌+◌}
-use Rattle.std.specs.FinMap.Entries.{find, is_sorted}
+use Rattle.std.proofs.Common.{◌+◌, ◌∙◌, ap, IsTrue, subst, sym}
 use Rattle.std.specs.Cmp.Lexicographic.{nat_list_cmp_total}
-use Rattle.sorted_pairs.specs.PlaceLaws.{find_at, find_gap}
-use Rattle.path_maps.specs.PathMaps.{bytes_cmp}
-use Rattle.path_maps.proofs.FoundBehind.{rest_is, sorted_drop, behind_next, behind_gap}
+use Rattle.std.specs.FinMap.Entries.{find, is_sorted}
+use Rattle.path_maps.proofs.Prelude.{bytes_cmp, find_at, find_gap}
+use Rattle.path_maps.proofs.FoundAfter.{after_gap, after_next, rest_is, sorted_drop}
 use Rattle.path_maps.proofs.meets.search.Goals as goal
 
 pub returns-in-Ok-clause-found : goal.returns-in-Ok-clause-found
@@ -13,9 +12,9 @@ pub returns-in-Ok-clause-sorted : goal.returns-in-Ok-clause-sorted
 returns-in-Ok-clause-sorted g c =
     subst (λ es. IsTrue (is_sorted bytes_cmp es)) (sym (rest_is (c.in-Ok.at + 1) c.args.pairs.now)) (sorted_drop c.args.pairs.now (c.in-Ok.at + 1) c.requires.sorted)
 
-pub returns-in-Ok-clause-behind : goal.returns-in-Ok-clause-behind
-returns-in-Ok-clause-behind g c k less =
-    ap (find bytes_cmp k) (rest_is (c.in-Ok.at + 1) c.args.pairs.now) ∙ behind_next c.args.key.now c.args.pairs.now c.in-Ok.at c.in-Ok.ensures.found k less
+pub returns-in-Ok-clause-after : goal.returns-in-Ok-clause-after
+returns-in-Ok-clause-after g c k less =
+    ap (find bytes_cmp k) (rest_is (c.in-Ok.at + 1) c.args.pairs.now) ∙ after_next c.args.key.now c.args.pairs.now c.in-Ok.at c.in-Ok.ensures.found k less
 
 pub returns-in-Err-clause-found : goal.returns-in-Err-clause-found
 returns-in-Err-clause-found g c = sym (find_gap bytes_cmp c.args.key.now nat_list_cmp_total c.args.pairs.now c.in-Err.at c.requires.sorted c.in-Err.ensures.absent)
@@ -24,6 +23,6 @@ pub returns-in-Err-clause-sorted : goal.returns-in-Err-clause-sorted
 returns-in-Err-clause-sorted g c =
     subst (λ es. IsTrue (is_sorted bytes_cmp es)) (sym (rest_is c.in-Err.at c.args.pairs.now)) (sorted_drop c.args.pairs.now c.in-Err.at c.requires.sorted)
 
-pub returns-in-Err-clause-behind : goal.returns-in-Err-clause-behind
-returns-in-Err-clause-behind g c k less =
-    ap (find bytes_cmp k) (rest_is c.in-Err.at c.args.pairs.now) ∙ behind_gap c.args.key.now c.args.pairs.now c.in-Err.at c.in-Err.ensures.absent k less
+pub returns-in-Err-clause-after : goal.returns-in-Err-clause-after
+returns-in-Err-clause-after g c k less =
+    ap (find bytes_cmp k) (rest_is c.in-Err.at c.args.pairs.now) ∙ after_gap c.args.key.now c.args.pairs.now c.in-Err.at c.in-Err.ensures.absent k less

@@ -1,4 +1,4 @@
-use Rattle.std.proofs.Common.{ap, sym, ◌∙◌}
+use Rattle.std.proofs.Common.{◌∙◌, ap, sym}
 use Rattle.std.specs.Ordering.{is_eq}
 use Rattle.plain_values.proofs.Spelled.{left_decides, other_words}
 use Rattle.plain_values.proofs.orders.are_few_same.Goals as goal

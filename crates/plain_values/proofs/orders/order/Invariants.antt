@@ -1,10 +1,10 @@
 use Rattle.std.proofs.Common.{◌≡◌, length}
-use Rattle.std.specs.Ordering.{nat_cmp}
 use Rattle.std.specs.Cmp.Lexicographic.{slice_cmp}
+use Rattle.std.specs.Ordering.{nat_cmp}
 use Rattle.plain_values.proofs.Spelled.{AreBytes}
 use Rattle.plain_values.proofs.orders.order.Given as goal
 
--- what is left decides
+-- the remaining bytes decide
 abbrev pub invariant-loop-a_left : goal.invariant-loop-a_left
 invariant-loop-a_left l = (slice_cmp nat_cmp l.a_left l.b_left ≡ slice_cmp nat_cmp l.a l.b) × AreBytes l.a_left × AreBytes l.b_left
 

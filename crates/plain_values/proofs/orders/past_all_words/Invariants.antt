@@ -1,9 +1,9 @@
 use Rattle.std.proofs.Common.{◌≡◌, length}
-use Rattle.std.specs.Ordering.{nat_cmp}
 use Rattle.std.specs.Cmp.Lexicographic.{slice_cmp}
+use Rattle.std.specs.Ordering.{nat_cmp}
 use Rattle.plain_values.proofs.orders.past_all_words.Given as goal
 
--- what is left decides
+-- the remaining bytes decide
 abbrev pub invariant-loop-a_left : goal.invariant-loop-a_left
 invariant-loop-a_left l = slice_cmp nat_cmp l.a_left l.b_left ≡ slice_cmp nat_cmp l.a l.b
 

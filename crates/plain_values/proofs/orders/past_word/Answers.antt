@@ -1,4 +1,4 @@
-use Rattle.std.proofs.Common.{sym, ◌∙◌}
+use Rattle.std.proofs.Common.{◌∙◌, sym}
 use Rattle.plain_values.proofs.Spelled.{left_decides}
 use Rattle.plain_values.proofs.orders.past_word.Goals as goal
 

@@ -1,8 +1,7 @@
-use Rattle.std.proofs.Common.{◌≡◌, ◌<◌, get_or, refl, arith, subst, sym, ◌∙◌}
+use Rattle.std.proofs.Common.{◌<◌, ◌∙◌, ◌≡◌, arith, get_or, refl, subst, sym}
 use Rattle.std.proofs.lemmas.List.{get_or_default}
 use Rattle.std.proofs.lemmas.List.Elements.{Contains-get_or}
-use Rattle.list_laws.specs.Members.{among_from_contains, contains_from_among}
-use Rattle.index_rows.specs.Rows.{Marked}
+use Rattle.plan_choice.proofs.Prelude.{among_from_contains, contains_from_among, IsMember}
 use Rattle.plan_choice.proofs.Fitting.{untrue}
 use Rattle.plan_choice.proofs.choices.loses.Goals as goal
 
@@ -11,7 +10,7 @@ returns c = (
   λ t. cc,
   λ s. (let k = contains_from_among s.0 c.args.namers.now s.1.0 in
       let e : get_or c.args.namers.now k.0 0 ≡ s.0 = get_or_default c.args.namers.now k.0 0 s.0 k.1 ∙ k.2 in
-      absurd (c.loop-other.invariant k.0 (omega (arith, k.1)) (subst (Marked c.args.extra.now) (sym e) s.1.1) (subst (λ w. Marked c.args.named.now w → w < c.args.unit) (sym e) s.1.2))),
+      absurd (c.loop-other.invariant k.0 (omega (arith, k.1)) (subst (IsMember c.args.extra.now) (sym e) s.1.1) (subst (λ w. IsMember c.args.named.now w → w < c.args.unit) (sym e) s.1.2))),
 )
 
 pub returns-then-other-unit : goal.returns-then-other-unit

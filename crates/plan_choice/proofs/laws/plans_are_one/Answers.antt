@@ -1,4 +1,4 @@
-use Rattle.plan_choice.specs.AnswerLaws.{one_stop, one_start, one_refusal, plan_unrefused, refusal_first}
+use Rattle.plan_choice.proofs.Prelude.{one_refusal, one_start, one_stop, plan_unrefused, refusal_first}
 use Rattle.plan_choice.proofs.laws.plans_are_one.Goals as goal
 
 pub returns-clause-stops : goal.returns-clause-stops

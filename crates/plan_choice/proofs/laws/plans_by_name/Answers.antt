@@ -1,4 +1,4 @@
-use Rattle.plan_choice.specs.NamedPlans.{plan_named, refusal_is_named}
+use Rattle.plan_choice.proofs.Prelude.{plan_named, refusal_is_named}
 use Rattle.plan_choice.proofs.laws.plans_by_name.Goals as goal
 
 pub returns-clause-plan : goal.returns-clause-plan

@@ -1,4 +1,4 @@
-use Rattle.plan_choice.specs.AnswerLaws.{plan_keeps}
+use Rattle.plan_choice.proofs.Prelude.{plan_keeps}
 use Rattle.plan_choice.proofs.laws.plans_keep_promises.Goals as goal
 
 pub returns : goal.returns

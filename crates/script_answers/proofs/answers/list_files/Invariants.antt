@@ -1,7 +1,7 @@
-use Rattle.std.proofs.Common.{◌≡◌, ◌++◌, length}
+use Rattle.std.proofs.Common.{◌++◌, ◌≡◌, length}
 use Rattle.std.specs.List.{flat_map}
+use Rattle.script_answers.proofs.Prelude.{entry_line}
 use Rattle.std.specs.FinMap as finmap
-use Rattle.script_answers.specs.Texts.{entry_line}
 use Rattle.script_answers.proofs.answers.list_files.Given as goal
 
 abbrev pub invariant-loop-placed : goal.invariant-loop-placed

@@ -1,8 +1,7 @@
-use Rattle.std.proofs.Common.{◌≡◌, ◌++◌, take}
+use Rattle.std.proofs.Common.{◌++◌, ◌≡◌, take}
 use Rattle.std.specs.List.{flat_map}
-use Rattle.path_maps.specs.Views.{content_at}
-use Rattle.script_answers.specs.Files.{entry_lines, file_bytes, file_lines}
+use Rattle.script_answers.proofs.Prelude.{content_at, entry_lines, file_bytes, file_lines}
 use Rattle.script_answers.proofs.files.files_text.Given as goal
 
 abbrev pub invariant-loop-placed : goal.invariant-loop-placed
-invariant-loop-placed l = l.out.items ≡ file_lines l.fragment (file_bytes (content_at l.seen l.fragment)) ++ flat_map (entry_lines l.seen) (take l.placed-index l.dropins)
+invariant-loop-placed l = l.out.items ≡ file_lines l.fragment (file_bytes (content_at l.view l.fragment)) ++ flat_map (entry_lines l.view) (take l.placed-index l.dropins)

@@ -1,6 +1,6 @@
-use Rattle.std.proofs.Common.{◌≡◌, ◌++◌, take}
+use Rattle.std.proofs.Common.{◌++◌, ◌≡◌, take}
 use Rattle.std.specs.List.{flat_map}
-use Rattle.script_answers.specs.Plans.{start_line}
+use Rattle.script_answers.proofs.Prelude.{start_line}
 use Rattle.script_answers.proofs.plan_lines.append_starts.Given as goal
 
 abbrev pub invariant-loop-name : goal.invariant-loop-name

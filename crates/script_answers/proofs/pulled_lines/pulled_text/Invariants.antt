@@ -1,6 +1,6 @@
 use Rattle.std.proofs.Common.{◌≡◌, take}
 use Rattle.std.specs.List.{flat_map}
-use Rattle.script_answers.specs.PulledLines.{depth_line}
+use Rattle.script_answers.proofs.Prelude.{depth_line}
 use Rattle.script_answers.proofs.pulled_lines.pulled_text.Given as goal
 
 abbrev pub invariant-loop-pair : goal.invariant-loop-pair

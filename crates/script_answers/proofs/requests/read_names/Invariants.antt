@@ -1,6 +1,5 @@
 use Rattle.std.proofs.Common.{◌≡◌, length}
-use Rattle.script_answers.specs.Requests.{names_in}
-use Rattle.script_commands.specs.Each.{values_then}
+use Rattle.script_answers.proofs.Prelude.{names_in, values_then}
 use Rattle.script_answers.proofs.requests.read_names.Given as goal
 
 abbrev pub invariant-loop-word : goal.invariant-loop-word

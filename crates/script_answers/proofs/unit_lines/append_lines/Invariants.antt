@@ -1,4 +1,4 @@
-use Rattle.std.proofs.Common.{◌≡◌, ◌++◌, take}
+use Rattle.std.proofs.Common.{◌++◌, ◌≡◌, take}
 use Rattle.std.specs.List.{flat_map}
 use Rattle.script_answers.proofs.unit_lines.append_lines.Given as goal
 

@@ -1,6 +1,6 @@
-use Rattle.std.proofs.Common.{◌≡◌, ◌++◌, take}
+use Rattle.std.proofs.Common.{◌++◌, ◌≡◌, take}
 use Rattle.std.specs.List.{flat_map}
-use Rattle.script_answers.specs.UnitLines.{note_line}
+use Rattle.script_answers.proofs.Prelude.{note_line}
 use Rattle.script_answers.proofs.unit_lines.append_notes.Given as goal
 
 abbrev pub invariant-loop-note : goal.invariant-loop-note

@@ -1,6 +1,5 @@
-use Rattle.std.proofs.Common.{Vec, Global, ℕ, Option, subst}
-use Rattle.std.specs.Prelude.{MatchOption}
-use Rattle.script_words.specs.Text.{Spells, IsBadText}
+use Rattle.std.proofs.Common.{Global, MatchOption, Option, subst, Vec, ℕ}
+use Rattle.script_commands.proofs.Prelude.{IsBadText, Spells}
 use Rattle.script_commands.proofs.Contents.{file_refused}
 use Rattle.script_commands.proofs.place_words.read_file.Goals as goal
 

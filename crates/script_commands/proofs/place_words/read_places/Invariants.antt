@@ -1,6 +1,5 @@
 use Rattle.std.proofs.Common.{◌≡◌, length}
-use Rattle.script_commands.specs.Places.{places_of}
-use Rattle.script_commands.specs.Each.{values_then}
+use Rattle.script_commands.proofs.Prelude.{places_of, values_then}
 use Rattle.script_commands.proofs.place_words.read_places.Given as goal
 
 abbrev pub invariant-loop-text : goal.invariant-loop-text

@@ -1,7 +1,6 @@
 use Rattle.std.proofs.Common.{arith, sym}
-use Rattle.script_pipes.specs.KnownBytesLaws.{Consumes-append}
-use Rattle.script_pipes.proofs.FaultLemmas.{OnErr-any}
-use Rattle.script_pipes.proofs.ReadLemmas.{read_more, read_again}
+use Rattle.script_pipes.proofs.Prelude.{Consumes-append}
+use Rattle.script_pipes.proofs.{FaultLemmas.OnErr-any, ReadLemmas.read_again, ReadLemmas.read_more}
 use Rattle.script_pipes.proofs.reading.read_all.Goals as goal
 use Rattle.script_pipes.proofs.reading.read_all.Goals.{in-Ok-2+in_ok-map_err-in-Ok-2, in-Err}
 

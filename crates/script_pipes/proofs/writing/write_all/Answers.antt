@@ -1,10 +1,9 @@
 use Rattle.std.proofs.lemmas.List.{take_rest}
-use Rattle.script_pipes.proofs.FaultLemmas.{OnErr-any}
-use Rattle.script_pipes.proofs.WriteLemmas.{write_more, write_stops}
+use Rattle.script_pipes.proofs.{FaultLemmas.OnErr-any, WriteLemmas.write_more, WriteLemmas.write_stops}
 use Rattle.script_pipes.proofs.writing.write_all.Goals as goal
 
-pub returns-in_err-taken-clause-front : goal.returns-in_err-taken-clause-front
-returns-in_err-taken-clause-front g c =
+pub returns-in_err-taken-clause-prefix : goal.returns-in_err-taken-clause-prefix
+returns-in_err-taken-clause-prefix g c =
     OnErr-any _ c.from_residual.result (write_stops _ _ _ _ _ _ _ c.loop-rest.invariant c.in_err-taken.ensures.err)
 
 pub loop-rest-preserved : goal.loop-rest-preserved

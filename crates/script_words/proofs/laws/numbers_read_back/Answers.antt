@@ -1,4 +1,4 @@
-use Rattle.script_words.specs.NumbersLaws.{number_of-decimal}
+use Rattle.script_words.proofs.Prelude.{number_of-decimal}
 use Rattle.script_words.proofs.laws.numbers_read_back.Goals as goal
 
 pub returns : goal.returns

@@ -1,6 +1,6 @@
 use Rattle.std.proofs.Common.{◌≢◌}
 use Rattle.std.proofs.lemmas.List.Elements.{recursion_from_All}
-use Rattle.script_words.specs.TextLaws.{spells_one, spells_plain, spells_doubled}
+use Rattle.script_words.proofs.Prelude.{spells_doubled, spells_one, spells_plain}
 use Rattle.script_words.proofs.laws.text_reads_back.Goals as goal
 
 pub returns : goal.returns

@@ -1,7 +1,7 @@
 use Rattle.std.proofs.Common.{arith}
 use Rattle.std.proofs.lemmas.Bool.{eq-eqb, eqb-true}
 use Rattle.std.proofs.lemmas.List.{take_rest}
-use Rattle.list_laws.specs.Lines.{lines-cut_nowhere, lines-cut_at}
+use Rattle.script_words.proofs.Prelude.{lines-cut_at, lines-cut_nowhere}
 use Rattle.script_words.specs.Lines.{lines_of}
 use Rattle.script_words.proofs.lines.cut_line.Goals as goal
 

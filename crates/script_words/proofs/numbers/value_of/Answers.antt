@@ -1,6 +1,6 @@
 use Rattle.std.proofs.Common.{arith}
 use Rattle.std.proofs.lemmas.Int.Digits.{digits_value_more}
-use Rattle.script_words.proofs.NumberLemmas.{digit_at, digit_value_at, below_power}
+use Rattle.script_words.proofs.NumberLemmas.{below_power, digit_at, digit_value_at}
 use Rattle.script_words.proofs.numbers.value_of.Goals as goal
 
 pub loop-b-preserved : goal.loop-b-preserved

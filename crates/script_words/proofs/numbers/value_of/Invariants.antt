@@ -1,4 +1,4 @@
-use Rattle.std.proofs.Common.{◌≡◌, ◌<◌, ◌^◌, take}
+use Rattle.std.proofs.Common.{◌<◌, ◌^◌, ◌≡◌, take}
 use Rattle.std.specs.Str.Parse.{digits_value}
 use Rattle.script_words.proofs.numbers.value_of.Given as goal
 

@@ -1,7 +1,7 @@
-use Rattle.std.proofs.Common.{◌<◌, length, sym, arith}
+use Rattle.std.proofs.Common.{◌<◌, arith, length, sym}
 use Rattle.std.proofs.lemmas.Bool.{eqb-true}
 use Rattle.std.proofs.lemmas.Bool.Decides.{nat_tests}
-use Rattle.script_words.proofs.WordLemmas.{words_of-cut, after_word-cut, shorter-cut, words_of-spaces}
+use Rattle.script_words.proofs.WordLemmas.{after_word-cut, shorter-cut, words_of-cut, words_of-spaces}
 use Rattle.script_words.proofs.words.cut_word.Goals as goal
 
 pub returns-then-is_empty-clause-words : goal.returns-then-is_empty-clause-words

@@ -1,5 +1,4 @@
-use Rattle.section_reader.proofs.Alike.{comments_change_numbers_alone, blank_lines_change_numbers_alone, first_blank_line_changes_numbers_alone, continued_lines_are_joined}
-use Rattle.section_reader.proofs.Comments.{comments_are_marked, whitespace_is_blank, marks_change_nothing}
+use Rattle.section_reader.proofs.{Alike.blank_lines_change_numbers_alone, Alike.comments_change_numbers_alone, Alike.continued_lines_are_joined, Alike.first_blank_line_changes_numbers_alone, Comments.comments_are_marked, Comments.marks_change_nothing, Comments.whitespace_is_blank}
 use Rattle.section_reader.proofs.laws.reading_laws.Goals as goal
 
 pub returns-clause-comments : goal.returns-clause-comments
@@ -14,8 +13,8 @@ returns-clause-first_blank_line c = first_blank_line_changes_numbers_alone
 pub returns-clause-continued : goal.returns-clause-continued
 returns-clause-continued c = continued_lines_are_joined
 
-pub returns-clause-marked : goal.returns-clause-marked
-returns-clause-marked c = comments_are_marked
+pub returns-clause-comment_sign : goal.returns-clause-comment_sign
+returns-clause-comment_sign c = comments_are_marked
 
 pub returns-clause-white : goal.returns-clause-white
 returns-clause-white c = whitespace_is_blank

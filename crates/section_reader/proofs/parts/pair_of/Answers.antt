@@ -1,9 +1,9 @@
-use Rattle.std.proofs.Common.{◌∙◌, ap, sym, arith, Some, ◌<◌, ◌+◌, length, drop}
+use Rattle.std.proofs.Common.{◌+◌, ◌<◌, ◌∙◌, ap, arith, drop, length, Some, sym}
 use Rattle.std.proofs.lemmas.Bool.{eqb-true}
 use Rattle.std.proofs.lemmas.Bool.Decides.{nat_tests}
 use Rattle.std.proofs.lemmas.List.{take_rest}
-use Rattle.section_reader.specs.Parts.{trimmed}
-use Rattle.section_reader.proofs.PartLemmas.{pair_of-plain, pair_of-keyless, pair_of-both}
+use Rattle.section_reader.proofs.Prelude.{trimmed}
+use Rattle.section_reader.proofs.PartLemmas.{pair_of-both, pair_of-keyless, pair_of-plain}
 use Rattle.section_reader.proofs.parts.pair_of.Goals as goal
 
 pub returns-in_err-at : goal.returns-in_err-at

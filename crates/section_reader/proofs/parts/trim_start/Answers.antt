@@ -3,4 +3,4 @@ use Rattle.std.proofs.lemmas.List.{take_rest}
 use Rattle.section_reader.proofs.parts.trim_start.Goals as goal
 
 pub returns : goal.returns
-returns c = record { part = take_rest c.args.bytes.now c.white_at_front.result ∙ ap (λ n. drop n c.args.bytes.now) c.white_at_front.ensures.count }
+returns c = record { part = take_rest c.args.bytes.now c.white_at_start.result ∙ ap (λ n. drop n c.args.bytes.now) c.white_at_start.ensures.count }

@@ -1,12 +1,7 @@
-use Rattle.std.proofs.Common.{◌≡◌, ◌++◌, ◌∙◌, ◌⊎◌, sym, ap, ⊎_elim, inl, inr}
-use Rattle.section_reader.specs.declared.parts.LineForm.TheVariants.{Blank, Comment}
-use Rattle.section_reader.specs.Lines.{Line}
-use Rattle.section_reader.specs.Parts.{form, trimmed}
-use Rattle.section_reader.specs.Logical.{logical_of, logical_lines}
-use Rattle.section_reader.specs.LogicalLaws.{continued_some, logical_of-nil, logical_of-passed, logical_of-whole, logical_of-continued}
-use Rattle.section_reader.specs.Places.{items_from, notes_from}
-use Rattle.section_reader.specs.Sections.{assignments_in, notes_in, assignments_of, notes_of}
-use Rattle.section_reader.proofs.PlaceLemmas.{items_from-start, notes_from-start, items_from-nil, notes_from-nil, step, finished}
+use Rattle.std.proofs.Common.{◌++◌, ◌∙◌, ◌≡◌, ◌⊎◌, ap, inl, inr, sym, ⊎_elim}
+use Rattle.section_reader.proofs.Prelude.{assignments_in, Blank, Comment, continued_some, form, items_from, Line, logical_of, logical_of-continued, logical_of-nil, logical_of-passed, logical_of-whole, notes_from, notes_in, trimmed}
+use Rattle.section_reader.specs.{Logical.logical_lines, Sections.assignments_of, Sections.notes_of}
+use Rattle.section_reader.proofs.PlaceLemmas.{finished, items_from-nil, items_from-start, notes_from-nil, notes_from-start, step}
 use Rattle.section_reader.proofs.reader.read.Goals as goal
 
 pub loop-line-init : goal.loop-line-init
@@ -37,9 +32,9 @@ loop-line-preserved-in-Continue-1 c =
     let rest = c.next_line.new.self in
     let first = ap logical_of c.in-Some.ensures.next ∙ logical_of-whole line rest (sym c.in-Whole.ensures.form) in
     let reader = c.loop-line.reader in
-    let told = c.in_ok-read_line-in-Whole.ensures in (
-      step (items_from reader.place) _ _ _ _ _ _ _ _ (told.items (logical_of rest)) c.trim.ensures.part first c.loop-line.invariant.0,
-      step (notes_from reader.place) _ _ _ _ _ _ _ _ (told.notes (logical_of rest)) c.trim.ensures.part first c.loop-line.invariant.1,
+    let recorded = c.in_ok-read_line-in-Whole.ensures in (
+      step (items_from reader.place) _ _ _ _ _ _ _ _ (recorded.items (logical_of rest)) c.trim.ensures.part first c.loop-line.invariant.0,
+      step (notes_from reader.place) _ _ _ _ _ _ _ _ (recorded.notes (logical_of rest)) c.trim.ensures.part first c.loop-line.invariant.1,
     )
 
 pub join-requires : goal.join-requires
@@ -51,12 +46,12 @@ loop-line-preserved c =
     let rest = c.next_line.new.self in
     let after = c.join.new.lines in
     let joined = c.in_ok-text-in-Continued.ensures in
-    let first = ap logical_of c.in-Some.ensures.next ∙ logical_of-continued line rest after (sym c.in-Continued.ensures.form) joined.behind in
+    let first = ap logical_of c.in-Some.ensures.next ∙ logical_of-continued line rest after (sym c.in-Continued.ensures.form) joined.following in
     let text = c.trim-in-Continued.ensures.part ∙ ap trimmed (c.deref.ensures.value ∙ joined.text) in
     let reader = c.loop-line.reader in
-    let told = c.in_ok-read_line-in-Continued.ensures in (
-      step (items_from reader.place) _ _ _ _ _ _ _ _ (told.items (logical_of after)) text first c.loop-line.invariant.0,
-      step (notes_from reader.place) _ _ _ _ _ _ _ _ (told.notes (logical_of after)) text first c.loop-line.invariant.1,
+    let recorded = c.in_ok-read_line-in-Continued.ensures in (
+      step (items_from reader.place) _ _ _ _ _ _ _ _ (recorded.items (logical_of after)) text first c.loop-line.invariant.0,
+      step (notes_from reader.place) _ _ _ _ _ _ _ _ (recorded.notes (logical_of after)) text first c.loop-line.invariant.1,
     )
 
 pub returns-clause-items : goal.returns-clause-items

@@ -1,10 +1,8 @@
-use Rattle.std.proofs.Common.{◌≡◌, ◌++◌, length}
-use Rattle.section_reader.specs.Logical.{logical_of}
-use Rattle.section_reader.specs.Places.{items_from, notes_from}
-use Rattle.section_reader.specs.Sections.{assignments_of, notes_of}
+use Rattle.std.proofs.Common.{◌++◌, ◌≡◌, length}
+use Rattle.section_reader.proofs.Prelude.{assignments_of, items_from, logical_of, notes_from, notes_of}
 use Rattle.section_reader.proofs.reader.read.Given as goal
 
--- what was read, with what the lines left give, is what the file gives
+-- what was read, followed by what the remaining lines give, is what the file gives
 abbrev pub invariant-loop-line : goal.invariant-loop-line
 invariant-loop-line l =
     (l.reader.sections.items ++ items_from l.reader.place (logical_of l.lines) ≡ assignments_of l.bytes) × (l.reader.sections.notes ++ notes_from l.reader.place (logical_of l.lines) ≡ notes_of l.bytes)

@@ -1,8 +1,7 @@
-use Rattle.std.proofs.Common.{◌∙◌, sym, arith}
-use Rattle.std.specs.Ordering.{eq_by_cmp}
+use Rattle.std.proofs.Common.{◌∙◌, arith, sym}
 use Rattle.std.proofs.lemmas.List.Filters.{dedup_is}
-use Rattle.unit_name.specs.Names.{name_cmp}
-use Rattle.setting_rules.specs.SortedLaws.{few_in_order, sorted_is}
+use Rattle.std.specs.Ordering.{eq_by_cmp}
+use Rattle.setting_rules.proofs.Prelude.{few_in_order, name_cmp, sorted_is}
 use Rattle.setting_rules.proofs.dependency_lists.in_byte_order.Goals as goal
 
 pub returns-then-len-lt2 : goal.returns-then-len-lt2

@@ -1,4 +1,5 @@
-use Rattle.setting_rules.specs.Rows.{rows_at, escape_notes_at, rows_of, escape_notes}
+use Rattle.setting_rules.proofs.Prelude.{escape_notes_at, rows_at}
+use Rattle.setting_rules.specs.Rows.{escape_notes, rows_of}
 use Rattle.setting_rules.proofs.RowLemmas.{keys_more}
 use Rattle.setting_rules.proofs.expansions.values.Goals as goal
 

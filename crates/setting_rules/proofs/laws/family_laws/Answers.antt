@@ -1,4 +1,4 @@
-use Rattle.setting_rules.specs.FamilyLaws.{conditions_empty_all, assertions_empty_all}
+use Rattle.setting_rules.proofs.Prelude.{assertions_empty_all, conditions_empty_all}
 use Rattle.setting_rules.proofs.laws.family_laws.Goals as goal
 
 pub returns-clause-conditions : goal.returns-clause-conditions

@@ -1,4 +1,4 @@
-use Rattle.setting_rules.specs.JoinLaws.{lists_join}
+use Rattle.setting_rules.proofs.Prelude.{lists_join}
 use Rattle.setting_rules.proofs.laws.join_laws.Goals as goal
 
 pub returns : goal.returns

@@ -1,4 +1,4 @@
-use Rattle.setting_rules.specs.EnteredLaws.{keys_join, one_key_enters}
+use Rattle.setting_rules.proofs.Prelude.{keys_join, one_key_enters}
 use Rattle.setting_rules.proofs.laws.key_laws.Goals as goal
 
 pub returns-clause-joined : goal.returns-clause-joined

@@ -1,4 +1,4 @@
-use Rattle.setting_rules.specs.WordLaws.{inverses_are_undone, words_set_kinds}
+use Rattle.setting_rules.proofs.Prelude.{inverses_are_undone, words_set_kinds}
 use Rattle.setting_rules.proofs.laws.kind_laws.Goals as goal
 
 pub returns-clause-inverses : goal.returns-clause-inverses

@@ -1,4 +1,4 @@
-use Rattle.setting_rules.specs.ResetLaws.{keeps_all_values, resets_forget, other_keys_change_nothing, passed_over_changes_nothing, empty_dependencies_change_nothing, settings_show_values}
+use Rattle.setting_rules.proofs.Prelude.{empty_dependencies_change_nothing, keeps_all_values, other_keys_change_nothing, passed_over_changes_nothing, resets_forget, settings_show_values}
 use Rattle.setting_rules.proofs.laws.reset_laws.Goals as goal
 
 pub returns-clause-kept : goal.returns-clause-kept

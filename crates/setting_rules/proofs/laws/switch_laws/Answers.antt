@@ -1,4 +1,4 @@
-use Rattle.setting_rules.specs.SwitchLaws.{last_boolean_stays, last_boolean_decides, nothing_refused_unsaid}
+use Rattle.setting_rules.proofs.Prelude.{last_boolean_decides, last_boolean_stays, nothing_refused_unsaid}
 use Rattle.setting_rules.proofs.laws.switch_laws.Goals as goal
 
 pub returns-clause-alone : goal.returns-clause-alone

@@ -1,4 +1,4 @@
-use Rattle.setting_rules.specs.TemplateLaws.{instances_are_taken, prefixes_are_taken, other_names_stay}
+use Rattle.setting_rules.proofs.Prelude.{instances_are_taken, other_names_stay, prefixes_are_taken}
 use Rattle.setting_rules.proofs.laws.template_laws.Goals as goal
 
 pub returns-clause-instances : goal.returns-clause-instances

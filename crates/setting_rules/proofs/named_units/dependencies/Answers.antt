@@ -1,7 +1,8 @@
 use Rattle.std.proofs.Common.{◌∙◌, ap, map}
-use Rattle.std.specs.List.{flat_map}
 use Rattle.std.proofs.lemmas.List.{take_all}
-use Rattle.setting_rules.specs.Dependencies.{list_for, notes_for, lists_of, word_notes}
+use Rattle.std.specs.List.{flat_map}
+use Rattle.setting_rules.proofs.Prelude.{list_for, notes_for}
+use Rattle.setting_rules.specs.Dependencies.{lists_of, word_notes}
 use Rattle.setting_rules.proofs.named_units.dependencies.Goals as goal
 
 pub returns-clause-lists : goal.returns-clause-lists

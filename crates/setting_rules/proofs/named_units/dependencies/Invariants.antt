@@ -1,7 +1,6 @@
-use Rattle.std.proofs.Common.{◌≡◌, take, map}
+use Rattle.std.proofs.Common.{◌≡◌, map, take}
 use Rattle.std.specs.List.{flat_map}
-use Rattle.setting_rules.specs.Dependencies.{list_for, notes_for}
-use Rattle.setting_rules.specs.Kinds.{settable}
+use Rattle.setting_rules.proofs.Prelude.{list_for, notes_for, settable}
 use Rattle.setting_rules.proofs.named_units.dependencies.Given as goal
 
 abbrev pub invariant-loop-kind : goal.invariant-loop-kind

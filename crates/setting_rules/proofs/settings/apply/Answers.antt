@@ -1,10 +1,8 @@
 use Rattle.std.proofs.Common.{◌∙◌, ap}
 use Rattle.std.proofs.lemmas.List.{take_all}
-use Rattle.setting_rules.specs.Rules.{rule_of}
-use Rattle.setting_rules.specs.Settings.{keys_of, boolean_notes}
-use Rattle.setting_rules.proofs.Firsts.{pairs}
-use Rattle.setting_rules.proofs.Kept.{kept}
-use Rattle.setting_rules.proofs.Steps.{map_more, notes_then, settings_whole}
+use Rattle.setting_rules.proofs.Prelude.{rule_of}
+use Rattle.setting_rules.specs.Settings.{boolean_notes, keys_of}
+use Rattle.setting_rules.proofs.{Firsts.pairs, Kept.kept, Steps.map_more, Steps.notes_then, Steps.settings_whole}
 use Rattle.setting_rules.proofs.settings.apply.Goals as goal
 
 pub loop-index-init : goal.loop-index-init

@@ -1,10 +1,9 @@
 use Rattle.std.proofs.Common.{◌≡◌, take}
-use Rattle.setting_rules.specs.Settings.{keys_of, boolean_notes}
-use Rattle.setting_rules.proofs.Firsts.{pairs}
-use Rattle.setting_rules.proofs.Kept.{kept}
+use Rattle.setting_rules.proofs.Prelude.{boolean_notes, keys_of}
+use Rattle.setting_rules.proofs.{Firsts.pairs, Kept.kept}
 use Rattle.setting_rules.proofs.settings.apply.Given as goal
 
--- what was kept of the assignments so far
+-- the values after the assignments so far
 abbrev pub invariant-loop-index : goal.invariant-loop-index
 invariant-loop-index l =
     let so_far = take l.index l.assignments in

@@ -1,5 +1,5 @@
-use Rattle.std.proofs.Common.{sym, ◌∙◌, inl, inr}
-use Rattle.setting_rules.specs.Effects.{resets_family}
+use Rattle.std.proofs.Common.{◌∙◌, inl, inr, sym}
+use Rattle.setting_rules.proofs.Prelude.{resets_family}
 use Rattle.setting_rules.proofs.Starts.{start_more, start_whole}
 use Rattle.setting_rules.proofs.settings.family_start.Goals as goal
 use Rattle.setting_rules.proofs.settings.family_start.Goals.{then-resets_family, else-resets_family}

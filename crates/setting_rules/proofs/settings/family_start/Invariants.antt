@@ -1,8 +1,7 @@
 use Rattle.std.proofs.Common.{◌≡◌, ◌≤◌, drop, take}
-use Rattle.setting_rules.specs.Effects.{resets_family}
-use Rattle.setting_rules.specs.Settings.{behind_last}
+use Rattle.setting_rules.proofs.Prelude.{following_last, resets_family}
 use Rattle.setting_rules.proofs.settings.family_start.Given as goal
 
 abbrev pub invariant-loop-index : goal.invariant-loop-index
 invariant-loop-index l =
-    (l.start ≤ l.index) × (drop l.start (take l.index l.assignments) ≡ behind_last (resets_family l.family) (take l.index l.assignments))
+    (l.start ≤ l.index) × (drop l.start (take l.index l.assignments) ≡ following_last (resets_family l.family) (take l.index l.assignments))

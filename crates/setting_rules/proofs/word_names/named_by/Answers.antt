@@ -1,11 +1,9 @@
-use Rattle.std.proofs.Common.{◌∙◌, ◌≡◌, List, ℕ, Option, Some, None, ap, sym}
-use Rattle.unit_name.specs.Names.{Name}
-use Rattle.unit_name.specs.SpecifierLaws.{plain_texts_stay}
-use Rattle.unit_name.specs.Specifiers.{expand}
-use Rattle.setting_rules.specs.Dependencies.{named_by, named_by_text}
+use Rattle.std.proofs.Common.{◌∙◌, ◌≡◌, ap, List, None, Option, Some, sym, ℕ}
+use Rattle.setting_rules.proofs.Prelude.{expand, Name, named_by_text, plain_texts_stay}
+use Rattle.setting_rules.specs.Dependencies.{named_by}
 use Rattle.setting_rules.proofs.word_names.named_by.Goals as goal
 
--- what a word names is said of what it expands to
+-- what a word names depends only on its expansion
 by_text : (unit : Name) (word : List ℕ) (text : Option (List ℕ)) → expand word unit ≡ text → named_by_text unit text ≡ named_by unit word
 unfolding named_by
 by_text unit word text is = ap (named_by_text unit) (sym is)

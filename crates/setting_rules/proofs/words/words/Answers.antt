@@ -1,7 +1,7 @@
 use Rattle.std.proofs.Common.{rules, tests}
 use Rattle.std.proofs.lemmas.Iterator.Consumers.{map_from_collect, YieldsList-at, YieldsList-from_filter}
 use Rattle.std.proofs.lemmas.Iterator.Splits.{YieldsList-from_slice_split}
-use Rattle.section_reader.specs.Parts.{is_white, has_bytes}
+use Rattle.setting_rules.proofs.Prelude.{has_bytes, is_white}
 use Rattle.setting_rules.specs.Words.{words_of}
 use Rattle.setting_rules.proofs.words.words.Goals as goal
 

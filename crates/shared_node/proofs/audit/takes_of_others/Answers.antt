@@ -1,7 +1,7 @@
-use Rattle.std.proofs.Common.{rules, ◌≡◌, ◌+◌, ◌<◌, ◌≤◌, length, take, get_or, arith}
+use Rattle.std.proofs.Common.{◌+◌, ◌<◌, ◌≡◌, ◌≤◌, arith, get_or, length, rules, take}
 use Rattle.std.specs.List.{sum_by}
-use Rattle.shared_node.specs.Seats.{SeatNow, Agrees}
-use Rattle.shared_node.proofs.Auditing.{sum_more, sum_all, all_more, get_below}
+use Rattle.shared_node.proofs.Prelude.{Agrees, SeatNow}
+use Rattle.shared_node.proofs.Auditing.{all_more, get_below, sum_all, sum_more}
 use Rattle.shared_node.proofs.audit.takes_of_others.Goals as goal
 
 pub loop-seat-preserved : goal.loop-seat-preserved

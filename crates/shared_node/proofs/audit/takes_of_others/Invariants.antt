@@ -1,7 +1,6 @@
-use Rattle.std.proofs.Common.{◌≡◌, ℕ, ◌+◌, ◌<◌, take, slice_get, Some}
+use Rattle.std.proofs.Common.{◌+◌, ◌<◌, ◌≡◌, slice_get, Some, take, ℕ}
 use Rattle.std.specs.List.{sum_by}
-use Rattle.node_histories.specs.Histories.{takes_in}
-use Rattle.shared_node.specs.Seats.{SeatNow, Agrees}
+use Rattle.shared_node.proofs.Prelude.{Agrees, SeatNow, takes_in}
 use Rattle.shared_node.proofs.audit.takes_of_others.Given as goal
 
 abbrev pub invariant-loop-seat : goal.invariant-loop-seat

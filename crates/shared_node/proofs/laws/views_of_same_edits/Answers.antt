@@ -1,4 +1,4 @@
-use Rattle.node_histories.specs.HistoryLaws.{same_edits_same_store}
+use Rattle.shared_node.proofs.Prelude.{same_edits_same_store}
 use Rattle.shared_node.proofs.laws.views_of_same_edits.Goals as goal
 
 pub returns : goal.returns

@@ -1,6 +1,6 @@
-use Rattle.std.proofs.Common.{List, sym, ◌∙◌, ap, subst}
+use Rattle.std.proofs.Common.{◌∙◌, ap, List, subst, sym}
 use mathlib.Core.List.{IsPrefix}
-use Rattle.node_histories.specs.declared.events.HistoryEvent.{HistoryEvent}
+use Rattle.shared_node.proofs.Prelude.{HistoryEvent}
 use Rattle.shared_node.proofs.Seeing.{shows_on}
 use Rattle.shared_node.proofs.post.publish.Goals as goal
 

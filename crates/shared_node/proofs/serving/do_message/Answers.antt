@@ -1,8 +1,6 @@
-use Rattle.std.proofs.Common.{◌+◌, sym, ◌∙◌, ap}
-use Rattle.shared_node.specs.declared.serving.Step.{Step}
-use Rattle.shared_node.specs.Seats.{SeatNow}
-use Rattle.shared_node.specs.Steps.{calls_of}
-use Rattle.shared_node.proofs.Taken.{ends_seen, changing_seen, taken_calls, taken_seen, taken_number}
+use Rattle.std.proofs.Common.{◌+◌, ◌∙◌, ap, sym}
+use Rattle.shared_node.proofs.Prelude.{calls_of, SeatNow, Step}
+use Rattle.shared_node.proofs.Taken.{changing_seen, ends_seen, taken_calls, taken_number, taken_seen}
 use Rattle.shared_node.proofs.serving.do_message.Goals as goal
 
 pub returns-in-Edit-clause-calls : goal.returns-in-Edit-clause-calls
@@ -17,7 +15,7 @@ returns-in-Edit-clause-seen g c =
     let s : SeatNow = c.args.seat.now in
     let taken = c.edit in
     let t : SeatNow = taken.new.seat in
-    taken_seen g.N.NodeName.opening taken.result s t _ _ (λ x p q. ends_seen s.seen x.1 t.seen _ p q.1) taken.ensures.taken taken.ensures.told taken.ensures.fault
+    taken_seen g.N.NodeName.opening taken.result s t _ _ (λ x p q. ends_seen s.seen x.1 t.seen _ p q.1) taken.ensures.taken taken.ensures.token taken.ensures.fault
 
 pub returns-in-Edit-clause-number : goal.returns-in-Edit-clause-number
 returns-in-Edit-clause-number g c =
@@ -36,7 +34,7 @@ returns-in-Absorb-clause-seen g c =
     let s : SeatNow = c.args.seat.now in
     let taken = c.absorb in
     let t : SeatNow = taken.new.seat in
-    taken_seen g.N.NodeName.opening taken.result s t _ _ (λ x p q. changing_seen s.seen x.1 t.seen _ _ p q.1) taken.ensures.taken taken.ensures.told taken.ensures.fault
+    taken_seen g.N.NodeName.opening taken.result s t _ _ (λ x p q. changing_seen s.seen x.1 t.seen _ _ p q.1) taken.ensures.taken taken.ensures.token taken.ensures.fault
 
 pub returns-in-Absorb-clause-number : goal.returns-in-Absorb-clause-number
 returns-in-Absorb-clause-number g c =

@@ -1,8 +1,7 @@
-use Rattle.std.proofs.Common.{◌≡◌, get_or, rules, sym, ap, ◌∙◌}
+use Rattle.std.proofs.Common.{◌∙◌, ◌≡◌, ap, get_or, rules, sym}
 use Rattle.std.specs.Ordering.{is_lt}
 use Rattle.std.specs.declared.cmp.Ordering.TheVariants.{Less}
-use Rattle.sorted_pairs.specs.PlaceLaws.{below_append, below_first}
-use Rattle.list_laws.specs.Orderings.{is_less}
+use Rattle.sorted_pairs.proofs.Prelude.{below_append, below_first, is_less}
 use Rattle.sorted_pairs.proofs.passes.pass_below.Goals as goal
 
 pub loop-pair-preserved : goal.loop-pair-preserved

@@ -1,7 +1,7 @@
-use Rattle.std.proofs.Common.{◌≡◌, ◌+◌, ◌≤◌, ◌++◌, vec_len}
+use Rattle.std.proofs.Common.{◌++◌, ◌+◌, ◌≡◌, ◌≤◌, vec_len}
 use Rattle.std.specs.Vec.{vec_capacity}
 use Rattle.std.specs.VecDeque.{deque_len}
-use Rattle.sorted_pairs.specs.Places.{AreBelow}
+use Rattle.sorted_pairs.proofs.Prelude.{AreBelow}
 use Rattle.sorted_pairs.proofs.passes.pass_below.Given as goal
 
 abbrev pub invariant-loop-pair : goal.invariant-loop-pair

@@ -1,10 +1,10 @@
-use Rattle.std.proofs.Common.{rules, sym, ◌∙◌}
+use Rattle.std.proofs.Common.{◌∙◌, rules, sym}
 use Rattle.std.proofs.lemmas.Fn.{always_returns_same}
-use Rattle.sorted_pairs.specs.SearchLaws.{behind_last, last_has, search_finds}
+use Rattle.sorted_pairs.proofs.Prelude.{after_last, last_has, search_finds}
 use Rattle.sorted_pairs.proofs.places.seek.Goals as goal
 
 pub returns-in-Less-clause-absent : goal.returns-in-Less-clause-absent
-returns-in-Less-clause-absent g c = behind_last g.K.Ord.cmp g.met.K.Ord.total c.args.key.now _ _ _ c.in-Some.ensures.cases.0 c.requires.sorted (sym c.cmp.ensures ∙ c.in-Less.is)
+returns-in-Less-clause-absent g c = after_last g.K.Ord.cmp g.met.K.Ord.total c.args.key.now _ _ _ c.in-Some.ensures.cases.0 c.requires.sorted (sym c.cmp.ensures ∙ c.in-Less.is)
 
 pub returns-in-Equal-clause-found : goal.returns-in-Equal-clause-found
 returns-in-Equal-clause-found g c = last_has g.K.Ord.cmp g.met.K.Ord.total c.args.key.now _ _ _ c.in-Some.ensures.cases.0 c.requires.sorted (sym c.cmp.ensures ∙ c.in-Equal.is)

@@ -1,17 +1,14 @@
-use Rattle.std.proofs.Common.{◌≡◌, ◌+◌, ◌-◌, ◌<◌, ◌≤◌, ℕ, Bool, true, false, List, arith, length, get_or, take, ◌∙◌}
-use Rattle.std.specs.List.{All}
+use Rattle.std.proofs.Common.{◌+◌, ◌-◌, ◌<◌, ◌∙◌, ◌≡◌, ◌≤◌, All, arith, Bool, false, get_or, length, List, take, true, ℕ}
 use Rattle.std.proofs.lemmas.List.{get_or_default, take_more}
-use Rattle.index_rows.specs.Rows.{times}
-use Rattle.index_rows.specs.RowLaws.{times_room}
-use Rattle.start_order.specs.Counts.{IsLowered}
-use Rattle.start_order.proofs.Waiting.{IsLowered-more, IsLowered-at, later_yes, later_no}
+use Rattle.start_order.proofs.Prelude.{IsLowered, times, times_room}
+use Rattle.start_order.proofs.Waiting.{IsLowered-at, IsLowered-more, later_no, later_yes}
 use Rattle.start_order.proofs.counts.lower.Goals as goal
 use Rattle.start_order.proofs.counts.lower.Goals.{then-chosen-other+then-count-eq0+in_ok-add, else-chosen-other, else-chosen-other-via-then-chosen-other+else-count-eq0, else-chosen-other-via-else-chosen-other}
 
 unset_here : (b : Bool) → b ≡ false → ¬ (b ≡ true)
 unset_here b e f = cc
 
--- the count of a node of the row, as it is read at its place of the row: it isn't 0 yet
+-- the count of a node of the list, read at its position: it isn't 0 yet
 record IsCountAt (nodes now : List ℕ) (i count : ℕ) : Type 0 where
   within : get_or nodes i 0 < length now
   read : count ≡ get_or now (get_or nodes i 0) 0

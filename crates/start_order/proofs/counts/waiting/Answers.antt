@@ -1,5 +1,5 @@
 use Rattle.std.proofs.Common.{arith}
-use Rattle.start_order.proofs.Waiting.{waiting_yes, waiting_no, both_hold, first_fails, second_fails}
+use Rattle.start_order.proofs.Waiting.{both_hold, first_fails, second_fails, waiting_no, waiting_yes}
 use Rattle.start_order.proofs.counts.waiting.Goals as goal
 use Rattle.start_order.proofs.counts.waiting.Goals.{then-chosen-other+then-not-standing-other, else-chosen-other, else-chosen-other-via-then-chosen-other+else-not-standing-other, else-chosen-other-via-else-chosen-other}
 

@@ -1,8 +1,6 @@
-use Rattle.std.proofs.Common.{◌≡◌, ◌<◌, ◌≤◌, ℕ, List, length, get_or, drop, reverse, subst, sym, ◌∙◌, ap}
+use Rattle.std.proofs.Common.{◌<◌, ◌∙◌, ◌≡◌, ◌≤◌, ap, drop, get_or, length, List, reverse, subst, sym, ℕ}
 use Rattle.std.specs.Ordering.{nat_cmp}
-use Rattle.start_order.specs.StartOrder.{IsCycle}
-use Rattle.start_order.specs.Precedes.{Precedes}
-use Rattle.index_rows.specs.Rows.{Marked}
+use Rattle.start_order.proofs.Prelude.{IsCycle, IsMember, Precedes}
 use Rattle.start_order.proofs.Rings.{cycle_of_walk}
 use Rattle.start_order.proofs.cycles.cycle_from.Goals as goal
 
@@ -13,8 +11,8 @@ returns c =
     let W : List ℕ → Type 0 = λ l. c.least_at-first.result < length l in
     let E : List ℕ → Type 0 = λ l. c.position_of.result < length l in
     let A : List ℕ → Type 0 = λ l. get_or l c.position_of.result 0 ≡ c.in_ok-met.next in
-    let P : List ℕ → Type 0 = λ l. IsCycle nat_cmp (Marked c.args.stuck.now) (Precedes c.args.before.now) l in
+    let P : List ℕ → Type 0 = λ l. IsCycle nat_cmp (IsMember c.args.stuck.now) (Precedes c.args.before.now) l in
     subst P (sym c.rotate_left.ensures.items)
-    (cycle_of_walk (Marked c.args.stuck.now) (Precedes c.args.before.now) c.in_ok-met.met.items c.in_ok-met.next c.position_of.result c.least_at-first.result c.reverse.new.self.items c.in_ok-met.ensures.walk
+    (cycle_of_walk (IsMember c.args.stuck.now) (Precedes c.args.before.now) c.in_ok-met.met.items c.in_ok-met.next c.position_of.result c.least_at-first.result c.reverse.new.self.items c.in_ok-met.ensures.walk
     (subst E c.deref-2.ensures.value c.position_of.ensures.within) (subst A c.deref-2.ensures.value c.position_of.ensures.at) ring_is
     (subst W c.deref-3.ensures.value c.least_at-first.ensures.within) (subst L c.deref-3.ensures.value c.least_at-first.ensures.least))

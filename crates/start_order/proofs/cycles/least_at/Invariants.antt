@@ -1,4 +1,4 @@
-use Rattle.std.proofs.Common.{ℕ, ◌<◌, ◌≤◌, get_or, length}
+use Rattle.std.proofs.Common.{◌<◌, ◌≤◌, get_or, length, ℕ}
 use Rattle.start_order.proofs.cycles.least_at.Given as goal
 
 abbrev pub invariant-loop-i : goal.invariant-loop-i

@@ -1,17 +1,13 @@
-use Rattle.std.proofs.Common.{◌≡◌, ◌<◌, ◌↔◌, ℕ, true, List, ◌++◌, ◌∷◌, [], length, set, subst, sym, ◌∙◌, arith, length-set}
-use Rattle.list_laws.specs.Members.{IsAmong}
-use Rattle.index_rows.specs.Rows.{Marked}
-use Rattle.index_rows.specs.MarkLaws.{unset-set, unmarked_read, marked_read, Marked-within}
-use Rattle.start_order.specs.Precedes.{Precedes}
-use Rattle.start_order.specs.Walks.{IsWalk}
+use Rattle.std.proofs.Common.{[], ◌++◌, ◌<◌, ◌↔◌, ◌∙◌, ◌∷◌, ◌≡◌, arith, length, length-set, List, set, subst, sym, true, ℕ}
+use Rattle.start_order.proofs.Prelude.{IsAmong, IsMember, IsMember-within, IsWalk, member_read, non_members_read, Precedes, unset-set}
 use Rattle.start_order.proofs.Rings.{agree_push, IsWalk-more}
 use Rattle.start_order.proofs.cycles.walk.Goals as goal
 
 within : (c : goal.After-blocker-next) → c.loop-met.next < length c.loop-met.seen.items
-within c = (let l = Marked-within c.args.stuck.now c.loop-met.next c.loop-met.invariant.stuck in omega (arith, l, c.loop-met.invariant.units))
+within c = (let l = IsMember-within c.args.stuck.now c.loop-met.next c.loop-met.invariant.stuck in omega (arith, l, c.loop-met.invariant.units))
 
-fresh : (c : goal.After-blocker-next) → ¬ Marked c.loop-met.seen.items c.loop-met.next
-fresh c = unmarked_read c.loop-met.seen.items c.loop-met.next c.index.result.now c.index.ensures (within c) c.loop-met-test.true
+fresh : (c : goal.After-blocker-next) → ¬ IsMember c.loop-met.seen.items c.loop-met.next
+fresh c = non_members_read c.loop-met.seen.items c.loop-met.next c.index.result.now c.index.ensures (within c) c.loop-met-test.true
 
 pub loop-met-smaller : goal.loop-met-smaller
 loop-met-smaller c = let e = unset-set c.loop-met.seen.items c.loop-met.next (within c) (fresh c) in omega (arith, e)
@@ -20,8 +16,8 @@ pub loop-met-preserved : goal.loop-met-preserved
 loop-met-preserved c =
     let items : c.push.new.self.items ≡ c.loop-met.met.items ++ c.loop-met.next ∷ [] = c.in_ok-push.ensures.items in
     let agree = agree_push c.loop-met.seen.items c.loop-met.met.items c.loop-met.next (within c) c.loop-met.invariant.agree in
-    let P : List ℕ → Type 0 = λ t. (v : ℕ) → Marked (set c.loop-met.seen.items c.loop-met.next true) v ↔ IsAmong v t in
-    let Q : List ℕ → Type 0 = λ t. IsWalk (Marked c.args.stuck.now) (Precedes c.args.before.now) t c.blocker-next.result in
+    let P : List ℕ → Type 0 = λ t. (v : ℕ) → IsMember (set c.loop-met.seen.items c.loop-met.next true) v ↔ IsAmong v t in
+    let Q : List ℕ → Type 0 = λ t. IsWalk (IsMember c.args.stuck.now) (Precedes c.args.before.now) t c.blocker-next.result in
     record {
       units = length-set c.loop-met.seen.items c.loop-met.next true ∙ c.loop-met.invariant.units;
       agree = subst P (sym items) agree;
@@ -31,5 +27,5 @@ loop-met-preserved c =
 
 pub returns-clause-met : goal.returns-clause-met
 returns-clause-met c =
-    let l = Marked-within c.args.stuck.now c.loop-met.next c.loop-met.invariant.stuck in
-    (c.loop-met.invariant.agree c.loop-met.next).0 (marked_read c.loop-met.seen.items c.loop-met.next c.index.result.now c.index.ensures (omega (arith, l, c.loop-met.invariant.units)) c.loop-met-test.false)
+    let l = IsMember-within c.args.stuck.now c.loop-met.next c.loop-met.invariant.stuck in
+    (c.loop-met.invariant.agree c.loop-met.next).0 (member_read c.loop-met.seen.items c.loop-met.next c.index.result.now c.index.ensures (omega (arith, l, c.loop-met.invariant.units)) c.loop-met-test.false)

@@ -1,9 +1,9 @@
-use Rattle.std.proofs.Common.{◌≡◌, ◌<◌, ◌↔◌, ℕ, get_or, length}
-use Rattle.index_rows.specs.Rows.{Marked}
+use Rattle.std.proofs.Common.{◌<◌, ◌↔◌, ◌≡◌, get_or, length, ℕ}
+use Rattle.start_order.proofs.Prelude.{IsMember}
 use Rattle.start_order.proofs.free.ready.Given as goal
 
 abbrev pub invariant-loop-node : goal.invariant-loop-node
 invariant-loop-node l = record {
-  units : length l.marks.items ≡ l.node;
-  marks : (v : ℕ) → v < l.node → Marked l.marks.items v ↔ (Marked l.chosen v × (get_or l.counts v 0 ≡ 0));
+  units : length l.bits.items ≡ l.node;
+  bits : (v : ℕ) → v < l.node → IsMember l.bits.items v ↔ (IsMember l.chosen v × (get_or l.counts v 0 ≡ 0));
 }

@@ -1,17 +1,13 @@
-use Rattle.std.proofs.Common.{◌≡◌, ◌<◌, ◌≤◌, ◌↔◌, ℕ, Bool, true, List, [], ◌∷◌, ◌++◌, arith, length, get_or, set, subst, sym}
-use Rattle.std.specs.List.{All}
-use Rattle.list_laws.specs.Members.{IsAmong}
-use Rattle.index_rows.specs.Rows.{Marked, times, row as row_of}
-use Rattle.index_rows.specs.MarkLaws.{unset-set}
-use Rattle.index_rows.specs.RowLaws.{All-row}
-use Rattle.start_order.proofs.States.{IsState, IsState-begin, step, done, unmarked_of, within_of, enough_of}
+use Rattle.std.proofs.Common.{[], ◌++◌, ◌<◌, ◌↔◌, ◌∷◌, ◌≡◌, ◌≤◌, All, arith, Bool, get_or, length, List, set, subst, sym, true, ℕ}
+use Rattle.start_order.proofs.Prelude.{All-neighbors, IsAmong, IsMember, neighbors_of, times, unset-set}
+use Rattle.start_order.proofs.States.{done, enough_of, IsState, IsState-begin, non_members_of, step, within_of}
 use Rattle.start_order.proofs.orders.listed.Goals as goal
 
 -- what can start at first
-free_at_first : (chosen : List Bool) (counts : List ℕ) (ready read : List Bool) (free : List ℕ) → read ≡ ready → ((v : ℕ) → IsAmong v free ↔ Marked read v)
-    → ((v : ℕ) → Marked ready v ↔ (Marked chosen v × (get_or counts v 0 ≡ 0))) → (v : ℕ) → IsAmong v free ↔ (Marked chosen v × (get_or counts v 0 ≡ 0))
+free_at_first : (chosen : List Bool) (counts : List ℕ) (ready read : List Bool) (free : List ℕ) → read ≡ ready → ((v : ℕ) → IsAmong v free ↔ IsMember read v)
+    → ((v : ℕ) → IsMember ready v ↔ (IsMember chosen v × (get_or counts v 0 ≡ 0))) → (v : ℕ) → IsAmong v free ↔ (IsMember chosen v × (get_or counts v 0 ≡ 0))
 free_at_first chosen counts ready read free e f r v =
-    let P : List Bool → Type 0 = λ m. IsAmong v free ↔ Marked m v in
+    let P : List Bool → Type 0 = λ m. IsAmong v free ↔ IsMember m v in
     let g = subst P e (f v) in
     (λ h. (r v).0 (g.0 h), λ h. g.1 ((r v).1 h))
 
@@ -24,34 +20,34 @@ loop-node-init c =
 pub index_mut-requires : goal.index_mut-requires
 index_mut-requires c = let a = within_of _ _ _ _ _ _ c.loop-node.invariant c.in-Some.node c.in-Some.ensures.least.0 in omega (arith, a, c.loop-node.invariant.units, c.loop-node.standing.ok)
 
-pub row-requires : goal.row-requires
-row-requires c = let a = within_of _ _ _ _ _ _ c.loop-node.invariant c.in-Some.node c.in-Some.ensures.least.0 in omega (arith, a, c.requires.after.one_each)
+pub neighbors-requires : goal.neighbors-requires
+neighbors-requires c = let a = within_of _ _ _ _ _ _ c.loop-node.invariant c.in-Some.node c.in-Some.ensures.least.0 in omega (arith, a, c.requires.after.one_each)
 
 pub lower-requires-clause-nodes : goal.lower-requires-clause-nodes
 lower-requires-clause-nodes c =
     let P : List ℕ → Type 0 = λ r. All (λ v. v < length c.args.chosen.now) r in
-    subst P (sym c.row.ensures) (All-row _ _ c.in-Some.node c.requires.after.within)
+    subst P (sym c.neighbors.ensures) (All-neighbors _ _ c.in-Some.node c.requires.after.within)
 
 pub lower-requires-clause-enough : goal.lower-requires-clause-enough
 lower-requires-clause-enough c v =
     let P : List ℕ → Type 0 = λ r. times v r ≤ get_or c.loop-node.counts.items v 0 in
-    let e = c.requires.turned c.in-Some.node v in
-    subst P (sym c.row.ensures) (enough_of _ _ _ _ _ _ c.loop-node.invariant c.in-Some.node c.in-Some.ensures.least.0 v _ e)
+    let e = c.requires.transposed c.in-Some.node v in
+    subst P (sym c.neighbors.ensures) (enough_of _ _ _ _ _ _ c.loop-node.invariant c.in-Some.node c.in-Some.ensures.least.0 v _ e)
 
 pub loop-node-smaller : goal.loop-node-smaller
 loop-node-smaller c =
     let a = within_of _ _ _ _ _ _ c.loop-node.invariant c.in-Some.node c.in-Some.ensures.least.0 in
-    let e = unset-set c.loop-node.standing.items c.in-Some.node (omega (arith, a, c.loop-node.invariant.units)) (unmarked_of _ _ _ _ _ _ c.loop-node.invariant c.in-Some.node c.in-Some.ensures.least.0) in
+    let e = unset-set c.loop-node.standing.items c.in-Some.node (omega (arith, a, c.loop-node.invariant.units)) (non_members_of _ _ _ _ _ _ c.loop-node.invariant c.in-Some.node c.in-Some.ensures.least.0) in
     omega (arith, e)
 
 pub loop-node-preserved : goal.loop-node-preserved
 loop-node-preserved c =
     let items : c.push.new.self.items ≡ c.loop-node.list.items ++ c.in-Some.node ∷ [] = c.in_ok-push.ensures.items in
     let P : List ℕ → Type 0 = λ l. IsState c.args.chosen.now c.args.before.now (set c.loop-node.standing.items c.in-Some.node true) c.lower.new.counts.items l c.lower.new.free in
-    let Q : List ℕ → Type 0 = λ r. (v : ℕ) → times v r ≡ times c.in-Some.node (row_of c.args.before.now v) in
-    let turned = subst Q (sym c.row.ensures) (c.requires.turned c.in-Some.node) in
+    let Q : List ℕ → Type 0 = λ r. (v : ℕ) → times v r ≡ times c.in-Some.node (neighbors_of c.args.before.now v) in
+    let transposed = subst Q (sym c.neighbors.ensures) (c.requires.transposed c.in-Some.node) in
     subst P (sym items)
-    (step _ _ _ _ _ _ c.loop-node.invariant c.in-Some.node c.in-Some.ensures.least.0 c.in-Some.ensures.least.1 _ _ _ _ c.in-Some.ensures.rest c.in_ok-lower.ensures turned)
+    (step _ _ _ _ _ _ c.loop-node.invariant c.in-Some.node c.in-Some.ensures.least.0 c.in-Some.ensures.least.1 _ _ _ _ c.in-Some.ensures.rest c.in_ok-lower.ensures transposed)
 
 pub returns-clause-list : goal.returns-clause-list
 returns-clause-list c = done _ _ _ _ _ _ c.loop-node.invariant c.in_default.ensures.least

@@ -1,4 +1,4 @@
-use Rattle.index_rows.specs.MarkLaws.{unset}
+use Rattle.start_order.proofs.Prelude.{unset}
 use Rattle.start_order.proofs.States.{IsState}
 use Rattle.start_order.proofs.orders.listed.Given as goal
 

@@ -1,9 +1,7 @@
-use Rattle.std.proofs.Common.{◌≡◌, ◌+◌, ◌++◌, ◌∷◌, [], inl, inr, true, false, List, take, refl, ap, subst, sym, ◌∙◌}
+use Rattle.std.proofs.Common.{[], ◌++◌, ◌+◌, ◌∙◌, ◌∷◌, ◌≡◌, ap, false, inl, inr, List, refl, subst, sym, take, true}
 use Rattle.std.proofs.lemmas.List.{take_more}
 use Rattle.std.proofs.lemmas.List.Elements.{Contains-get_or}
-use Rattle.list_laws.specs.Members.{IsAmong, among_from_contains}
-use Rattle.index_rows.specs.ListLaws.{IsAmong-push_cases}
-use Rattle.unit_name.specs.Names.{Name, shape}
+use Rattle.start_plan.proofs.Prelude.{among_from_contains, IsAmong, IsAmong-push_cases, Name, shape}
 use Rattle.start_plan.proofs.checks.has_template.Goals as goal
 
 pub returns-then-is_template : goal.returns-then-is_template

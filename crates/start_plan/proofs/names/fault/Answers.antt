@@ -1,38 +1,37 @@
-use Rattle.std.proofs.Common.{◌≡◌, true, false, Some, ap, sym, ◌∙◌, length, arith}
-use Rattle.std.specs.Option.{option_map}
+use Rattle.std.proofs.Common.{◌∙◌, ◌≡◌, ap, arith, false, length, Some, sym, true}
 use Rattle.std.proofs.lemmas.Option.{none-some}
-use Rattle.parallel_load.specs.Loads.{unit_part}
-use Rattle.start_plan.specs.Requests.{is_loaded, has_fragment}
-use Rattle.start_plan.proofs.Marking.{part_at}
+use Rattle.std.specs.Option.{option_map}
+use Rattle.start_plan.proofs.Prelude.{has_fragment, is_loaded, unit_part}
+use Rattle.start_plan.proofs.BitSets.{part_at}
 use Rattle.start_plan.proofs.names.fault.Goals as goal
 
 pub unreachable-requires : goal.unreachable-requires
 unreachable-requires c =
-    let at = part_at c.args.loaded.now c.names.result.now c.names.ensures.names c.names.ensures.sorted c.args.number c.index-names-number.result
+    let at = part_at c.args.loaded.now c.names.result.now c.names.ensures.names c.names.ensures.sorted c.args.index c.index-names-index.result
     (omega (arith, c.requires.below, ap length c.names.ensures.names)) in
     let f : false ≡ true = sym c.requires.unloaded ∙ ap is_loaded (at ∙ ap unit_part c.in-Unit.is ∙ ap Some (sym c.get.ensures.value)) ∙ ap has_fragment c.in-Loaded.is in
     cc (f)
 
 pub unreachable-requires-in-Alias : goal.unreachable-requires-in-Alias
 unreachable-requires-in-Alias c =
-    let at = part_at c.args.loaded.now c.names.result.now c.names.ensures.names c.names.ensures.sorted c.args.number c.index-names-number.result
+    let at = part_at c.args.loaded.now c.names.result.now c.names.ensures.names c.names.ensures.sorted c.args.index c.index-names-index.result
     (omega (arith, c.requires.below, ap length c.names.ensures.names)) in
     absurd (none-some _ (sym (at ∙ ap unit_part c.in-Alias.is) ∙ c.requires.unit.1))
 
 pub returns-in-NotFound : goal.returns-in-NotFound
 returns-in-NotFound c =
-    let at = part_at c.args.loaded.now c.names.result.now c.names.ensures.names c.names.ensures.sorted c.args.number c.index-names-number.result
+    let at = part_at c.args.loaded.now c.names.result.now c.names.ensures.names c.names.ensures.sorted c.args.index c.index-names-index.result
     (omega (arith, c.requires.below, ap length c.names.ensures.names)) in
     record { fault = (c.in_ok-name.ensures.name, ap (option_map (λ u. u.status)) (at ∙ ap unit_part c.in-Unit.is ∙ ap Some (sym c.get.ensures.value)) ∙ ap Some c.in-NotFound.is) }
 
 pub returns-in-Masked : goal.returns-in-Masked
 returns-in-Masked c =
-    let at = part_at c.args.loaded.now c.names.result.now c.names.ensures.names c.names.ensures.sorted c.args.number c.index-names-number.result
+    let at = part_at c.args.loaded.now c.names.result.now c.names.ensures.names c.names.ensures.sorted c.args.index c.index-names-index.result
     (omega (arith, c.requires.below, ap length c.names.ensures.names)) in
     record { fault = (c.in_ok-name.ensures.name, ap (option_map (λ u. u.status)) (at ∙ ap unit_part c.in-Unit.is ∙ ap Some (sym c.get.ensures.value)) ∙ ap Some c.in-Masked.is) }
 
 pub returns-in-Bad : goal.returns-in-Bad
 returns-in-Bad c =
-    let at = part_at c.args.loaded.now c.names.result.now c.names.ensures.names c.names.ensures.sorted c.args.number c.index-names-number.result
+    let at = part_at c.args.loaded.now c.names.result.now c.names.ensures.names c.names.ensures.sorted c.args.index c.index-names-index.result
     (omega (arith, c.requires.below, ap length c.names.ensures.names)) in
     record { fault = (c.in_ok-name.ensures.name, (c.in-Bad.field-0, ap (option_map (λ u. u.status)) (at ∙ ap unit_part c.in-Unit.is ∙ ap Some (sym c.get.ensures.value)) ∙ ap Some c.in-Bad.is)) }

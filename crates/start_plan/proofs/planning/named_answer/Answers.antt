@@ -1,27 +1,15 @@
-use Rattle.std.proofs.Common.{◌≡◌, ◌<◌, ℕ, List, Result, IfOk, IfErr, map, ap, sym, subst, ◌∙◌}
-use Rattle.std.specs.List.{All}
+use Rattle.std.proofs.Common.{◌<◌, ◌∙◌, ◌≡◌, All, ap, IfErr, IfOk, List, map, Result, subst, sym, ℕ}
 use Rattle.std.specs.Cmp.Lexicographic.{nat_list_cmp_total}
-use Rattle.plan_choice.specs.declared.answers.RowPlan.{RowPlan}
-use Rattle.plan_choice.specs.declared.answers.RowRefusal.{RowRefusal}
-use Rattle.plan_choice.specs.Answers.{IsPlan}
-use Rattle.plan_choice.specs.NamedPlans.{plan_named}
-use Rattle.plan_choice.specs.RowRefusals.{refusal_of}
-use Rattle.unit_name.specs.Names.{Name, name_cmp}
-use Rattle.parallel_load.specs.Loads.{LoadMap}
-use Rattle.inverse_deps.specs.Numbers.{count_of, name_at}
-use Rattle.start_plan.specs.Numbered.{IsNumberedPlan, IsNumberedRefusal}
-use Rattle.start_plan.specs.Requests.{case_of}
-use Rattle.start_plan.specs.Tellings.{IsTellable, IsToldBy}
-use Rattle.start_plan.proofs.Answering.{stops_below, starts_below, tellable, told}
-use Rattle.start_plan.proofs.Casing.{target_known}
+use Rattle.start_plan.proofs.Prelude.{case_of, count_of, IndexedPlan, IndexedRefusal, IsIndexedPlan, IsIndexedRefusal, IsPlan, IsReturnable, IsReturnedBy, LoadMap, Name, name_at, name_cmp, plan_named, refusal_of}
+use Rattle.start_plan.proofs.{Answering.returnable, Answering.returned, Answering.starts_below, Answering.stops_below, Casing.target_known}
 use Rattle.start_plan.proofs.planning.named_answer.Goals as goal
 
 pub named_plan-requires : goal.named_plan-requires
 named_plan-requires c =
     let load = c.args.graph.now.load in
-    let P : Result RowPlan RowRefusal → Type 0 = λ o. IfOk o (λ plan. IsNumberedPlan load c.args.graph.now.edges c.args.request.now plan.stops.items plan.starts.items) in
+    let P : Result IndexedPlan IndexedRefusal → Type 0 = λ o. IfOk o (λ plan. IsIndexedPlan load c.args.graph.now.edges c.args.request.now plan.stops.items plan.starts.items) in
     let p = subst P c.in-Ok.is c.in_ok-plan.ensures.plan in
-    let L : List ℕ → LoadMap → Type 0 = λ numbers m. All (λ i. i < count_of m) numbers in
+    let L : List ℕ → LoadMap → Type 0 = λ indices m. All (λ i. i < count_of m) indices in
     record {
       stops = subst (L c.in-Ok.plan.stops.items) (sym c.loaded.ensures.load)
           (stops_below load c.args.graph.now.edges c.args.request.now c.in_ok-plan.ensures.order p.case p.named _ c.in-Ok.plan.starts.items p.planned);
@@ -33,7 +21,7 @@ pub returns-in_ok-named_plan-in-Ok-clause-plan : goal.returns-in_ok-named_plan-i
 returns-in_ok-named_plan-in-Ok-clause-plan c =
     let load = c.args.graph.now.load in
     let names = case_of load c.args.graph.now.edges c.args.request.now in
-    let P : Result RowPlan RowRefusal → Type 0 = λ o. IfOk o (λ plan. IsNumberedPlan load c.args.graph.now.edges c.args.request.now plan.stops.items plan.starts.items) in
+    let P : Result IndexedPlan IndexedRefusal → Type 0 = λ o. IfOk o (λ plan. IsIndexedPlan load c.args.graph.now.edges c.args.request.now plan.stops.items plan.starts.items) in
     let p = subst P c.in-Ok.is c.in_ok-plan.ensures.plan in
     let named = c.in_ok-named_plan-in-Ok.ensures in
     let stop : c.in_ok-named_plan-in-Ok.field-0.stop ≡ map (name_at load) c.in-Ok.plan.stops.items = named.stop ∙ ap (λ m. map (name_at m) c.in-Ok.plan.stops.items) c.loaded.ensures.load in
@@ -49,20 +37,20 @@ returns-in_ok-named_plan-in-Ok-clause-plan c =
 pub named_refusal-requires : goal.named_refusal-requires
 named_refusal-requires c =
     let load = c.args.graph.now.load in
-    let P : Result RowPlan RowRefusal → Type 0 = λ o. IfErr o (λ refusal. IsNumberedRefusal load c.args.graph.now.edges c.args.request.now (refusal_of refusal)) in
+    let P : Result IndexedPlan IndexedRefusal → Type 0 = λ o. IfErr o (λ refusal. IsIndexedRefusal load c.args.graph.now.edges c.args.request.now (refusal_of refusal)) in
     let r = subst P c.in-Err.is c.in_ok-plan.ensures.refusal in
-    let L : LoadMap → Type 0 = λ m. IsTellable m (refusal_of c.in-Err.refusal) in
+    let L : LoadMap → Type 0 = λ m. IsReturnable m (refusal_of c.in-Err.refusal) in
     record {
-      numbers = subst L (sym c.loaded-in-Err.ensures.load)
-          (tellable load c.args.graph.now.edges c.args.request.now c.in_ok-plan.ensures.order r.case r.named (target_known load c.args.request.now c.requires.names c.requires.whole)
+      indices = subst L (sym c.loaded-in-Err.ensures.load)
+          (returnable load c.args.graph.now.edges c.args.request.now c.in_ok-plan.ensures.order r.case r.named (target_known load c.args.request.now c.requires.names c.requires.whole)
           c.loaded-in-Err.ensures.units (refusal_of c.in-Err.refusal) r.refused);
     }
 
 pub returns-in_ok-named_refusal-in-Err-clause-refusal : goal.returns-in_ok-named_refusal-in-Err-clause-refusal
 returns-in_ok-named_refusal-in-Err-clause-refusal c =
     let load = c.args.graph.now.load in
-    let P : Result RowPlan RowRefusal → Type 0 = λ o. IfErr o (λ refusal. IsNumberedRefusal load c.args.graph.now.edges c.args.request.now (refusal_of refusal)) in
+    let P : Result IndexedPlan IndexedRefusal → Type 0 = λ o. IfErr o (λ refusal. IsIndexedRefusal load c.args.graph.now.edges c.args.request.now (refusal_of refusal)) in
     let r = subst P c.in-Err.is c.in_ok-plan.ensures.refusal in
-    let L : LoadMap → Type 0 = λ m. IsToldBy m (refusal_of c.in-Err.refusal) c.in_ok-named_refusal-in-Err.field-0 in
-    told load c.args.graph.now.edges c.args.request.now c.in_ok-plan.ensures.order r.case r.named c.requires.whole (refusal_of c.in-Err.refusal) r.refused
-    c.in_ok-named_refusal-in-Err.field-0 (subst L c.loaded-in-Err.ensures.load c.in_ok-named_refusal-in-Err.ensures.told)
+    let L : LoadMap → Type 0 = λ m. IsReturnedBy m (refusal_of c.in-Err.refusal) c.in_ok-named_refusal-in-Err.field-0 in
+    returned load c.args.graph.now.edges c.args.request.now c.in_ok-plan.ensures.order r.case r.named c.requires.whole (refusal_of c.in-Err.refusal) r.refused
+    c.in_ok-named_refusal-in-Err.field-0 (subst L c.loaded-in-Err.ensures.load c.in_ok-named_refusal-in-Err.ensures.returned)

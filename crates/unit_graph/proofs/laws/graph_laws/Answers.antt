@@ -1,5 +1,4 @@
-use Rattle.unit_graph.specs.GraphLaws.{known_names}
-use Rattle.unit_graph.specs.MemberLaws.{members_are_units}
+use Rattle.unit_graph.proofs.Prelude.{known_names, members_are_units}
 use Rattle.unit_graph.proofs.laws.graph_laws.Goals as goal
 
 pub returns : goal.returns

@@ -1,9 +1,7 @@
-use Rattle.std.proofs.Common.{◌≡◌, ◌<◌, ◌+◌, ◌++◌, ◌∷◌, [], ℕ, List, length, map, take, get_or, ap, sym, ◌∙◌, arith}
+use Rattle.std.proofs.Common.{[], ◌++◌, ◌+◌, ◌<◌, ◌∙◌, ◌∷◌, ◌≡◌, ap, arith, get_or, length, List, map, sym, take, ℕ}
+use Rattle.std.proofs.lemmas.List.{map-append, take_all, take_more}
 use Rattle.std.specs.Map.{keys_of}
-use Rattle.std.proofs.lemmas.List.{take_more, take_all, map-append}
-use Rattle.unit_name.specs.Names.{Name}
-use Rattle.inverse_deps.specs.Numbers.{name_at}
-use Rattle.inverse_deps.specs.NumberLaws.{key_at_place}
+use Rattle.unit_graph.proofs.Prelude.{key_at_place, Name, name_at}
 use Rattle.unit_graph.proofs.reaches.named_distances.Goals as goal
 
 pub loop-pair-init : goal.loop-pair-init

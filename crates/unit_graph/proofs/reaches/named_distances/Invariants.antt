@@ -1,5 +1,5 @@
 use Rattle.std.proofs.Common.{◌≡◌, map, take}
-use Rattle.inverse_deps.specs.Numbers.{name_at}
+use Rattle.unit_graph.proofs.Prelude.{name_at}
 use Rattle.unit_graph.proofs.reaches.named_distances.Given as goal
 
 abbrev pub invariant-loop-pair : goal.invariant-loop-pair

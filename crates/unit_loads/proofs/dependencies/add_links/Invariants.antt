@@ -1,5 +1,5 @@
-use Rattle.std.proofs.Common.{◌≡◌, ◌++◌}
-use Rattle.unit_loads.specs.Units.{linked_by, link_notes}
+use Rattle.std.proofs.Common.{◌++◌, ◌≡◌}
+use Rattle.unit_loads.proofs.Prelude.{link_notes, linked_by}
 use Rattle.unit_loads.proofs.dependencies.add_links.Given as goal
 
 abbrev pub invariant-loop-link : goal.invariant-loop-link

@@ -1,4 +1,4 @@
-use Rattle.std.proofs.Common.{◌≡◌, ◌∙◌, arith}
+use Rattle.std.proofs.Common.{◌∙◌, ◌≡◌, arith}
 use Rattle.unit_loads.proofs.Linked.{list_count, lists_linked_at}
 use Rattle.unit_loads.proofs.dependencies.named_units.Goals as goal
 

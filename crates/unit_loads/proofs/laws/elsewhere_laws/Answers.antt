@@ -1,4 +1,4 @@
-use Rattle.unit_loads.specs.ElsewhereLaws.{elsewhere_changes_nothing, near_paths_decide}
+use Rattle.unit_loads.proofs.Prelude.{elsewhere_changes_nothing, near_paths_decide}
 use Rattle.unit_loads.proofs.laws.elsewhere_laws.Goals as goal
 
 pub returns : goal.returns

@@ -1,5 +1,5 @@
-use Rattle.unit_loads.specs.FootprintLaws.{agree_seen, footprints_decide, store_footprints_decide}
+use Rattle.unit_loads.proofs.Prelude.{agree_viewed, footprints_decide, store_footprints_decide}
 use Rattle.unit_loads.proofs.laws.footprint_laws.Goals as goal
 
 pub returns : goal.returns
-returns c = record { units = footprints_decide; stores = store_footprints_decide; seen = agree_seen }
+returns c = record { units = footprints_decide; stores = store_footprints_decide; view = agree_viewed }

@@ -1,4 +1,4 @@
-use Rattle.unit_loads.specs.TypeLaws.{units_have_one_type}
+use Rattle.unit_loads.proofs.Prelude.{units_have_one_type}
 use Rattle.unit_loads.proofs.laws.one_type.Goals as goal
 
 pub returns : goal.returns

@@ -1,4 +1,4 @@
-use Rattle.unit_loads.specs.UnitLaws.{one_unit}
+use Rattle.unit_loads.proofs.Prelude.{one_unit}
 use Rattle.unit_loads.proofs.laws.one_unit.Goals as goal
 
 pub returns : goal.returns

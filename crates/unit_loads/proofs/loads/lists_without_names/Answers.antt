@@ -1,7 +1,6 @@
-use Rattle.std.proofs.Common.{[], ap, map, ◌∙◌}
+use Rattle.std.proofs.Common.{[], ◌∙◌, ap, map}
 use Rattle.std.proofs.lemmas.List.{take_all}
-use Rattle.setting_rules.specs.declared.dependency_lists.DependencyList.{DependencyList}
-use Rattle.setting_rules.specs.declared.kinds.DepKind.{DepKind}
+use Rattle.unit_loads.proofs.Prelude.{DependencyList, DepKind}
 use Rattle.unit_loads.proofs.loads.lists_without_names.Goals as goal
 
 pub returns : goal.returns

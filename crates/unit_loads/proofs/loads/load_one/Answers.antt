@@ -1,10 +1,8 @@
 use Rattle.std.proofs.Common.{◌∙◌, ap, sym}
-use Rattle.fragment_choice.specs.declared.resolutions.Resolution.{Resolution}
-use Rattle.fragment_choice.specs.ResolutionLaws.{mains_are_their_own}
-use Rattle.fragment_choice.specs.Resolutions.{resolution}
+use Rattle.unit_loads.proofs.Prelude.{mains_are_their_own, Resolution, resolution}
 use Rattle.unit_loads.proofs.loads.load_one.Goals as goal
 
--- a main name is its own, and the same stands for it
+-- a main name is its own main name, with the same choice
 pub load_resolved-requires : goal.load_resolved-requires
 load_resolved-requires c =
     let s = c.in_ok-index.index in

@@ -1,8 +1,7 @@
-use Rattle.std.proofs.Common.{◌++◌, ◌∙◌, List, ℕ, ap, sym, eqb-true}
-use Rattle.std.specs.Option.{option_map}
+use Rattle.std.proofs.Common.{◌++◌, ◌∙◌, ap, eqb-true, List, sym, ℕ}
 use Rattle.std.proofs.lemmas.List.{nil_from_length}
-use Rattle.unit_name.specs.Escapes.{unescape}
-use Rattle.unit_name.specs.EscapeLaws.{unescape-nil}
+use Rattle.std.specs.Option.{option_map}
+use Rattle.unit_name.proofs.Prelude.{unescape, unescape-nil}
 use Rattle.unit_name.proofs.Steps.{all_there}
 use Rattle.unit_name.proofs.escapes.push_unescaped.Goals as goal
 

@@ -1,9 +1,9 @@
-use Rattle.std.proofs.Common.{◌≡◌, ◌++◌, List, ℕ, length}
+use Rattle.std.proofs.Common.{◌++◌, ◌≡◌, length, List, ℕ}
 use Rattle.std.specs.Option.{option_map}
-use Rattle.unit_name.specs.Escapes.{unescape}
+use Rattle.unit_name.proofs.Prelude.{unescape}
 use Rattle.unit_name.proofs.escapes.push_unescaped.Given as goal
 
--- what is there, before what the rest spells, is what was there before all that is spelled
+-- what was appended, followed by what the rest spells, is the old output followed by everything that the text spells
 abbrev pub invariant-loop-rest : goal.invariant-loop-rest
 invariant-loop-rest l = option_map (λ (v : List ℕ). l.out.items ++ v) (unescape l.rest) ≡ option_map (λ (v : List ℕ). l.initial.out.items ++ v) (unescape l.text)
 

@@ -1,7 +1,6 @@
-use Rattle.std.proofs.Common.{◌∙◌, is_some, ap, sym, eqb-true}
+use Rattle.std.proofs.Common.{◌∙◌, ap, eqb-true, is_some, sym}
 use Rattle.std.proofs.lemmas.List.{nil_from_length}
-use Rattle.unit_name.specs.Escapes.{unescape}
-use Rattle.unit_name.specs.EscapeLaws.{unescape-nil}
+use Rattle.unit_name.proofs.Prelude.{unescape, unescape-nil}
 use Rattle.unit_name.proofs.escapes.spells_bytes.Goals as goal
 
 pub returns : goal.returns

@@ -1,8 +1,8 @@
-use Rattle.std.proofs.Common.{◌≡◌, length, is_some}
-use Rattle.unit_name.specs.Escapes.{unescape}
+use Rattle.std.proofs.Common.{◌≡◌, is_some, length}
+use Rattle.unit_name.proofs.Prelude.{unescape}
 use Rattle.unit_name.proofs.escapes.spells_bytes.Given as goal
 
--- the rest spells bytes just where the whole text does
+-- the rest is valid exactly if the whole text is
 abbrev pub invariant-loop-rest : goal.invariant-loop-rest
 invariant-loop-rest l = is_some (unescape l.rest) ≡ is_some (unescape l.text)
 

@@ -1,4 +1,4 @@
-use Rattle.unit_name.specs.EscapeLaws.{escapes_are_undone, escapes_differ, escapes_are_spellings, escapes_are_instances}
+use Rattle.unit_name.proofs.Prelude.{escapes_are_instances, escapes_are_spellings, escapes_are_undone, escapes_differ}
 use Rattle.unit_name.proofs.laws.escape_laws.Goals as goal
 
 pub returns-clause-undone : goal.returns-clause-undone

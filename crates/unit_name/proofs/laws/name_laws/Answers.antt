@@ -1,4 +1,4 @@
-use Rattle.unit_name.specs.NameLaws.{names_are_made, parts_make_names, parts_of_names_fit, names_are_their_parts, prefixes_may_be_cut}
+use Rattle.unit_name.proofs.Prelude.{names_are_made, names_are_their_parts, parts_make_names, parts_of_names_fit, prefixes_may_be_cut}
 use Rattle.unit_name.proofs.laws.name_laws.Goals as goal
 
 pub returns-clause-made : goal.returns-clause-made

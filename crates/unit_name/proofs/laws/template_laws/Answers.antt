@@ -1,4 +1,4 @@
-use Rattle.unit_name.specs.NameLaws.{templates_keep_parts, instances_have_the_template}
+use Rattle.unit_name.proofs.Prelude.{instances_have_the_template, templates_keep_parts}
 use Rattle.unit_name.proofs.laws.template_laws.Goals as goal
 
 pub returns-clause-templates : goal.returns-clause-templates

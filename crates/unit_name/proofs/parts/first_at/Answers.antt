@@ -1,6 +1,5 @@
-use Rattle.std.proofs.Common.{◌∙◌, ap, length}
-use Rattle.std.specs.Option.{unwrap_or}
-use Rattle.unit_name.specs.Names.{is_at}
+use Rattle.std.proofs.Common.{◌∙◌, ap, length, unwrap_or}
+use Rattle.unit_name.proofs.Prelude.{is_at}
 use Rattle.unit_name.proofs.Steps.{unwrap_or-position}
 use Rattle.unit_name.proofs.parts.first_at.Goals as goal
 

@@ -1,8 +1,7 @@
-use Rattle.std.proofs.Common.{◌∙◌, Some, is_some, [], ◌∷◌, ap, sym, refl}
+use Rattle.std.proofs.Common.{[], ◌∙◌, ◌∷◌, ap, is_some, refl, Some, sym}
 use Rattle.std.proofs.lemmas.List.{nil_from_length}
-use Rattle.unit_name.specs.Specifiers.{specifier, expand}
-use Rattle.unit_name.specs.SpecifierLaws.{expand-nil, expand-last}
-use Rattle.unit_name.proofs.Steps.{pair_expands, byte_expands, is_some-put_before, is_some-put_nothing}
+use Rattle.unit_name.proofs.Prelude.{expand, expand-last, expand-nil, specifier}
+use Rattle.unit_name.proofs.Steps.{byte_expands, is_some-put_before, is_some-put_nothing, pair_expands}
 use Rattle.unit_name.proofs.specifiers.can_expand.Goals as goal
 
 pub returns-in_default-split_first : goal.returns-in_default-split_first

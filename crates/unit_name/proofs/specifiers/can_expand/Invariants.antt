@@ -1,8 +1,8 @@
-use Rattle.std.proofs.Common.{◌≡◌, length, is_some}
-use Rattle.unit_name.specs.Specifiers.{expand}
+use Rattle.std.proofs.Common.{◌≡◌, is_some, length}
+use Rattle.unit_name.proofs.Prelude.{expand}
 use Rattle.unit_name.proofs.specifiers.can_expand.Given as goal
 
--- the rest can be expanded just where the whole value can
+-- the rest can be expanded exactly if the whole value can
 abbrev pub invariant-loop-byte : goal.invariant-loop-byte
 invariant-loop-byte l = is_some (expand l.rest l.name) ≡ is_some (expand l.value l.name)
 

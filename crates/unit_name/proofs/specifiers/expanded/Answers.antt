@@ -1,9 +1,8 @@
-use Rattle.std.proofs.Common.{◌≡◌, ◌++◌, ◌∷◌, ◌∙◌, [], Some, List, ℕ, ap, sym, append-nil}
-use Rattle.std.specs.Option.{option_map}
+use Rattle.std.proofs.Common.{[], ◌++◌, ◌∙◌, ◌∷◌, ◌≡◌, ap, append-nil, List, Some, sym, ℕ}
 use Rattle.std.proofs.lemmas.List.{nil_from_length}
-use Rattle.unit_name.specs.Specifiers.{expand, specifier, put_before}
-use Rattle.unit_name.specs.SpecifierLaws.{expand-nil}
-use Rattle.unit_name.proofs.Steps.{pushed_before, some_first, pair_expands, byte_expands, last_expands}
+use Rattle.std.specs.Option.{option_map}
+use Rattle.unit_name.proofs.Prelude.{expand, expand-nil, put_before, specifier}
+use Rattle.unit_name.proofs.Steps.{byte_expands, last_expands, pair_expands, pushed_before, some_first}
 use Rattle.unit_name.proofs.specifiers.expanded.Goals as goal
 use Rattle.unit_name.proofs.specifiers.expanded.Goals.{in_default-split_first-via-in-Some-split_first+else-byte-eq37, in_default-split_first-via-in_default-split_first}
 

@@ -1,10 +1,9 @@
-use Rattle.std.proofs.Common.{◌≡◌, ◌∙◌, ◌<◌, ◌≤◌, ◌*◌, All, IfOk, length, vec_len, List, get_or, rules, subst, sym}
-use Rattle.std.specs.List.{flat_map}
-use Rattle.std.specs.Map.{keys_of}
+use Rattle.std.proofs.Common.{◌*◌, ◌<◌, ◌∙◌, ◌≡◌, ◌≤◌, All, get_or, IfOk, length, List, rules, subst, sym, vec_len}
 use Rattle.std.proofs.lemmas.List.Elements.{All-drop, All-take}
 use Rattle.std.proofs.lemmas.Result.{IfOk-weaker}
-use Rattle.name_closure.specs.Loading.{AreLoaded, AreOthers}
-use Rattle.worker_rounds.specs.Joined.{IsJoined}
+use Rattle.std.specs.List.{flat_map}
+use Rattle.std.specs.Map.{keys_of}
+use Rattle.worker_rounds.proofs.Prelude.{AreLoaded, AreOthers, IsJoined}
 use Rattle.worker_rounds.proofs.Naming.{joined_all, joined_others, part_holds, parts_cover}
 use Rattle.worker_rounds.proofs.workers.name_by_workers.Goals as goal
 

@@ -1,4 +1,4 @@
-use Rattle.world_law.specs.CutLaws.{whole_answer}
+use Rattle.world_law.proofs.Prelude.{whole_answer}
 use Rattle.world_law.proofs.laws.whole_answers.Goals as goal
 
 pub returns : goal.returns

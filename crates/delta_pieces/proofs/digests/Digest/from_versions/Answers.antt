@@ -1,4 +1,4 @@
-use Rattle.delta_pieces.proofs.Views.{entries-versions}
+use Rattle.delta_pieces.proofs.HostViews.{entries-versions}
 use Rattle.delta_pieces.proofs.digests.Digest.from_versions.Goals as goal
 
 pub returns : goal.returns

@@ -1,9 +1,7 @@
-use Rattle.std.proofs.Common.{Some, ap, sym, ◌∙◌}
+use Rattle.std.proofs.Common.{◌∙◌, ap, Some, sym}
+use Rattle.delta_pieces.proofs.Prelude.{find_at, find_gap, place_cmp, place_cmp_total}
+use Rattle.delta_pieces.proofs.HostViews.{get-versions}
 use Rattle.std.specs.FinMap as finmap
-use Rattle.load_places.specs.Places.{place_cmp}
-use Rattle.load_places.specs.PlaceLaws.{place_cmp_total}
-use Rattle.sorted_pairs.specs.PlaceLaws.{find_at, find_gap}
-use Rattle.delta_pieces.proofs.Views.{get-versions}
 use Rattle.delta_pieces.proofs.digests.Digest.get.Goals as goal
 
 pub returns-in-Ok : goal.returns-in-Ok

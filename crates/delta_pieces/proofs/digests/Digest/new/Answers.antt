@@ -1,5 +1,5 @@
-use Rattle.std.proofs.Common.{ap, ◌∙◌}
-use Rattle.delta_pieces.proofs.Views.{versions_map, no_versions}
+use Rattle.std.proofs.Common.{◌∙◌, ap}
+use Rattle.delta_pieces.proofs.HostViews.{no_versions, versions_map}
 use Rattle.delta_pieces.proofs.digests.Digest.new.Goals as goal
 
 pub returns : goal.returns

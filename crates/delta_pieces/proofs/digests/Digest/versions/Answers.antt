@@ -1,6 +1,6 @@
-use Rattle.std.proofs.Common.{ap, sym, ◌∙◌}
+use Rattle.std.proofs.Common.{◌∙◌, ap, sym}
+use Rattle.delta_pieces.proofs.HostViews.{entries-versions}
 use Rattle.std.specs.FinMap as finmap
-use Rattle.delta_pieces.proofs.Views.{entries-versions}
 use Rattle.delta_pieces.proofs.digests.Digest.versions.Goals as goal
 
 pub returns : goal.returns

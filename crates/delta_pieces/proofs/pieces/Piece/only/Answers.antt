@@ -1,5 +1,5 @@
-use Rattle.std.proofs.Common.{Some, ap, ◌∙◌}
-use Rattle.world_law.specs.Cuts.{cut, only_at}
+use Rattle.std.proofs.Common.{◌∙◌, ap, Some}
+use Rattle.delta_pieces.proofs.Prelude.{cut, only_at}
 use Rattle.delta_pieces.proofs.Gathers.{only_is_cut}
 use Rattle.delta_pieces.proofs.pieces.Piece.only.Goals as goal
 

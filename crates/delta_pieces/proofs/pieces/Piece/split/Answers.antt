@@ -1,6 +1,6 @@
-use Rattle.std.proofs.Common.{ap, ◌∙◌}
+use Rattle.std.proofs.Common.{◌∙◌, ap}
+use Rattle.delta_pieces.proofs.HostViews.{parts_are_whole}
 use Rattle.std.specs.FinMap as finmap
-use Rattle.delta_pieces.proofs.Views.{parts_are_whole}
 use Rattle.delta_pieces.proofs.pieces.Piece.split.Goals as goal
 
 pub returns-in-Ok-clause-joined : goal.returns-in-Ok-clause-joined

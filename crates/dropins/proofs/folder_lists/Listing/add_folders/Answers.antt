@@ -1,13 +1,12 @@
-use Rattle.std.proofs.Common.{arith, eq-eqb, ◌∙◌, ◌-◌, ap, sym, subst, take, fold, length}
-use Rattle.unit_name.specs.Names.{IsName}
-use Rattle.dropins.specs.FolderLists.{with_name, with_template, with_prefix}
-use Rattle.dropins.proofs.Cuts.{cut_taken, cut_left, front_is_name}
+use Rattle.std.proofs.Common.{◌-◌, ◌∙◌, ap, arith, eq-eqb, fold, length, subst, sym, take}
+use Rattle.dropins.proofs.Prelude.{IsName, with_name, with_prefix, with_template}
+use Rattle.dropins.proofs.Cuts.{cut_left, cut_taken, prefix_is_name}
 use Rattle.dropins.proofs.folder_lists.Listing.add_folders.Goals as goal
 
 pub cut_name-requires : goal.cut_name-requires
 cut_name-requires c = record {
-  lawful = subst (λ p. IsName (with_prefix c.args.name.now (take (c.loop-end.end - 1) p))) (sym c.prefix-prefix.ensures.prefix)
-      (front_is_name c.args.name.now (c.loop-end.end - 1) c.prefix-prefix.ensures.lawful (omega arith) (omega (arith, c.loop-end.invariant.0, ap length c.prefix-prefix.ensures.prefix)));
+  well_formed = subst (λ p. IsName (with_prefix c.args.name.now (take (c.loop-end.end - 1) p))) (sym c.prefix-prefix.ensures.prefix)
+      (prefix_is_name c.args.name.now (c.loop-end.end - 1) c.prefix-prefix.ensures.well_formed (omega arith) (omega (arith, c.loop-end.invariant.0, ap length c.prefix-prefix.ensures.prefix)));
 }
 
 pub loop-end-preserved-in_ok-add_with_template-2 : goal.loop-end-preserved-in_ok-add_with_template-2

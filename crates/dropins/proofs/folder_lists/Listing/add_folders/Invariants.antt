@@ -1,12 +1,11 @@
-use Rattle.std.proofs.Common.{◌≡◌, ◌≤◌, ◌-◌, length, fold}
+use Rattle.std.proofs.Common.{◌-◌, ◌≡◌, ◌≤◌, fold, length}
 use Rattle.std.specs.List.{flat_map}
-use Rattle.dropins.specs.FolderLists.{with_name, with_template, with_prefix, fronts}
-use Rattle.dropins.specs.Listings.{IsKept}
+use Rattle.dropins.proofs.Prelude.{IsKept, prefixes, with_name, with_prefix, with_template}
 use Rattle.dropins.proofs.folder_lists.Listing.add_folders.Given as goal
 
 abbrev pub invariant-loop-end : goal.invariant-loop-end
 invariant-loop-end l =
-    (l.end ≤ length l.prefix) × (fold with_name l.self.names.items (flat_map (λ p. with_template (with_prefix l.name p)) (fronts (l.end - 1) l.prefix)) ≡ fold with_name l.initial.self.names.items (flat_map (λ p. with_template (with_prefix l.name p)) (fronts (length l.prefix - 1) l.prefix))) × IsKept l.self
+    (l.end ≤ length l.prefix) × (fold with_name l.self.names.items (flat_map (λ p. with_template (with_prefix l.name p)) (prefixes (l.end - 1) l.prefix)) ≡ fold with_name l.initial.self.names.items (flat_map (λ p. with_template (with_prefix l.name p)) (prefixes (length l.prefix - 1) l.prefix))) × IsKept l.self
 
 abbrev pub decreases-loop-end : goal.decreases-loop-end
 decreases-loop-end l = l.end

@@ -1,5 +1,5 @@
-use Rattle.std.proofs.Common.{ap, sym, ◌∙◌}
-use Rattle.parallel_load.specs.Loads.{LoadMap}
+use Rattle.std.proofs.Common.{◌∙◌, ap, sym}
+use Rattle.fleet_answers.proofs.Prelude.{LoadMap}
 use Rattle.fleet_answers.proofs.Asked.{names_same}
 use Rattle.fleet_answers.proofs.remembered.Remembered.is_asked.Goals as goal
 

@@ -1,7 +1,6 @@
-use Rattle.std.proofs.Common.{Some, ap, sym, ◌∙◌}
+use Rattle.std.proofs.Common.{◌∙◌, ap, Some, sym}
 use Rattle.std.specs.Option.{option_copied}
-use Rattle.parallel_load.specs.Loads.{LoadMap}
-use Rattle.unit_name.specs.NameLaws.{name_eq-Decides}
+use Rattle.fleet_answers.proofs.Prelude.{LoadMap, name_eq-Decides}
 use Rattle.fleet_answers.proofs.remembered.Remembered.is_of.Goals as goal
 
 pub returns-in-Some-Some : goal.returns-in-Some-Some

@@ -1,18 +1,13 @@
 use Rattle.std.proofs.Common.{subst}
-use Rattle.path_maps.specs.Views.{view_of}
-use Rattle.parallel_load.specs.Loads.{LoadMap}
-use Rattle.edit_sums.specs.Sums.{EntryMap}
-use Rattle.fleet_answers.specs.Answers.{IsSnapshot, IsSnapshotOf}
-use Rattle.fleet_answers.specs.ShownLaws.{ShowTheSame, snapshots_stay}
-use Rattle.fleet_answers.proofs.Asked.{none_told, rest_is, same_shown, shown_elsewhere}
-use Rattle.fleet_answers.proofs.Held.{if_some}
+use Rattle.fleet_answers.proofs.Prelude.{EntryMap, host_view_of, IsSnapshot, IsSnapshotOf, LoadMap, ShowTheSame, snapshots_stay}
+use Rattle.fleet_answers.proofs.{Asked.none_returned, Asked.rest_is, Asked.same_shown, Asked.shown_elsewhere, Held.if_some}
 use Rattle.fleet_answers.proofs.remembered.Remembered.renewed.Goals as goal
 
 pub returns-then-is_empty-clause-snapshot : goal.returns-then-is_empty-clause-snapshot
 returns-then-is_empty-clause-snapshot c =
     let load : LoadMap = c.self.inside.snapshot in
-    let none = none_told c.in_ok-touched.touched c.is_empty.result c.is_empty.ensures c.if-is_empty.true in
-    subst (λ (own : LoadMap). IsSnapshot (view_of c.args.store.now own.host) own.extra load) c.self.view_is
+    let none = none_returned c.in_ok-touched.touched c.is_empty.result c.is_empty.ensures c.if-is_empty.true in
+    subst (λ (own : LoadMap). IsSnapshot (host_view_of c.args.store.now own.host) own.extra load) c.self.view_is
     (snapshots_stay c.self.inside.store c.args.store.now load.host load.extra load
     (same_shown c.args.store.now c.self.inside.store c.in_ok-touched.touched.items none c.in_ok-touched.ensures.exact) c.self.invariant)
 
@@ -25,8 +20,8 @@ refreshed-requires c = record {
   };
 }
 
-pub mirrored-kept_with-requires : goal.mirrored-kept_with-requires
-mirrored-kept_with-requires c = record {
+pub mirrored-cached_with-requires : goal.mirrored-cached_with-requires
+mirrored-cached_with-requires c = record {
   rest = rest_is c.args.store.now c.self.inside.store c.in_ok-touched.touched.items c.deref-2.result.now c.deref-2.ensures.value c.in_ok-touched.ensures.exact;
 }
 
@@ -36,4 +31,4 @@ returns-clause-own c =
     let load = c.in_ok-snapshot.snapshot in
     if_some (ShowTheSame c.args.store.now) (λ (own : EntryMap). IsSnapshotOf own load)
     (λ own same. shown_elsewhere c.args.store.now own was.host was.extra load same c.in_ok-snapshot.ensures.snapshot)
-    c.mirrored-kept_with.result c.mirrored-kept_with.ensures.same
+    c.mirrored-cached_with.result c.mirrored-cached_with.ensures.same

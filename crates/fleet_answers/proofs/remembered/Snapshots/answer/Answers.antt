@@ -1,6 +1,5 @@
-use Rattle.std.proofs.Common.{sym, subst}
-use Rattle.parallel_load.specs.Loads.{LoadMap}
-use Rattle.fleet_answers.specs.Answers.{AreKnown, names_asked}
+use Rattle.std.proofs.Common.{subst, sym}
+use Rattle.fleet_answers.proofs.Prelude.{AreKnown, LoadMap, names_asked}
 use Rattle.fleet_answers.proofs.remembered.Snapshots.answer.Goals as goal
 
 pub answer-requires-in-Err-clause-known : goal.answer-requires-in-Err-clause-known

@@ -1,6 +1,6 @@
-use Rattle.std.proofs.Common.{◌≡◌, ℕ, ap, ◌∙◌}
+use Rattle.std.proofs.Common.{◌∙◌, ◌≡◌, ap, ℕ}
 use Rattle.std.specs.Option.{option_copied}
-use Rattle.parallel_load.specs.Loads.{LoadMap}
+use Rattle.fleet_answers.proofs.Prelude.{LoadMap}
 use Rattle.fleet_answers.proofs.Held.{if_some}
 use Rattle.fleet_answers.proofs.remembered.Snapshots.take.Goals as goal
 

@@ -1,10 +1,6 @@
-use Rattle.std.proofs.Common.{sym, subst, ◌∙◌}
-use Rattle.parallel_load.specs.Loads.{LoadMap}
-use Rattle.unit_graph.specs.Graphs.{IsKnown}
-use Rattle.start_plan.specs.Requests.{IsOfGraph}
-use Rattle.fleet_answers.specs.Answers.{AreKnown, names_asked}
-use Rattle.fleet_answers.specs.declared.questions.Question.{Question}
-use Rattle.fleet_answers.proofs.Told.{known_one, of_graph}
+use Rattle.std.proofs.Common.{◌∙◌, subst, sym}
+use Rattle.fleet_answers.proofs.Prelude.{AreKnown, IsKnown, IsOfGraph, LoadMap, names_asked, Question}
+use Rattle.fleet_answers.proofs.Returned.{known_one, of_graph}
 use Rattle.fleet_answers.proofs.snapshots.Snapshot.answer.Goals as goal
 
 pub linked_unit-requires-clause-known : goal.linked_unit-requires-clause-known

@@ -1,11 +1,6 @@
-use Rattle.std.proofs.Common.{sym, subst}
-use Rattle.std.specs.Option.{IfSome}
-use Rattle.inverse_deps.specs.AskedLaws.{asking_makes_no_edges}
-use Rattle.inverse_deps.specs.Edges.{AreEdges}
-use Rattle.inverse_deps.specs.LinkLaws.{asking_makes_no_links}
-use Rattle.inverse_deps.specs.Links.{AreLinks}
-use Rattle.parallel_load.specs.AskedLaws.{asked_for}
-use Rattle.parallel_load.specs.Loads.{LoadMap}
+use Rattle.std.proofs.Common.{subst, sym}
+use Rattle.std.specs.Prelude.{IfSome}
+use Rattle.fleet_answers.proofs.Prelude.{AreEdges, AreLinks, asked_for, asking_makes_no_edges, asking_makes_no_links, LoadMap}
 use Rattle.fleet_answers.proofs.Held.{if_some}
 use Rattle.fleet_answers.proofs.snapshots.Snapshot.asked_for.Goals as goal
 

@@ -1,6 +1,6 @@
-use Rattle.std.proofs.Common.{rules, Ok, Err, sym, refl}
+use Rattle.std.proofs.Common.{Err, Ok, refl, rules, sym}
 use Rattle.std.proofs.lemmas.Result.{IfOk-weaker}
-use Rattle.fleet_script.specs.Holds.{kept_in}
+use Rattle.fleet_script.proofs.Prelude.{kept_in}
 use Rattle.fleet_script.proofs.Lines.{answered_line}
 use Rattle.fleet_script.proofs.states.Shell.answer_line.Goals as goal
 

@@ -1,7 +1,6 @@
-use Rattle.script_answers.specs.Files.{TellsFiles}
-use Rattle.fleet_script.specs.Holds.{kept_in}
+use Rattle.fleet_script.proofs.Prelude.{kept_in, RendersFiles}
 use Rattle.fleet_script.proofs.Goes.{reads}
 use Rattle.fleet_script.proofs.states.Shell.cat.Goals as goal
 
 pub returns : goal.returns
-returns c = record { done = reads (kept_in c.args.self.now) c.tell_files.result c.args.node.now c.in_ok-replica.replica.now c.store.result.now (TellsFiles c.args.host c.args.unit.now) c.in_ok-replica.ensures.found c.store.ensures.store c.tell_files.ensures.told }
+returns c = record { done = reads (kept_in c.args.self.now) c.render_files.result c.args.node.now c.in_ok-replica.replica.now c.store.result.now (RendersFiles c.args.host c.args.unit.now) c.in_ok-replica.ensures.found c.store.ensures.store c.render_files.ensures.rendered }

@@ -1,7 +1,6 @@
-use Rattle.std.proofs.Common.{rules, Ok, sym, ap, ◌∙◌}
-use Rattle.fleet_script.specs.Holds.{kept_in}
+use Rattle.std.proofs.Common.{◌∙◌, ap, Ok, rules, sym}
+use Rattle.fleet_script.proofs.Prelude.{Cat, Crowd, Files, kept_in, Link, ListUnits, Merge, Node, Part, Plan, Put, Remove, Same, Send, Show, Sweep, Workers}
 use Rattle.fleet_script.proofs.Lines.{executed}
-use Rattle.script_commands.specs.declared.commands.Command.TheVariants.{Node, Put, Link, Remove, Merge, Part, Send, Sweep, Files, Cat, Show, List as ListUnits, Plan, Workers, Same, Crowd}
 use Rattle.fleet_script.proofs.states.Shell.execute.Goals as goal
 
 pub returns-in-Node : goal.returns-in-Node

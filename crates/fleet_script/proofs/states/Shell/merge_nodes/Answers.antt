@@ -1,6 +1,5 @@
-use Rattle.std.proofs.Common.{◌<◌, length, get_or, arith, ap, ◌∙◌}
-use Rattle.replica_store.specs.Replicas.{Replicated}
-use Rattle.fleet_script.specs.Holds.{kept_in}
+use Rattle.std.proofs.Common.{◌<◌, ◌∙◌, ap, arith, get_or, length}
+use Rattle.fleet_script.proofs.Prelude.{kept_in, Replicated}
 use Rattle.fleet_script.proofs.Between.{joined_in, joined_itself, merged_at, none_changed}
 use Rattle.fleet_script.proofs.states.Shell.merge_nodes.Goals as goal
 

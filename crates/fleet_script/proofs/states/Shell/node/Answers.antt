@@ -1,6 +1,5 @@
-use Rattle.std.proofs.Common.{◌≡◌, length, arith, refl, sym, ap, ◌∙◌}
-use Rattle.replica_store.specs.Replicas.{Replicated}
-use Rattle.fleet_script.specs.Holds.{kept_in}
+use Rattle.std.proofs.Common.{◌∙◌, ◌≡◌, ap, arith, length, refl, sym}
+use Rattle.fleet_script.proofs.Prelude.{kept_in, Replicated}
 use Rattle.fleet_script.proofs.Goes.{is_none, key_updated, made, number_added}
 use Rattle.fleet_script.proofs.states.Shell.node.Goals as goal
 

@@ -1,17 +1,14 @@
-use Rattle.std.proofs.Common.{Ok, refl, ap, ◌∙◌}
-use Rattle.script_answers.specs.Texts.{entries_line}
-use Rattle.fleet_script.specs.Does.{AtNode, AtPlaces, PartsAt}
-use Rattle.fleet_script.specs.Holds.{kept_in}
-use Rattle.fleet_script.proofs.Between.{any_node, parts}
-use Rattle.fleet_script.proofs.Goes.{key_updated, with_node, with_all_written}
+use Rattle.std.proofs.Common.{◌∙◌, ap, Ok, refl}
+use Rattle.fleet_script.proofs.Prelude.{AtNode, AtPlaces, entries_line, kept_in, PartsAt}
+use Rattle.fleet_script.proofs.{Between.any_node, Between.parts, Goes.key_updated, Goes.with_all_written, Goes.with_node}
 use Rattle.fleet_script.proofs.states.Shell.part.Goals as goal
 
 pub returns-clause-done : goal.returns-clause-done
 returns-clause-done c =
     let shell = kept_in c.args.self.now in
-    let told = Ok c.in_ok-text.text in
-    with_node shell _ told c.args.from.now c.in_ok-from.from (λ j old outcome new. AtNode old outcome new c.args.to.now (λ k. AtPlaces old outcome new c.args.places (λ places. PartsAt old outcome new c.args.piece.now j k places))) c.in_ok-from.ensures.found
-    (with_node shell _ told c.args.to.now c.in_ok-to.to (λ k old outcome new. AtPlaces old outcome new c.args.places (λ places. PartsAt old outcome new c.args.piece.now c.in_ok-from.from k places)) c.in_ok-to.ensures.found
-    (with_all_written shell _ told c.args.places c.in_ok-places.places.items (λ places old outcome new. PartsAt old outcome new c.args.piece.now c.in_ok-from.from c.in_ok-to.to places) c.in_ok-places.ensures.read
+    let rendered = Ok c.in_ok-text.text in
+    with_node shell _ rendered c.args.from.now c.in_ok-from.from (λ j old outcome new. AtNode old outcome new c.args.to.now (λ k. AtPlaces old outcome new c.args.places (λ places. PartsAt old outcome new c.args.piece.now j k places))) c.in_ok-from.ensures.found
+    (with_node shell _ rendered c.args.to.now c.in_ok-to.to (λ k old outcome new. AtPlaces old outcome new c.args.places (λ places. PartsAt old outcome new c.args.piece.now c.in_ok-from.from k places)) c.in_ok-to.ensures.found
+    (with_all_written shell _ rendered c.args.places c.in_ok-places.places.items (λ places old outcome new. PartsAt old outcome new c.args.piece.now c.in_ok-from.from c.in_ok-to.to places) c.in_ok-places.ensures.read
     (parts shell _ c.args.piece.now c.in_ok-from.from c.in_ok-to.to any_node c.in_ok-places.places.items c.in_ok-cut.cut c.in_ok-text.text c.in_ok-from.ensures.within c.in_ok-to.ensures.within
     (rw c.deref.ensures.value at c.in_ok-cut.ensures.cut) refl refl refl (λ other. key_updated c.args.piece.now c.in_ok-from_slice.field-0 other _ _ _ _ c.in_ok-from_slice.ensures.copy refl ((c.in_ok-insert.ensures.updates).0 other)) (c.in_ok-text.ensures.line ∙ ap entries_line c.len.ensures.len))))

@@ -1,9 +1,6 @@
-use Rattle.std.proofs.Common.{Ok, Err, List, subst, sym}
-use Rattle.replica_store.specs.Replicas.{Replicated}
-use Rattle.fleet_script.specs.Does.{Removes, RemovesAt}
-use Rattle.fleet_script.specs.Holds.{Goes, kept_in}
-use Rattle.fleet_script.proofs.Goes.{remove_refused, removed, set_again, with_site}
-use Rattle.fleet_script.proofs.Nodes.{slice_get_at}
+use Rattle.std.proofs.Common.{Err, List, Ok, subst, sym}
+use Rattle.fleet_script.proofs.Prelude.{Goes, kept_in, Removes, RemovesAt, Replicated}
+use Rattle.fleet_script.proofs.{Goes.remove_refused, Goes.removed, Goes.set_again, Goes.with_site, Nodes.slice_get_at}
 use Rattle.fleet_script.proofs.states.Shell.remove.Goals as goal
 
 pub returns-in-Err-clause-done : goal.returns-in-Err-clause-done

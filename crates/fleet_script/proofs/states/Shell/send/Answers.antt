@@ -1,5 +1,5 @@
-use Rattle.std.proofs.Common.{Some, sym, ap, ◌∙◌}
-use Rattle.fleet_script.specs.Holds.{kept_in}
+use Rattle.std.proofs.Common.{◌∙◌, ap, Some, sym}
+use Rattle.fleet_script.proofs.Prelude.{kept_in}
 use Rattle.fleet_script.proofs.Between.{given}
 use Rattle.fleet_script.proofs.states.Shell.send.Goals as goal
 

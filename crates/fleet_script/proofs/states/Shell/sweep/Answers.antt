@@ -1,6 +1,6 @@
-use Rattle.std.proofs.Common.{◌≡◌, length, ◌∙◌, arith}
+use Rattle.std.proofs.Common.{◌∙◌, ◌≡◌, arith, length}
 use Rattle.std.proofs.lemmas.List.{take_at}
-use Rattle.fleet_script.specs.Holds.{kept_in}
+use Rattle.fleet_script.proofs.Prelude.{kept_in}
 use Rattle.fleet_script.proofs.Sweeps.{sweep_done}
 use Rattle.fleet_script.proofs.states.Shell.sweep.Goals as goal
 

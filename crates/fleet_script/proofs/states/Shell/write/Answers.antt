@@ -1,9 +1,6 @@
-use Rattle.std.proofs.Common.{◌<◌, Err, List, length, subst, sym, arith}
-use Rattle.replica_store.specs.Replicas.{Replicated}
-use Rattle.fleet_script.specs.Does.{Writes}
-use Rattle.fleet_script.specs.Holds.{Goes, kept_in}
-use Rattle.fleet_script.proofs.Goes.{set_again, write_refused, wrote}
-use Rattle.fleet_script.proofs.Nodes.{slice_get_at}
+use Rattle.std.proofs.Common.{◌<◌, arith, Err, length, List, subst, sym}
+use Rattle.fleet_script.proofs.Prelude.{Goes, kept_in, Replicated, Writes}
+use Rattle.fleet_script.proofs.{Goes.set_again, Goes.write_refused, Goes.wrote, Nodes.slice_get_at}
 use Rattle.fleet_script.proofs.states.Shell.write.Goals as goal
 
 pub returns-in-Err-clause-done : goal.returns-in-Err-clause-done

@@ -1,7 +1,6 @@
-use Rattle.std.proofs.Common.{◌≡◌, Some, true, false, ap, sym, ◌∙◌}
+use Rattle.std.proofs.Common.{◌∙◌, ◌≡◌, ap, false, Some, sym, true}
 use Rattle.std.proofs.lemmas.Result.{on_ok_weaker}
-use Rattle.unit_name.specs.Names.{instance}
-use Rattle.unit_name.specs.Forms.{with_instance}
+use Rattle.fragment_choice.proofs.Prelude.{instance, with_instance}
 use Rattle.fragment_choice.proofs.Levels.{gathers_instance, leads_elsewhere}
 use Rattle.fragment_choice.proofs.aliases.AliasIndex.add_instance.Goals as goal
 
@@ -23,6 +22,6 @@ returns c =
     record {
       gathered =
           on_ok_weaker c.put.result
-          (λ e. gathers_instance c.args.self.now c.args.name.now c.args.template.now c.in-Some.instance c.args.others.now.keys c.put.new.others.keys c.with_instance.ensures.lawful made (c.in_ok-leads.ensures.test.0 c.if-not-branch.false) e)
+          (λ e. gathers_instance c.args.self.now c.args.name.now c.args.template.now c.in-Some.instance c.args.others.now.keys c.put.new.others.keys c.with_instance.ensures.well_formed made (c.in_ok-leads.ensures.test.0 c.if-not-branch.false) e)
           c.put.ensures.put;
     }

@@ -1,7 +1,6 @@
-use Rattle.std.proofs.Common.{◌+◌, take, arith}
-use Rattle.fragment_choice.specs.Indexes.{IsLeadingInstance, IsLeadingInstanceOfAny}
-use Rattle.fragment_choice.proofs.Gathering.{gathers_none}
-use Rattle.fragment_choice.proofs.Levels.{gathers_more, gathers_each}
+use Rattle.std.proofs.Common.{◌+◌, arith, take}
+use Rattle.fragment_choice.proofs.Prelude.{IsLeadingInstance, IsLeadingInstanceOfAny}
+use Rattle.fragment_choice.proofs.{Gathering.gathers_none, Levels.gathers_each, Levels.gathers_more}
 use Rattle.fragment_choice.proofs.aliases.AliasIndex.gather_instances.Goals as goal
 
 pub loop-owner-init : goal.loop-owner-init

@@ -1,4 +1,4 @@
-use Rattle.std.proofs.Common.{sym, ◌∙◌}
+use Rattle.std.proofs.Common.{◌∙◌, sym}
 use Rattle.fragment_choice.proofs.Levels.{leads_if}
 use Rattle.fragment_choice.proofs.aliases.AliasIndex.leads.Goals as goal
 

@@ -1,8 +1,6 @@
-use Rattle.std.proofs.Common.{Some, ap, sym, ◌∙◌}
+use Rattle.std.proofs.Common.{◌∙◌, ap, Some, sym}
 use Rattle.std.specs.Cmp.Lexicographic.{nat_list_cmp_total}
-use Rattle.sorted_pairs.specs.PlaceLaws.{find_at, find_gap}
-use Rattle.unit_name.specs.Names.{name_cmp}
-use Rattle.inverse_deps.specs.Edges.{EdgeMap, list_at, names_in}
+use Rattle.inverse_deps.proofs.Prelude.{EdgeMap, find_at, find_gap, list_at, name_cmp, names_in}
 use Rattle.inverse_deps.proofs.lists.Edges.of.Goals as goal
 
 pub returns-in-Ok : goal.returns-in-Ok

@@ -1,4 +1,4 @@
-use Rattle.join_law.specs.MapLaws.{entry_held}
+use Rattle.join_law.proofs.Prelude.{entry_held}
 use Rattle.join_law.proofs.additions.AddAtAddition.into_value.Goals as goal
 
 pub returns-in_ok-of_pair-in-Some-clause-held : goal.returns-in_ok-of_pair-in-Some-clause-held

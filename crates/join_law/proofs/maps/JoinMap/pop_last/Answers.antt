@@ -1,4 +1,4 @@
-use Rattle.join_law.proofs.Ends.{popped_is_map, popped_is_held}
+use Rattle.join_law.proofs.Ends.{popped_is_held, popped_is_map}
 use Rattle.join_law.proofs.maps.JoinMap.pop_last.Goals as goal
 
 pub invariant_of-self : goal.invariant_of-self

@@ -1,7 +1,5 @@
 use Rattle.std.proofs.Common.{subst}
-use Rattle.join_law.specs.Order.{IsLeast}
-use Rattle.join_law.specs.VersionOrder.{IsUpTo}
-use Rattle.join_law.specs.VersionedLaws.{not_least}
+use Rattle.join_law.proofs.Prelude.{IsLeast, IsUpTo, not_least}
 use Rattle.join_law.proofs.versions.VersionedJoin.is_bottom.Goals as goal
 
 pub returns-in-At-clause-least : goal.returns-in-At-clause-least

@@ -1,6 +1,6 @@
-use Rattle.std.proofs.Common.{sym, ap, ◌∙◌}
-use Rattle.load_path.specs.Paths.{path_of, path_within}
-use Rattle.load_path.specs.TextLaws.{located_sound}
+use Rattle.std.proofs.Common.{◌∙◌, ap, sym}
+use Rattle.load_path.proofs.Prelude.{located_sound, path_within}
+use Rattle.load_path.specs.Paths.{path_of}
 use Rattle.load_path.proofs.texts.Parts.of.Goals as goal
 
 pub below-requires : goal.below-requires

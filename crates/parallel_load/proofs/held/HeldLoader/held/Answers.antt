@@ -1,7 +1,5 @@
-use Rattle.std.proofs.Common.{subst}
-use Rattle.std.specs.List.{All}
-use Rattle.path_maps.specs.Views.{View}
-use Rattle.parallel_load.specs.Refreshes.{IsHeldOn}
+use Rattle.std.proofs.Common.{All, subst}
+use Rattle.parallel_load.proofs.Prelude.{HostViewMap, IsHeldOn}
 use Rattle.parallel_load.proofs.Staying.{held_is}
 use Rattle.parallel_load.proofs.held.HeldLoader.held.Goals as goal
 
@@ -9,5 +7,5 @@ pub returns-in-Ok : goal.returns-in-Ok
 returns-in-Ok c = record {
   loaded =
       held_is c.args.self.now c.args.name.now c.self.inside.held.items c.in-Ok.at c.index.result.now c.as_ref.result (rw c.deref.ensures.value at c.in-Ok.ensures.found) c.index.ensures
-      (subst (λ (v : View). All (IsHeldOn v) c.self.inside.held.items) c.self.view_is c.self.invariant.loaded) c.as_ref.ensures.value;
+      (subst (λ (v : HostViewMap). All (IsHeldOn v) c.self.inside.held.items) c.self.view_is c.self.invariant.loaded) c.as_ref.ensures.value;
 }

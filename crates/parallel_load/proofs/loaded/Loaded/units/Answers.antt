@@ -1,7 +1,6 @@
-use Rattle.std.proofs.Common.{Some, map, ap, sym, ◌∙◌, Bor}
+use Rattle.std.proofs.Common.{◌∙◌, ap, Bor, map, Some, sym}
 use Rattle.std.proofs.lemmas.List.{map-append}
-use Rattle.unit_loads.specs.declared.units.Unit.{Unit as LoadedUnit}
-use Rattle.parallel_load.specs.Loads.{unit_part}
+use Rattle.parallel_load.proofs.Prelude.{LoadedUnit, unit_part}
 use Rattle.parallel_load.proofs.Steps.{made_none, made_one}
 use Rattle.parallel_load.proofs.loaded.Loaded.units.Goals as goal
 use Rattle.parallel_load.proofs.loaded.Loaded.units.Goals.{in-Unit+in_ok-push, in_default}

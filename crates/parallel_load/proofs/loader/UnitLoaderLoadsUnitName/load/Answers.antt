@@ -1,13 +1,6 @@
-use Rattle.std.proofs.Common.{◌≡◌, true, false, ap, sym, ◌∙◌, subst}
+use Rattle.std.proofs.Common.{◌∙◌, ◌≡◌, ap, false, subst, sym, true}
 use Rattle.std.proofs.lemmas.Result.{IfOk-weaker}
-use Rattle.unit_name.specs.Names.{Name}
-use Rattle.unit_name.specs.NameLaws.{name_eq-Decides}
-use Rattle.fragment_choice.specs.declared.resolutions.Resolution.{Resolution}
-use Rattle.fragment_choice.specs.Resolutions.{resolution}
-use Rattle.fragment_choice.specs.ResolutionLaws.{mains_are_their_own}
-use Rattle.unit_loads.specs.Units.{IsUnit}
-use Rattle.parallel_load.specs.declared.loaded.NameLoad.TheVariants.{Unit as OfUnit}
-use Rattle.parallel_load.specs.Alone.{IsAliasOf, IsLoadAlone}
+use Rattle.parallel_load.proofs.Prelude.{IsAliasOf, IsLoadAlone, IsUnit, mains_are_their_own, Name, name_eq-Decides, OfUnit, Resolution, resolution}
 use Rattle.parallel_load.proofs.loader.UnitLoaderLoadsUnitName.load.Goals as goal
 
 differ : false ≡ true → ⊥

@@ -1,4 +1,4 @@
-use Rattle.path_maps.proofs.LeftBehind.{first_names, more_folders}
+use Rattle.path_maps.proofs.LeftAfter.{first_names, more_folders}
 use Rattle.path_maps.proofs.entries.FoldersLeftCursorNamesLeft.next.Goals as goal
 
 pub invariant_of-result : goal.invariant_of-result

@@ -1,8 +1,7 @@
-use Rattle.std.proofs.Common.{ap, ◌∙◌}
+use Rattle.std.proofs.Common.{◌∙◌, ap}
 use Rattle.std.specs.List.{flat_map}
-use Rattle.path_maps.specs.PathMaps.{RankMap}
-use Rattle.path_maps.specs.Cursors.{by_rank}
-use Rattle.path_maps.proofs.LeftBehind.{ranks_listed}
+use Rattle.path_maps.proofs.Prelude.{by_rank, RankMap}
+use Rattle.path_maps.proofs.LeftAfter.{ranks_listed}
 use Rattle.path_maps.proofs.entries.PathEntries.of_ranks.Goals as goal
 
 pub returns : goal.returns

@@ -1,4 +1,4 @@
-use Rattle.path_maps.proofs.LeftBehind.{first_folders, more_ranks}
+use Rattle.path_maps.proofs.LeftAfter.{first_folders, more_ranks}
 use Rattle.path_maps.proofs.entries.RanksLeftCursorFoldersLeft.next.Goals as goal
 
 pub invariant_of-result : goal.invariant_of-result

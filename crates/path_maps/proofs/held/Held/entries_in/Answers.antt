@@ -1,12 +1,12 @@
 use Rattle.std.proofs.Common.{◌∙◌}
 use Rattle.std.specs.Option.{option_copied}
-use Rattle.join_law.specs.Maps.{or_empty}
-use Rattle.path_maps.proofs.LookUps.{found_entries, found_lawful_paths}
+use Rattle.path_maps.proofs.Prelude.{or_empty}
+use Rattle.path_maps.proofs.LookUps.{found_entries, found_well_formed_paths}
 use Rattle.path_maps.proofs.held.Held.entries_in.Goals as goal
 
 pub of_folder-requires : goal.of_folder-requires
 of_folder-requires c = record {
-  paths = found_lawful_paths (or_empty (option_copied c.self.inside.ranks)) c.args.rank c.args.folder.now c.self.invariant c.folder_at.result c.folder_at.ensures.found;
+  paths = found_well_formed_paths (or_empty (option_copied c.self.inside.ranks)) c.args.rank c.args.folder.now c.self.invariant c.folder_at.result c.folder_at.ensures.found;
 }
 
 pub returns : goal.returns

@@ -1,8 +1,7 @@
-use Rattle.std.proofs.Common.{ap, ◌∙◌}
+use Rattle.std.proofs.Common.{◌∙◌, ap}
 use Rattle.std.specs.List.{flat_map}
-use Rattle.path_maps.specs.PlaceMaps.{ScopeMap}
-use Rattle.path_maps.specs.Cursors.{by_scope}
-use Rattle.path_maps.proofs.LeftBehind.{scopes_listed}
+use Rattle.path_maps.proofs.Prelude.{by_scope, ScopeMap}
+use Rattle.path_maps.proofs.LeftAfter.{scopes_listed}
 use Rattle.path_maps.proofs.places.Entries.of_scopes.Goals as goal
 
 pub returns : goal.returns

@@ -1,4 +1,4 @@
-use Rattle.std.proofs.Common.{◌≡◌, ◌++◌, map, length}
+use Rattle.std.proofs.Common.{◌++◌, ◌≡◌, length, map}
 use Rattle.path_maps.proofs.places.Entries.places.Given as goal
 
 abbrev pub invariant-loop-placed : goal.invariant-loop-placed

@@ -1,10 +1,6 @@
-use Rattle.std.proofs.Common.{arith, ◌+◌, ap, subst, sym, ◌∙◌}
-use Rattle.std.specs.Prelude.{◌≤◌}
-use Rattle.edit_sums.specs.SumLaws.{store_below_refl, join-left}
-use Rattle.path_maps.proofs.Merges.{merged, merged_kept, merged_changes, part_kept, part_within, partly, rest_joined, rest_within, within_listed, within_fits, within_counted}
-use Rattle.path_maps.proofs.Rises.{join_known, nothing_changed}
-use Rattle.path_maps.specs.PlaceMaps.{all_held}
-use Rattle.path_maps.proofs.Singles.{single_scopes}
+use Rattle.std.proofs.Common.{◌+◌, ◌∙◌, ◌≤◌, ap, arith, subst, sym}
+use Rattle.path_maps.proofs.Prelude.{all_held, join-left, store_below_refl}
+use Rattle.path_maps.proofs.{Ascends.join_known, Ascends.nothing_changed, Merges.merged, Merges.merged_changes, Merges.merged_kept, Merges.part_kept, Merges.part_within, Merges.partly, Merges.rest_joined, Merges.rest_within, Merges.within_counted, Merges.within_fits, Merges.within_listed, Singles.single_scopes}
 use Rattle.path_maps.proofs.stores.Store.absorb.Goals as goal
 
 pub returns-in_default-clause-kept : goal.returns-in_default-clause-kept

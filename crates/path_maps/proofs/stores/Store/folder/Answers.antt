@@ -1,13 +1,7 @@
-use Rattle.std.proofs.Common.{◌≡◌, List, filter, map, ap, ◌∙◌}
+use Rattle.std.proofs.Common.{◌∙◌, ◌≡◌, ap, filter, List, map}
 use Rattle.std.proofs.lemmas.Result.{IfOk-weaker}
+use Rattle.path_maps.proofs.Prelude.{Entry, is_in, is_within, PathMap, PathParts, placed, PlaceParts, places_of_folder}
 use Rattle.std.specs.FinMap as finmap
-use Rattle.load_path.specs.Paths.{PathParts}
-use Rattle.load_places.specs.Places.{PlaceParts}
-use Rattle.edit_sums.specs.Entries.{Entry}
-use Rattle.path_maps.specs.Folders.{is_in, is_within}
-use Rattle.path_maps.specs.PlaceMaps.{placed}
-use Rattle.path_maps.specs.Scopes.{PathMap}
-use Rattle.path_maps.specs.ScopeLaws.{places_of_folder}
 use Rattle.path_maps.proofs.stores.Store.folder.Goals as goal
 
 pub returns : goal.returns
@@ -15,8 +9,8 @@ returns c =
     let scope = c.args.scope.now in
     let rank = c.args.rank in
     let folder = c.args.folder.now in
-    let seen = c.entries_in-entries.ensures.entries ∙ ap (λ (v : PathMap). filter (λ p. is_in rank folder p.0) (finmap.entries v)) c.held_in.ensures.seen in
-    let all = c.of_scope.ensures.entries ∙ ap (λ (es : List (PathParts × Entry)). placed scope es) seen in
+    let view = c.entries_in-entries.ensures.entries ∙ ap (λ (v : PathMap). filter (λ p. is_in rank folder p.0) (finmap.entries v)) c.held_in.ensures.view in
+    let all = c.of_scope.ensures.entries ∙ ap (λ (es : List (PathParts × Entry)). placed scope es) view in
     record {
       places = IfOk-weaker c.places.result (λ places. places.items ≡ map (λ p. p.0) c.of_scope.result) (λ places. places.items ≡ filter (is_within scope rank folder) (finmap.keys c.args.self.now))
           (λ places e. e ∙ ap (λ (es : List (PlaceParts × Entry)). map (λ p. p.0) es) all ∙ places_of_folder scope rank folder c.args.self.now)

@@ -1,8 +1,6 @@
-use Rattle.std.proofs.Common.{◌++◌, ◌∷◌, [], ap, sym, ◌∙◌, take}
+use Rattle.std.proofs.Common.{[], ◌++◌, ◌∙◌, ◌∷◌, ap, sym, take}
 use Rattle.std.proofs.lemmas.List.{take_more}
-use Rattle.edit_sums.specs.declared.entries.Edit.{Edit}
-use Rattle.edit_sums.specs.Sums.{EntryMap, sum_of, with_edit}
-use Rattle.edit_sums.specs.SumLaws.{sum_of-push}
+use Rattle.path_maps.proofs.Prelude.{Edit, EntryMap, sum_of, sum_of-push, with_edit}
 use Rattle.path_maps.proofs.stores.Store.from_edits.Goals as goal
 
 pub loop-edit-preserved : goal.loop-edit-preserved

@@ -1,5 +1,5 @@
 use Rattle.std.proofs.Common.{◌≡◌, take}
-use Rattle.edit_sums.specs.Sums.{sum_of}
+use Rattle.path_maps.proofs.Prelude.{sum_of}
 use Rattle.path_maps.proofs.stores.Store.from_edits.Given as goal
 
 abbrev pub invariant-loop-edit : goal.invariant-loop-edit

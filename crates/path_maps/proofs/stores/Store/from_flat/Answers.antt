@@ -1,9 +1,6 @@
-use Rattle.std.proofs.Common.{List, ◌++◌, ◌∷◌, [], map, ap, sym, ◌∙◌, take}
+use Rattle.std.proofs.Common.{[], ◌++◌, ◌∙◌, ◌∷◌, ap, List, map, sym, take}
 use Rattle.std.proofs.lemmas.List.{map-append, take_more}
-use Rattle.edit_sums.specs.declared.entries.FlatEdit.{FlatEdit}
-use Rattle.edit_sums.specs.Flat.{at_fleet}
-use Rattle.edit_sums.specs.Sums.{EntryMap, sum_of, with_edit}
-use Rattle.edit_sums.specs.SumLaws.{sum_of-push}
+use Rattle.path_maps.proofs.Prelude.{at_fleet, EntryMap, flat_holds_nothing, FlatEdit, holds_shows, sum_of, sum_of-push, with_edit}
 use Rattle.path_maps.proofs.stores.Store.from_flat.Goals as goal
 
 pub loop-edit-preserved : goal.loop-edit-preserved
@@ -15,3 +12,12 @@ loop-edit-preserved c =
     ∙ sym (sum_of-push (map at_fleet before) (at_fleet c.edit-item.result))
     ∙ ap sum_of (sym (map-append at_fleet before (c.edit-item.result ∷ [])))
     ∙ ap (λ (es : List FlatEdit). sum_of (map at_fleet es)) (sym (take_more c.args.edits.now c.loop-edit.edit-index c.edit-item.result c.loop-edit-test.true ∙ ap (λ (e : FlatEdit). before ++ e ∷ []) (sym c.edit-item.is)))
+
+pub returns-clause-held : goal.returns-clause-held
+returns-clause-held c host =
+    flat_holds_nothing c.loop-edit.store (take c.loop-edit.edit-index c.args.edits.now) c.loop-edit.invariant host
+
+pub returns-clause-shown : goal.returns-clause-shown
+returns-clause-shown c host =
+    let edits = take c.loop-edit.edit-index c.args.edits.now in
+    holds_shows c.loop-edit.store host (flat_holds_nothing c.loop-edit.store edits c.loop-edit.invariant host)

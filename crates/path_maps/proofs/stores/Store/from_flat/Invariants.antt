@@ -1,6 +1,5 @@
 use Rattle.std.proofs.Common.{◌≡◌, map, take}
-use Rattle.edit_sums.specs.Flat.{at_fleet}
-use Rattle.edit_sums.specs.Sums.{sum_of}
+use Rattle.path_maps.proofs.Prelude.{at_fleet, sum_of}
 use Rattle.path_maps.proofs.stores.Store.from_flat.Given as goal
 
 abbrev pub invariant-loop-edit : goal.invariant-loop-edit

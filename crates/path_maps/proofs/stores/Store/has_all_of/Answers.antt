@@ -1,10 +1,8 @@
-use Rattle.std.proofs.Common.{ap, ◌∙◌, arith}
+use Rattle.std.proofs.Common.{◌-◌, ◌∙◌, ap, arith}
 use Rattle.std.proofs.lemmas.Bool.{eqb-true}
-use Rattle.std.specs.Prelude.{◌-◌}
+use Rattle.path_maps.proofs.Prelude.{EntryMap}
+use Rattle.path_maps.proofs.{Ascends.additions_within, DifferingZipped.none_besides}
 use Rattle.std.specs.FinMap as finmap
-use Rattle.edit_sums.specs.Sums.{EntryMap}
-use Rattle.path_maps.proofs.DifferingBeside.{none_besides}
-use Rattle.path_maps.proofs.Rises.{additions_within}
 use Rattle.path_maps.proofs.stores.Store.has_all_of.Goals as goal
 
 pub overflow_sub-result : goal.overflow_sub-result

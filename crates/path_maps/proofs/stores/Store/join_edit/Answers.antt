@@ -1,9 +1,7 @@
-use Rattle.std.proofs.Common.{◌≡◌, ◌+◌, ◌-◌, ◌^◌, ◌≤◌, None, cond, sym, subst, ap, ◌∙◌, arith}
-use Rattle.std.specs.Prelude.{IsSome}
+use Rattle.std.proofs.Common.{◌+◌, ◌-◌, ◌^◌, ◌∙◌, ◌≡◌, ◌≤◌, ap, arith, cond, IsSome, None, subst, sym}
+use Rattle.path_maps.proofs.Prelude.{PlaceParts}
+use Rattle.path_maps.proofs.{Edits.joined_edit, Edits.kept_edit, Edits.one_held, LookUps.added_new, LookUps.counted_with, LookUps.fits_with, LookUps.held_not_new, LookUps.is_new}
 use Rattle.std.specs.FinMap as finmap
-use Rattle.load_places.specs.Places.{PlaceParts}
-use Rattle.path_maps.proofs.Edits.{one_held, joined_edit, kept_edit}
-use Rattle.path_maps.proofs.LookUps.{is_new, added_new, held_not_new, counted_with, fits_with}
 use Rattle.path_maps.proofs.stores.Store.join_edit.Goals as goal
 
 pub invariant_of-self-2 : goal.invariant_of-self-2
@@ -24,7 +22,7 @@ invariant_of-self-2 c =
     let fits : c.self.inside.len + c.from.result ≤ 2 ^ 64 - 1 = omega (arith, more, from, len) in
     rw c.max-self-inside.ensures
     (kept_edit c.self.inside.scopes c.join_to.new.map c.args.self.now c.self.inside.len c.self.inside.high (c.self.inside.len + c.from.result) c.args.edit q
-    parts c.into_parts-rank.ensures.lawful c.self.view_is c.self.invariant c.in_ok-added.ensures.valid c.in_ok-added.ensures.ok counted fits)
+    parts c.into_parts-rank.ensures.well_formed c.self.view_is c.self.invariant c.in_ok-added.ensures.valid c.in_ok-added.ensures.ok counted fits)
 
 pub overflow_add-self : goal.overflow_add-self
 overflow_add-self c =

@@ -1,12 +1,8 @@
-use Rattle.std.proofs.Common.{◌≡◌, ◌+◌, cond, true, sym, ap, ◌∙◌}
+use Rattle.std.proofs.Common.{◌+◌, ◌∙◌, ◌≡◌, ap, cond, sym, true}
 use Rattle.std.proofs.lemmas.Bool.{OnTrue_from}
+use Rattle.path_maps.proofs.Prelude.{Content, Edit, PlaceParts, with_edit}
+use Rattle.path_maps.proofs.{Edits.joined_edit, Edits.kept_edit, Removals.removal_visible, Removals.visible_held}
 use Rattle.std.specs.FinMap as finmap
-use Rattle.load_places.specs.Places.{PlaceParts}
-use Rattle.edit_sums.specs.declared.contents.Content.{Content}
-use Rattle.edit_sums.specs.declared.entries.Edit.{Edit}
-use Rattle.edit_sums.specs.Sums.{with_edit}
-use Rattle.path_maps.proofs.Edits.{joined_edit, kept_edit}
-use Rattle.path_maps.proofs.Removals.{removal_visible, visible_held}
 use Rattle.path_maps.proofs.stores.Store.join_removal.Goals as goal
 
 pub returns-then-removed-clause-visible : goal.returns-then-removed-clause-visible
@@ -41,6 +37,6 @@ invariant_of-self c =
     let held : finmap.contains_key c.args.self.now c.args.place.now ≡ true = visible_held (finmap.get c.args.self.now c.args.place.now) (sym visible ∙ sym c.make-removed.ensures.made ∙ c.if-removed.true) in
     let counted : c.self.inside.len ≡ cond (finmap.contains_key c.args.self.now c.args.place.now) (finmap.len c.args.self.now) (finmap.len c.args.self.now + 1) =
     c.self.invariant.counted.counted ∙ ap (λ s. finmap.len s) c.self.view_is ∙ sym (ap (λ b. cond b (finmap.len c.args.self.now) (finmap.len c.args.self.now + 1)) held) in
-    let lawful = c.self.invariant.counted.paths c.args.place.now (ap (λ s. finmap.contains_key s c.args.place.now) c.self.view_is ∙ held) in
+    let well_formed = c.self.invariant.counted.paths c.args.place.now (ap (λ s. finmap.contains_key s c.args.place.now) c.self.view_is ∙ held) in
     rw c.max-self-inside.ensures
-    (kept_edit c.self.inside.scopes c.make-removed.new.map c.args.self.now c.self.inside.len c.self.inside.high c.self.inside.len edit q at lawful c.self.view_is c.self.invariant c.make-removed.ensures.valid c.if-removed.ensures.joined counted c.self.invariant.fits)
+    (kept_edit c.self.inside.scopes c.make-removed.new.map c.args.self.now c.self.inside.len c.self.inside.high c.self.inside.len edit q at well_formed c.self.view_is c.self.invariant c.make-removed.ensures.valid c.if-removed.ensures.joined counted c.self.invariant.fits)

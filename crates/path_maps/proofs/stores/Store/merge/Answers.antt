@@ -1,10 +1,6 @@
-use Rattle.std.proofs.Common.{arith, ◌+◌, ap, subst, sym, ◌∙◌}
-use Rattle.std.specs.Prelude.{Result, Ok, Err, OnErr, ◌≤◌}
-use Rattle.edit_sums.specs.SumLaws.{store_below_refl, join-left}
-use Rattle.path_maps.proofs.Merges.{merged, merged_kept, merged_changes, part_kept, part_within, part_again, within_listed, within_fits, within_counted}
-use Rattle.path_maps.proofs.Rises.{join_known, nothing_changed}
-use Rattle.path_maps.specs.PlaceMaps.{all_held}
-use Rattle.path_maps.proofs.Singles.{single_scopes}
+use Rattle.std.proofs.Common.{◌+◌, ◌∙◌, ◌≤◌, ap, arith, Err, Ok, OnErr, Result, subst, sym}
+use Rattle.path_maps.proofs.Prelude.{all_held, join-left, store_below_refl}
+use Rattle.path_maps.proofs.{Ascends.join_known, Ascends.nothing_changed, Merges.merged, Merges.merged_changes, Merges.merged_kept, Merges.part_again, Merges.part_kept, Merges.part_within, Merges.within_counted, Merges.within_fits, Merges.within_listed, Singles.single_scopes}
 use Rattle.path_maps.proofs.stores.Store.merge.Goals as goal
 
 on_err : {T E P : Type 0} (r : Result T E) → P → OnErr r P

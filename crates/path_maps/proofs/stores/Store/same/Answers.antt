@@ -1,5 +1,5 @@
 use Rattle.std.proofs.Common.{◌∙◌, ap, sym}
-use Rattle.path_maps.specs.PlaceMaps.{all_held}
+use Rattle.path_maps.proofs.Prelude.{all_held}
 use Rattle.path_maps.proofs.Sames.{held_one}
 use Rattle.path_maps.proofs.stores.Store.same.Goals as goal
 

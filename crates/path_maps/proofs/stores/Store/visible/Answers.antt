@@ -1,11 +1,10 @@
-use Rattle.std.proofs.Common.{Option, ap, ◌∙◌}
+use Rattle.std.proofs.Common.{◌∙◌, ap, Option}
 use Rattle.std.specs.Option.{option_and_then}
-use Rattle.edit_sums.specs.Entries.{Entry}
-use Rattle.edit_sums.specs.Sums.{shown}
+use Rattle.path_maps.proofs.Prelude.{Entry, shown}
 use Rattle.path_maps.proofs.Scopes.{there}
 use Rattle.path_maps.proofs.stores.Store.visible.Goals as goal
 
 pub returns : goal.returns
 returns c = record {
-  visible = c.visible.ensures.visible ∙ ap (λ (x : Option Entry). option_and_then shown x) (there c.args.self.now c.held_in.result c.args.place.now c.held_in.ensures.seen);
+  visible = c.visible.ensures.visible ∙ ap (λ (x : Option Entry). option_and_then shown x) (there c.args.self.now c.held_in.result c.args.place.now c.held_in.ensures.view);
 }

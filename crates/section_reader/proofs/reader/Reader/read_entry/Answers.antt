@@ -1,8 +1,7 @@
-use Rattle.std.proofs.Common.{◌∷◌, ◌++◌, [], ◌∙◌, ap}
+use Rattle.std.proofs.Common.{[], ◌++◌, ◌∙◌, ◌∷◌, ap}
 use Rattle.std.proofs.lemmas.Result.{on_ok_weaker}
-use Rattle.section_reader.specs.Lines.{Line}
-use Rattle.section_reader.specs.Places.{items_at, notes_at}
-use Rattle.section_reader.proofs.PlaceLemmas.{nothing_more, one_more, same_assignment, items-outside, notes-outside, items-passed_over, notes-passed_over, items-unassigned, notes-unassigned, items-assigned, notes-assigned}
+use Rattle.section_reader.proofs.Prelude.{items_at, Line, notes_at}
+use Rattle.section_reader.proofs.PlaceLemmas.{items-assigned, items-outside, items-passed_over, items-unassigned, notes-assigned, notes-outside, notes-passed_over, notes-unassigned, nothing_more, one_more, same_assignment}
 use Rattle.section_reader.proofs.reader.Reader.read_entry.Goals as goal
 
 pub returns-in-Outside-clause-items : goal.returns-in-Outside-clause-items

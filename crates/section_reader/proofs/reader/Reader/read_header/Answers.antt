@@ -1,6 +1,6 @@
-use Rattle.std.proofs.Common.{◌++◌, ◌∙◌, sym, ap, append-nil}
-use Rattle.section_reader.specs.declared.places.Place.TheVariants.{Inside}
-use Rattle.section_reader.proofs.PlaceLemmas.{header_notes-good, header_notes-bad, place_behind-good, place_behind-bad}
+use Rattle.std.proofs.Common.{◌++◌, ◌∙◌, ap, append-nil, sym}
+use Rattle.section_reader.proofs.Prelude.{Inside}
+use Rattle.section_reader.proofs.PlaceLemmas.{header_notes-bad, header_notes-good, place_following-bad, place_following-good}
 use Rattle.section_reader.proofs.reader.Reader.read_header.Goals as goal
 
 pub returns-in_ok-from_slice-in-Some-clause-notes : goal.returns-in_ok-from_slice-in-Some-clause-notes
@@ -8,7 +8,7 @@ returns-in_ok-from_slice-in-Some-clause-notes c =
     sym (ap (λ v. c.args.self.now.sections.notes ++ v) (header_notes-good (record { number = c.args.number; text = c.args.text.now }) _ c.in-Some.ensures.name) ∙ append-nil _)
 
 pub returns-in_ok-from_slice-in-Some-clause-place : goal.returns-in_ok-from_slice-in-Some-clause-place
-returns-in_ok-from_slice-in-Some-clause-place c = ap (λ n. Inside n) c.in_ok-from_slice-in-Some.ensures.copy ∙ sym (place_behind-good c.args.text.now _ c.in-Some.ensures.name)
+returns-in_ok-from_slice-in-Some-clause-place c = ap (λ n. Inside n) c.in_ok-from_slice-in-Some.ensures.copy ∙ sym (place_following-good c.args.text.now _ c.in-Some.ensures.name)
 
 pub returns-in_ok-note-in-None-clause-notes : goal.returns-in_ok-note-in-None-clause-notes
 returns-in_ok-note-in-None-clause-notes c =
@@ -16,4 +16,4 @@ returns-in_ok-note-in-None-clause-notes c =
     ∙ sym (ap (λ v. c.args.self.now.sections.notes ++ v) (header_notes-bad (record { number = c.args.number; text = c.args.text.now }) c.in-None.ensures.name))
 
 pub returns-in_ok-note-in-None-clause-place : goal.returns-in_ok-note-in-None-clause-place
-returns-in_ok-note-in-None-clause-place c = sym (place_behind-bad c.args.text.now c.in-None.ensures.name)
+returns-in_ok-note-in-None-clause-place c = sym (place_following-bad c.args.text.now c.in-None.ensures.name)

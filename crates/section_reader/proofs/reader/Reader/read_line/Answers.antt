@@ -1,7 +1,7 @@
-use Rattle.std.proofs.Common.{◌∙◌, [], sym, append-nil}
+use Rattle.std.proofs.Common.{[], ◌∙◌, append-nil, sym}
 use Rattle.std.proofs.lemmas.Result.{on_ok_weaker}
-use Rattle.section_reader.specs.Places.{items_from, notes_from}
-use Rattle.section_reader.proofs.PlaceLemmas.{told_line, items_from-header, notes_from-header, items_from-entry, notes_from-entry}
+use Rattle.section_reader.proofs.Prelude.{items_from, notes_from}
+use Rattle.section_reader.proofs.PlaceLemmas.{items_from-entry, items_from-header, notes_from-entry, notes_from-header, recorded_line}
 use Rattle.section_reader.proofs.reader.Reader.read_line.Goals as goal
 
 pub returns-then-is_bracketed : goal.returns-then-is_bracketed
@@ -10,8 +10,8 @@ returns-then-is_bracketed c =
     let test = sym c.if-is_bracketed.ensures.test in
     let none = on_ok_weaker c.read_header.result (λ e. e ∙ sym (append-nil was.sections.items)) c.read_header.ensures.items in
     record {
-      items = told_line items_from _ _ was.place _ _ was.sections.items _ [] _ c.if-is_empty.ensures none c.read_header.ensures.place (λ rest. items_from-header was.place _ rest test);
-      notes = told_line notes_from _ _ was.place _ _ was.sections.notes _ _ _ c.if-is_empty.ensures c.read_header.ensures.notes c.read_header.ensures.place (λ rest. notes_from-header was.place _ rest test);
+      items = recorded_line items_from _ _ was.place _ _ was.sections.items _ [] _ c.if-is_empty.ensures none c.read_header.ensures.place (λ rest. items_from-header was.place _ rest test);
+      notes = recorded_line notes_from _ _ was.place _ _ was.sections.notes _ _ _ c.if-is_empty.ensures c.read_header.ensures.notes c.read_header.ensures.place (λ rest. notes_from-header was.place _ rest test);
     }
 
 pub returns-else-is_bracketed : goal.returns-else-is_bracketed
@@ -19,6 +19,6 @@ returns-else-is_bracketed c =
     let was = c.args.self.now in
     let test = sym c.if-is_bracketed.ensures.test in
     record {
-      items = told_line items_from _ _ was.place _ _ was.sections.items _ _ _ c.if-is_empty.ensures c.read_entry.ensures.items c.read_entry.ensures.place (λ rest. items_from-entry was.place _ rest test);
-      notes = told_line notes_from _ _ was.place _ _ was.sections.notes _ _ _ c.if-is_empty.ensures c.read_entry.ensures.notes c.read_entry.ensures.place (λ rest. notes_from-entry was.place _ rest test);
+      items = recorded_line items_from _ _ was.place _ _ was.sections.items _ _ _ c.if-is_empty.ensures c.read_entry.ensures.items c.read_entry.ensures.place (λ rest. items_from-entry was.place _ rest test);
+      notes = recorded_line notes_from _ _ was.place _ _ was.sections.notes _ _ _ c.if-is_empty.ensures c.read_entry.ensures.notes c.read_entry.ensures.place (λ rest. notes_from-entry was.place _ rest test);
     }

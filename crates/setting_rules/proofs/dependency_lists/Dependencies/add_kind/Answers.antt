@@ -1,9 +1,7 @@
-use Rattle.std.proofs.Common.{◌≡◌, ◌∙◌, ◌++◌, ◌∷◌, [], ap, map, sym, append-nil, List, ℕ, Bor}
+use Rattle.std.proofs.Common.{[], ◌++◌, ◌∙◌, ◌∷◌, ◌≡◌, ap, append-nil, Bor, List, map, sym, ℕ}
 use Rattle.std.specs.List.{flat_map}
-use Rattle.setting_rules.specs.Dependencies.{names_by}
-use Rattle.setting_rules.specs.Words.{words_of}
-use Rattle.setting_rules.proofs.Named.{noted_by, names_by-append, noted_by-append, by_words}
-use Rattle.setting_rules.proofs.RowLemmas.{texts_more}
+use Rattle.setting_rules.proofs.Prelude.{names_by, words_of}
+use Rattle.setting_rules.proofs.{Named.by_words, Named.names_by-append, Named.noted_by, Named.noted_by-append, RowLemmas.texts_more}
 use Rattle.setting_rules.proofs.dependency_lists.Dependencies.add_kind.Goals as goal
 
 pub loop-value-preserved : goal.loop-value-preserved

@@ -1,8 +1,6 @@
-use Rattle.std.proofs.Common.{◌≡◌, ◌++◌, take, map}
+use Rattle.std.proofs.Common.{◌++◌, ◌≡◌, map, take}
 use Rattle.std.specs.List.{flat_map}
-use Rattle.setting_rules.specs.Dependencies.{key_for, names_by, faults_by}
-use Rattle.setting_rules.specs.Settings.{note_on}
-use Rattle.setting_rules.specs.Words.{words_of}
+use Rattle.setting_rules.proofs.Prelude.{faults_by, key_for, names_by, note_on, words_of}
 use Rattle.setting_rules.proofs.dependency_lists.Dependencies.add_kind.Given as goal
 
 abbrev pub invariant-loop-value : goal.invariant-loop-value

@@ -1,7 +1,6 @@
-use Rattle.std.proofs.Common.{◌∙◌, ℕ, List, [], Bor, get_or, map, refl}
-use Rattle.setting_rules.specs.Dependencies.{names_by}
-use Rattle.setting_rules.proofs.Named.{noted_by, names_by-append, noted_by-append, by_elements}
-use Rattle.setting_rules.proofs.RowLemmas.{texts_more}
+use Rattle.std.proofs.Common.{[], ◌∙◌, Bor, get_or, List, map, refl, ℕ}
+use Rattle.setting_rules.proofs.Prelude.{names_by}
+use Rattle.setting_rules.proofs.{Named.by_elements, Named.names_by-append, Named.noted_by, Named.noted_by-append, RowLemmas.texts_more}
 use Rattle.setting_rules.proofs.dependency_lists.Dependencies.add_words.Goals as goal
 
 pub loop-word-preserved : goal.loop-word-preserved

@@ -1,5 +1,5 @@
 use Rattle.std.proofs.Common.{◌∙◌, sym}
-use Rattle.setting_rules.specs.declared.keys.SettingKey.{SettingKey}
+use Rattle.setting_rules.proofs.Prelude.{SettingKey}
 use Rattle.setting_rules.proofs.RowLemmas.{look_found, look_passed}
 use Rattle.setting_rules.proofs.maps.SettingMap.values_of.Goals as goal
 

@@ -1,5 +1,5 @@
-use Rattle.setting_rules.specs.Rows.{rows_at, escape_notes_at}
-use Rattle.setting_rules.proofs.RowLemmas.{texts_more, rows_at-append, escape_notes_at-append}
+use Rattle.setting_rules.proofs.Prelude.{escape_notes_at, rows_at}
+use Rattle.setting_rules.proofs.RowLemmas.{escape_notes_at-append, rows_at-append, texts_more}
 use Rattle.setting_rules.proofs.rows.Values.add_key.Goals as goal
 
 pub loop-text-preserved : goal.loop-text-preserved

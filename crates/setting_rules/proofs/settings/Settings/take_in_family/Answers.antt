@@ -1,7 +1,5 @@
-use Rattle.std.proofs.Common.{◌≡◌, ◌∙◌, ◌++◌, ◌∷◌, [], sym, ap, cond, not, ◌&&◌, false}
-use Rattle.setting_rules.specs.Maps.{changed}
-use Rattle.setting_rules.specs.Rules.{is_empty}
-use Rattle.setting_rules.specs.Settings.{key_of}
+use Rattle.std.proofs.Common.{[], ◌&&◌, ◌++◌, ◌∙◌, ◌∷◌, ◌≡◌, ap, cond, false, not, sym}
+use Rattle.setting_rules.proofs.Prelude.{changed, is_empty, key_of}
 use Rattle.setting_rules.proofs.Texts.{none_left}
 use Rattle.setting_rules.proofs.settings.Settings.take_in_family.Goals as goal
 use Rattle.setting_rules.proofs.settings.Settings.take_in_family.Goals.{else-live-via-then-live+else-not-is_empty, else-live-via-else-live}

@@ -1,6 +1,5 @@
-use Rattle.std.proofs.Common.{ℕ, [], ◌∷◌, ◌++◌, ap, ◌∙◌}
-use Rattle.edit_sums.specs.declared.entries.Edit.{Edit}
-use Rattle.node_histories.specs.declared.events.HistoryEvent.TheVariants.{Edited}
+use Rattle.std.proofs.Common.{[], ◌++◌, ◌∙◌, ◌∷◌, ap, ℕ}
+use Rattle.shared_node.proofs.Prelude.{Edit, Edited}
 use Rattle.shared_node.proofs.keeper.Keeper.edit.Goals as goal
 
 pub returns-in-None-clause-accepted : goal.returns-in-None-clause-accepted

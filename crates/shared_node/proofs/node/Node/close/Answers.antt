@@ -1,6 +1,5 @@
-use Rattle.std.proofs.Common.{List, sym, subst}
-use Rattle.node_histories.specs.declared.events.HistoryEvent.{HistoryEvent}
-use Rattle.shared_node.specs.Seats.{AllAgree}
+use Rattle.std.proofs.Common.{List, subst, sym}
+use Rattle.shared_node.proofs.Prelude.{AllAgree, HistoryEvent}
 use Rattle.shared_node.proofs.node.Node.close.Goals as goal
 
 pub returns-in-Ok-clause-agree : goal.returns-in-Ok-clause-agree

@@ -1,8 +1,7 @@
-use Rattle.std.proofs.Common.{◌≡◌, Option, None, drop, subst, sym}
 use Rattle.left_right.specs.Sides.{view}
-use Rattle.node_histories.specs.declared.page.Page.{Page}
-use Rattle.shared_node.specs.Sights.{latest, newest}
-use Rattle.shared_node.proofs.Latest.{sent, IsPosted, History}
+use Rattle.std.proofs.Common.{◌≡◌, drop, None, Option, subst, sym}
+use Rattle.shared_node.proofs.Prelude.{latest, newest, PublishedCopy}
+use Rattle.shared_node.proofs.Latest.{History, IsPosted, sent}
 use Rattle.shared_node.proofs.post.Post.send.Goals as goal
 
 pub invariant_of-self : goal.invariant_of-self
@@ -29,9 +28,9 @@ invariant_of-self-2 g c =
     let l : History = latest (λ q. q.seen) s (drop h.behind h.log.items) in
     let k : History = latest (λ q. q.seen) t (drop n.behind n.log.items) in
     let due : l ≡ newest (λ q. q.seen) w.desk.shown.value.seen (drop w.behind w.log.items) c.self.inside.pending =
-    subst (λ (p : Option Page). newest (λ q. q.seen) s (drop h.behind h.log.items) p ≡ newest (λ q. q.seen) w.desk.shown.value.seen (drop w.behind w.log.items) c.self.inside.pending) handed c.hand.ensures.due in
+    subst (λ (p : Option PublishedCopy). newest (λ q. q.seen) s (drop h.behind h.log.items) p ≡ newest (λ q. q.seen) w.desk.shown.value.seen (drop w.behind w.log.items) c.self.inside.pending) handed c.hand.ensures.due in
     let posted : IsPosted b o (view h.desk.place) s l =
     subst (λ d. IsPosted b o (view d.place) d.shown.value.seen l) (sym c.hand.ensures.desk)
     (subst (λ (x : History). IsPosted b o (view w.desk.place) w.desk.shown.value.seen x) (sym due) c.self.invariant) in
     let after : IsPosted b o (view n.desk.place) t k = sent b o r s t l k (view h.desk.place) (view n.desk.place) posted c.replace_with.ensures.0 c.replace_with.ensures.1 in
-    subst (λ (p : Option Page). IsPosted b o (view n.desk.place) t (newest (λ q. q.seen) t (drop n.behind n.log.items) p)) (sym handed) after
+    subst (λ (p : Option PublishedCopy). IsPosted b o (view n.desk.place) t (newest (λ q. q.seen) t (drop n.behind n.log.items) p)) (sym handed) after

@@ -1,9 +1,9 @@
-use Rattle.std.proofs.Common.{◌≡◌, ◌++◌, ◌⊎◌, ◌↔◌, ℕ, List, inl, inr, subst, sym}
-use Rattle.list_laws.specs.Members.{IsAmong, IsAmong-append_cases, IsAmong-append_left, IsAmong-append_right}
+use Rattle.std.proofs.Common.{◌++◌, ◌↔◌, ◌≡◌, ◌⊎◌, inl, inr, List, subst, sym, ℕ}
+use Rattle.start_order.proofs.Prelude.{IsAmong, IsAmong-append_cases, IsAmong-append_left, IsAmong-append_right}
 use Rattle.start_order.proofs.Keys.{IsAmong-insert_key}
 use Rattle.start_order.proofs.free.Free.add.Goals as goal
 
--- a key put in behind the first ones
+-- a key is inserted after the first ones
 put_in : (first old new : List ℕ) (k : ℕ) → ((v : ℕ) → IsAmong v new ↔ (IsAmong v old ⊎ (k ≡ v))) → (v : ℕ) → IsAmong v (first ++ new) ↔ (IsAmong v (first ++ old) ⊎ (k ≡ v))
 put_in first old new k h v = (
   λ a. elim (IsAmong-append_cases v first new a) [

@@ -1,7 +1,5 @@
-use Rattle.std.proofs.Common.{◌≡◌, ◌++◌, ◌≤◌, ◌↔◌, ℕ, List, Option, Some, None, subst, sym}
-use Rattle.std.specs.Option.{MatchOption}
-use Rattle.list_laws.specs.Members.{IsAmong, IsAmong-append_left, IsAmong-append_right}
-use Rattle.start_order.specs.Counts.{IsLeastIn}
+use Rattle.std.proofs.Common.{◌++◌, ◌↔◌, ◌≡◌, ◌≤◌, List, MatchOption, None, Option, Some, subst, sym, ℕ}
+use Rattle.start_order.proofs.Prelude.{IsAmong, IsAmong-append_left, IsAmong-append_right, IsLeastIn}
 use Rattle.start_order.proofs.Frees.{found, left_of_both}
 use Rattle.start_order.proofs.free.Free.take_least.Goals as goal
 
@@ -23,34 +21,34 @@ module _ (first later whole : List ℕ) (x : ℕ) (e : first ++ later ≡ whole)
 
 pub returns-in_err-least-clause-least : goal.returns-in_err-least-clause-least
 returns-in_err-least-clause-least c =
-    let m = found _ _ c.args.self.now _ _ c.lesser.result c.self.view_is c.lesser.ensures c.front_of.ensures c.first_of.ensures in
+    let m = found _ _ c.args.self.now _ _ c.lesser.result c.self.view_is c.lesser.ensures c.prefix_of.ensures c.first_of.ensures in
     let P : Option ℕ → Type 0 = λ o. MatchOption o ((v : ℕ) → ¬ IsAmong v c.args.self.now) (IsLeastIn c.args.self.now) in
     subst P (sym c.from_residual.ensures) (none_found c.args.self.now c.lesser.result m c.in_err-least.was)
 
 pub returns-in_err-least-clause-rest : goal.returns-in_err-least-clause-rest
 returns-in_err-least-clause-rest c =
-    let m = found _ _ c.args.self.now _ _ c.lesser.result c.self.view_is c.lesser.ensures c.front_of.ensures c.first_of.ensures in
+    let m = found _ _ c.args.self.now _ _ c.lesser.result c.self.view_is c.lesser.ensures c.prefix_of.ensures c.first_of.ensures in
     let P : Option ℕ → Type 0 = λ o. MatchOption o ((v : ℕ) → ¬ IsAmong v c.args.self.now) (λ u. (v : ℕ) → IsAmong v c.args.self.now ↔ (IsAmong v c.args.self.now × ¬ (u ≡ v))) in
     subst P (sym c.from_residual.ensures) (none_found c.args.self.now c.lesser.result m c.in_err-least.was)
 
-pub drop_front-requires-clause-least : goal.drop_front-requires-clause-least
-drop_front-requires-clause-least c =
-    let m = found _ _ c.args.self.now _ _ c.lesser.result c.self.view_is c.lesser.ensures c.front_of.ensures c.first_of.ensures in
+pub drop_prefix-requires-clause-least : goal.drop_prefix-requires-clause-least
+drop_prefix-requires-clause-least c =
+    let m = found _ _ c.args.self.now _ _ c.lesser.result c.self.view_is c.lesser.ensures c.prefix_of.ensures c.first_of.ensures in
     below_first c.self.inside.first.items c.self.inside.later.keys c.args.self.now c.in_ok-least.least c.self.view_is (one_found c.args.self.now c.lesser.result m c.in_ok-least.least c.in_ok-least.was)
 
 pub drop_first-requires : goal.drop_first-requires
 drop_first-requires c =
-    let m = found _ _ c.args.self.now _ _ c.lesser.result c.self.view_is c.lesser.ensures c.front_of.ensures c.first_of.ensures in
+    let m = found _ _ c.args.self.now _ _ c.lesser.result c.self.view_is c.lesser.ensures c.prefix_of.ensures c.first_of.ensures in
     record { least = below_later c.self.inside.first.items c.self.inside.later.keys c.args.self.now c.in_ok-least.least c.self.view_is (one_found c.args.self.now c.lesser.result m c.in_ok-least.least c.in_ok-least.was) }
 
 pub returns-clause-least : goal.returns-clause-least
 returns-clause-least c =
-    let m = found _ _ c.args.self.now _ _ c.lesser.result c.self.view_is c.lesser.ensures c.front_of.ensures c.first_of.ensures in
+    let m = found _ _ c.args.self.now _ _ c.lesser.result c.self.view_is c.lesser.ensures c.prefix_of.ensures c.first_of.ensures in
     one_found c.args.self.now c.lesser.result m c.in_ok-least.least c.in_ok-least.was
 
 pub returns-clause-rest : goal.returns-clause-rest
 returns-clause-rest c =
     let first = c.self.inside.first.items in
     let later = c.self.inside.later.keys in
-    let P : List ℕ → Type 0 = λ l. (v : ℕ) → IsAmong v (c.drop_front.new.nodes.items ++ c.drop_first.new.nodes.keys) ↔ (IsAmong v l × ¬ (c.in_ok-least.least ≡ v)) in
-    subst P c.self.view_is (left_of_both first later c.drop_front.new.nodes.items c.drop_first.new.nodes.keys c.in_ok-least.least c.drop_front.ensures.rest c.drop_first.ensures.rest)
+    let P : List ℕ → Type 0 = λ l. (v : ℕ) → IsAmong v (c.drop_prefix.new.nodes.items ++ c.drop_first.new.nodes.keys) ↔ (IsAmong v l × ¬ (c.in_ok-least.least ≡ v)) in
+    subst P c.self.view_is (left_of_both first later c.drop_prefix.new.nodes.items c.drop_first.new.nodes.keys c.in_ok-least.least c.drop_prefix.ensures.rest c.drop_first.ensures.rest)

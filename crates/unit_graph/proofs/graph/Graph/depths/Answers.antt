@@ -1,12 +1,5 @@
-use Rattle.std.proofs.Common.{◌≡◌, ◌<◌, ◌∷◌, [], ℕ, List, map, ap, subst, sym, ◌∙◌}
-use Rattle.std.specs.List.{All}
-use Rattle.name_closure.specs.Chains.{IsDistances}
-use Rattle.name_closure.specs.ListedLaws.{Listed}
-use Rattle.index_rows.specs.Steps.{steps_from}
-use Rattle.unit_name.specs.Names.{Name, name_cmp}
-use Rattle.parallel_load.specs.Loads.{LoadMap}
-use Rattle.inverse_deps.specs.Numbers.{count_of, name_at}
-use Rattle.unit_graph.specs.Graphs.{LeadsBy, pulling}
+use Rattle.std.proofs.Common.{[], ◌<◌, ◌∙◌, ◌∷◌, ◌≡◌, All, ap, List, map, subst, sym, ℕ}
+use Rattle.unit_graph.proofs.Prelude.{count_of, IsDistances, LeadsBy, Listed, LoadMap, Name, name_at, name_cmp, pulling, successors_from}
 use Rattle.unit_graph.proofs.Stepping.{depths_below, depths_named}
 use Rattle.unit_graph.proofs.graph.Graph.depths.Goals as goal
 
@@ -17,8 +10,8 @@ named_distances-requires c =
     let L : LoadMap → Type 0 = λ m. All (λ p. p.1 < count_of m) c.deref.result.now in
     record {
       pairs = subst L (sym c.loaded-load.ensures.load) (subst A (sym c.deref.ensures.value)
-          (depths_below load c.loaded-load.ensures.order c.args.self.now.edges pulling (steps_from c.in_ok-steps.steps) c.in_ok-steps.ensures.steps c.args.from.now
-          c.source-source.result c.source-source.ensures.number c.in_ok-pairs.pairs.items c.in_ok-pairs.ensures));
+          (depths_below load c.loaded-load.ensures.order c.args.self.now.edges pulling (successors_from c.in_ok-successors.successors) c.in_ok-successors.ensures.successors c.args.from.now
+          c.source-source.result c.source-source.ensures.index c.in_ok-pairs.pairs.items c.in_ok-pairs.ensures));
     }
 
 pub returns : goal.returns
@@ -30,6 +23,6 @@ returns c =
     record {
       depths = λ main s. (let R : List (ℕ × Name) → Type 0 = λ ps. IsDistances (Listed (main ∷ [])) (LeadsBy c.args.self.now.edges pulling) name_cmp ps in
           subst R (sym named)
-          (depths_named load c.loaded-load.ensures.order c.args.self.now.edges pulling (steps_from c.in_ok-steps.steps) c.in_ok-steps.ensures.steps c.args.from.now
-          c.source-source.result c.source-source.ensures.number c.in_ok-pairs.pairs.items c.in_ok-pairs.ensures main s));
+          (depths_named load c.loaded-load.ensures.order c.args.self.now.edges pulling (successors_from c.in_ok-successors.successors) c.in_ok-successors.ensures.successors c.args.from.now
+          c.source-source.result c.source-source.ensures.index c.in_ok-pairs.pairs.items c.in_ok-pairs.ensures main s));
     }

@@ -1,6 +1,6 @@
 use Rattle.std.proofs.Common.{ap, subst}
-use Rattle.unit_graph.specs.Graphs.{GraphMap, HasInverses, LeadToUnits}
-use Rattle.unit_graph.proofs.Stepping.{graph_numbering, has_inverses, lead_to_units}
+use Rattle.unit_graph.proofs.Prelude.{GraphMap, HasInverses, LeadToUnits}
+use Rattle.unit_graph.proofs.Stepping.{graph_indexing, has_inverses, lead_to_units}
 use Rattle.unit_graph.proofs.graph.Graph.loaded.Goals as goal
 
 pub returns-clause-units : goal.returns-clause-units
@@ -10,4 +10,4 @@ pub returns-clause-inverses : goal.returns-clause-inverses
 returns-clause-inverses c = subst HasInverses c.self.view_is (has_inverses (record { load = c.self.inside.loaded.now; edges = c.self.inside.edges.now }) c.self.invariant)
 
 pub returns-clause-order : goal.returns-clause-order
-returns-clause-order c = graph_numbering c.self.inside.loaded.now c.args.self.now.load (ap (λ (g : GraphMap). g.load) c.self.view_is) c.self.inside.edges.now c.self.invariant
+returns-clause-order c = graph_indexing c.self.inside.loaded.now c.args.self.now.load (ap (λ (g : GraphMap). g.load) c.self.view_is) c.self.inside.edges.now c.self.invariant

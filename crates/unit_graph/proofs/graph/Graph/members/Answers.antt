@@ -1,9 +1,6 @@
-use Rattle.std.proofs.Common.{◌≡◌, ◌+◌, ◌++◌, ◌∷◌, [], List, Bor, map, take, refl, ap, sym, ◌∙◌, arith}
-use Rattle.std.proofs.lemmas.List.{take_more, take_all, map-append}
-use Rattle.unit_name.specs.Names.{Name}
-use Rattle.unit_loads.specs.declared.units.Unit.{Unit as LoadedUnit}
-use Rattle.parallel_load.specs.Loads.{LoadMap, units_in}
-use Rattle.unit_graph.specs.Graphs.{GraphMap}
+use Rattle.std.proofs.Common.{[], ◌++◌, ◌+◌, ◌∙◌, ◌∷◌, ◌≡◌, ap, arith, Bor, List, map, refl, sym, take}
+use Rattle.std.proofs.lemmas.List.{map-append, take_all, take_more}
+use Rattle.unit_graph.proofs.Prelude.{GraphMap, LoadedUnit, LoadMap, Name, units_in}
 use Rattle.unit_graph.proofs.graph.Graph.members.Goals as goal
 
 map_twice : {X Y Z : Type 0} (f : Y → Z) (g : X → Y) (xs : List X) → map (λ x. f (g x)) xs ≡ map f (map g xs)

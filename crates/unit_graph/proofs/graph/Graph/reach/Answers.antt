@@ -1,12 +1,5 @@
-use Rattle.std.proofs.Common.{◌≡◌, ◌<◌, ◌∷◌, [], ℕ, List, map, ap, subst, sym, ◌∙◌}
-use Rattle.std.specs.List.{All}
-use Rattle.name_closure.specs.Chains.{IsClosure}
-use Rattle.name_closure.specs.ListedLaws.{Listed}
-use Rattle.index_rows.specs.Steps.{steps_from}
-use Rattle.unit_name.specs.Names.{Name, name_cmp}
-use Rattle.parallel_load.specs.Loads.{LoadMap}
-use Rattle.inverse_deps.specs.Numbers.{count_of, name_at}
-use Rattle.unit_graph.specs.Graphs.{LeadsBy}
+use Rattle.std.proofs.Common.{[], ◌<◌, ◌∙◌, ◌∷◌, ◌≡◌, All, ap, List, map, subst, sym, ℕ}
+use Rattle.unit_graph.proofs.Prelude.{count_of, IsClosure, LeadsBy, Listed, LoadMap, Name, name_at, name_cmp, successors_from}
 use Rattle.unit_graph.proofs.Stepping.{reach_below, reach_named}
 use Rattle.unit_graph.proofs.graph.Graph.reach.Goals as goal
 
@@ -16,20 +9,20 @@ names_at-requires c =
     let A : List ℕ → Type 0 = λ ps. All (λ p. p < count_of load) ps in
     let L : LoadMap → Type 0 = λ m. All (λ p. p < count_of m) c.deref.result.now in
     record {
-      numbers = subst L (sym c.loaded-load.ensures.load) (subst A (sym c.deref.ensures.value)
-          (reach_below load c.loaded-load.ensures.order c.args.self.now.edges c.args.kinds.now (steps_from c.in_ok-steps.steps) c.in_ok-steps.ensures.steps c.args.from.now
-          c.source-source.result c.source-source.ensures.number c.in_ok-numbers.numbers.items c.in_ok-numbers.ensures));
+      indices = subst L (sym c.loaded-load.ensures.load) (subst A (sym c.deref.ensures.value)
+          (reach_below load c.loaded-load.ensures.order c.args.self.now.edges c.args.kinds.now (successors_from c.in_ok-successors.successors) c.in_ok-successors.ensures.successors c.args.from.now
+          c.source-source.result c.source-source.ensures.index c.in_ok-indices.indices.items c.in_ok-indices.ensures));
     }
 
 pub returns : goal.returns
 returns c =
     let load = c.args.self.now.load in
     let f : LoadMap → ℕ → Name = λ m p. name_at m p in
-    let named : c.in_ok-names_at.field-0.items ≡ map (f load) c.in_ok-numbers.numbers.items =
+    let named : c.in_ok-names_at.field-0.items ≡ map (f load) c.in_ok-indices.indices.items =
     c.in_ok-names_at.ensures.names ∙ ap (λ m. map (f m) c.deref.result.now) c.loaded-load.ensures.load ∙ ap (map (f load)) c.deref.ensures.value in
     record {
       reached = λ main s. (let R : List Name → Type 0 = λ ps. IsClosure (Listed (main ∷ [])) (LeadsBy c.args.self.now.edges c.args.kinds.now) name_cmp ps in
           subst R (sym named)
-          (reach_named load c.loaded-load.ensures.order c.args.self.now.edges c.args.kinds.now (steps_from c.in_ok-steps.steps) c.in_ok-steps.ensures.steps c.args.from.now
-          c.source-source.result c.source-source.ensures.number c.in_ok-numbers.numbers.items c.in_ok-numbers.ensures main s));
+          (reach_named load c.loaded-load.ensures.order c.args.self.now.edges c.args.kinds.now (successors_from c.in_ok-successors.successors) c.in_ok-successors.ensures.successors c.args.from.now
+          c.source-source.result c.source-source.ensures.index c.in_ok-indices.indices.items c.in_ok-indices.ensures main s));
     }

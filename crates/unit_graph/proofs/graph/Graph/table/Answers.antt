@@ -1,11 +1,10 @@
 use Rattle.std.proofs.Common.{subst}
-use Rattle.unit_graph.specs.Graphs.{GraphMap}
-use Rattle.unit_graph.specs.Tables.{IsTable}
-use Rattle.unit_graph.proofs.Stepping.{table_of_rows}
+use Rattle.unit_graph.proofs.Prelude.{GraphMap, IsTable}
+use Rattle.unit_graph.proofs.Stepping.{table_of_adjacency}
 use Rattle.unit_graph.proofs.graph.Graph.table.Goals as goal
 
 pub returns : goal.returns
 returns c = record {
-  table = subst (λ (g : GraphMap). IsTable g.load g.edges c.args.kind c.rows.result.now) c.self.view_is
-      (table_of_rows _ _ c.args.kind _ c.self.invariant c.rows.ensures.rows);
+  table = subst (λ (g : GraphMap). IsTable g.load g.edges c.args.kind c.adjacency.result.now) c.self.view_is
+      (table_of_adjacency _ _ c.args.kind _ c.self.invariant c.adjacency.ensures.adjacency);
 }

@@ -1,6 +1,5 @@
 use Rattle.std.proofs.Common.{◌∙◌, ap, is_some}
-use Rattle.unit_name.specs.Names.{kind}
-use Rattle.unit_name.specs.NameLaws.{made_of_name}
+use Rattle.unit_name.proofs.Prelude.{kind, made_of_name}
 use Rattle.unit_name.proofs.names.UnitName.kind.Goals as goal
 
 pub unwrap-requires : goal.unwrap-requires

@@ -1,6 +1,5 @@
-use Rattle.std.proofs.Common.{◌∙◌, ap, subst, []}
-use Rattle.unit_name.specs.Names.{prefix, suffix, IsName}
-use Rattle.unit_name.specs.Forms.{instance_name}
+use Rattle.std.proofs.Common.{[], ◌∙◌, ap, subst}
+use Rattle.unit_name.proofs.Prelude.{instance_name, IsName, prefix, suffix}
 use Rattle.unit_name.proofs.Steps.{template_bytes}
 use Rattle.unit_name.proofs.names.UnitName.template_of.Goals as goal
 

@@ -1,7 +1,6 @@
-use Rattle.std.proofs.Common.{◌∙◌, ap, sym, subst}
-use Rattle.unit_name.specs.Names.{prefix, suffix, IsName}
-use Rattle.unit_name.specs.Forms.{instance_name}
-use Rattle.unit_name.proofs.Steps.{taken, IsTakenName}
+use Rattle.std.proofs.Common.{◌∙◌, ap, subst, sym}
+use Rattle.unit_name.proofs.Prelude.{instance_name, IsName, prefix, suffix}
+use Rattle.unit_name.proofs.Steps.{IsTakenName, taken}
 use Rattle.unit_name.proofs.names.UnitName.with_instance.Goals as goal
 
 made : (c : goal.In_ok-bytes) → IsTakenName c.args.self.now c.args.instance.now c.in_ok-bytes.bytes

@@ -1,0 +1,6 @@
+use Rattle.index_rows.proofs.Prelude.{IsMember}
+use Rattle.index_rows.proofs.Listing.{IsListedBelow}
+use Rattle.index_rows.proofs.bits.members_of.Given as goal
+
+abbrev pub invariant-loop-node : goal.invariant-loop-node
+invariant-loop-node l = IsListedBelow (IsMember l.bits) l.node l.nodes.items

@@ -1,0 +1,40 @@
+-- Edges of one or more kinds between nodes: each kind has an adjacency list for each node.
+-- Source: this project's own.
+use Rattle.std.proofs.Common.{[], ◌==◌, ◌||◌, ◌∷◌, ◌≡◌, All, Bool, false, filter, List, ℕ}
+use Rattle.std.specs.List.{flat_map}
+use Rattle.std.specs.Prelude.{slice_index_or}
+use Rattle.std.specs.declared.alloc.Global.{Global}
+use Rattle.std.specs.declared.vec.Vec.{Vec}
+use Rattle.index_rows.specs.Prelude.{IsAmong}
+use Rattle.index_rows.specs.Adjacency.{AreAdjacencyOf, IsMember, neighbors}
+
+-- the nodes to which an edge of some kind leads from this one
+abbrev pub successors_from : List (List (Vec ℕ Global)) → ℕ → List ℕ
+successors_from kinds node = flat_map (λ adjacency. neighbors adjacency node) kinds
+
+-- edges between n nodes: adjacency lists of each kind
+abbrev pub AreSuccessorsOf : ℕ → List (List (Vec ℕ Global)) → Type 0
+AreSuccessorsOf n kinds = All (AreAdjacencyOf n) kinds
+
+-- an edge leads from the first node to the second, which is a member of the set
+pub record LeadsInside (inside : List Bool) (kinds : List (List (Vec ℕ Global))) (u v : ℕ) : Type 0 where
+  pub step : IsAmong v (successors_from kinds u)
+  pub member : IsMember inside v
+
+-- whether a node is a member of a list
+abbrev pub stands_in : ℕ → List ℕ → Bool
+stands_in node [] = false
+stands_in node (x ∷ xs) = (x == node) || stands_in node xs
+
+-- transposed edges: where an edge leads from v to u, one of the others leads from u to v, and only there
+abbrev pub AreOpposite : (ℕ → List ℕ) → (ℕ → List ℕ) → Type 0
+AreOpposite next others = (u v : ℕ) → stands_in v (others u) ≡ stands_in u (next v)
+
+-- ---- words for private clauses
+
+abbrev pub is_member : List Bool → ℕ → Bool
+is_member bits node = slice_index_or bits node false
+
+-- those successors of a node that are members of the set
+abbrev pub successors_inside : List Bool → List (List (Vec ℕ Global)) → ℕ → List ℕ
+successors_inside inside kinds node = flat_map (λ adjacency. filter (is_member inside) (neighbors adjacency node)) kinds

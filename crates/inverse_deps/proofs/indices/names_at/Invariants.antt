@@ -1,0 +1,6 @@
+use Rattle.std.proofs.Common.{◌≡◌, map, take}
+use Rattle.inverse_deps.proofs.Prelude.{name_at}
+use Rattle.inverse_deps.proofs.indices.names_at.Given as goal
+
+abbrev pub invariant-loop-index : goal.invariant-loop-index
+invariant-loop-index l = l.named.items ≡ map (name_at l.loaded) (take l.index-index l.indices)

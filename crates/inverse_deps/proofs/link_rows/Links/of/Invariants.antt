@@ -1,6 +1,0 @@
-use Rattle.inverse_deps.specs.Links.{links_in}
-use Rattle.inverse_deps.proofs.Linking.{AreFoundIn}
-use Rattle.inverse_deps.proofs.link_rows.Links.of.Given as goal
-
-abbrev pub invariant-loop-from : goal.invariant-loop-from
-invariant-loop-from l = AreFoundIn l.table l.from (links_in l.rows.items)

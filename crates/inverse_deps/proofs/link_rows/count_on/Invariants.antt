@@ -1,5 +1,0 @@
-use Rattle.std.proofs.Common.{◌≡◌, length}
-use Rattle.inverse_deps.proofs.link_rows.count_on.Given as goal
-
-abbrev pub invariant-loop-dep : goal.invariant-loop-dep
-invariant-loop-dep l = length l.counts.items ≡ length l.initial.counts.items

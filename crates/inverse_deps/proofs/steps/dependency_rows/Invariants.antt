@@ -1,8 +1,0 @@
-use Rattle.std.specs.List.{slice_index_or}
-use Rattle.setting_rules.specs.declared.kinds.DepKind.TheVariants.{Before}
-use Rattle.inverse_deps.specs.Tables.{AreNamingRows}
-use Rattle.inverse_deps.specs.MakingLaws.{AreMade}
-use Rattle.inverse_deps.proofs.steps.dependency_rows.Given as goal
-
-abbrev pub invariant-loop-kind : goal.invariant-loop-kind
-invariant-loop-kind l = AreMade (λ k rows. AreNamingRows l.loaded (slice_index_or l.kind-items k Before) rows) l.kind-index l.rows

@@ -1,7 +1,0 @@
-use Rattle.std.proofs.Common.{◌∙◌, ap}
-use Rattle.edit_sums.specs.Sums.{high_of}
-use Rattle.node_histories.specs.HistoryLaws.{high_of-store_of}
-use Rattle.node_histories.proofs.page.Page.counter.Goals as goal
-
-pub returns : goal.returns
-returns c = record { counter = c.high.ensures.high ∙ ap (λ r. high_of r.store) c.deref.ensures ∙ ap (λ r. high_of r.store) c.args.self.now.kept ∙ high_of-store_of c.args.self.now.seen.log }

@@ -1,0 +1,6 @@
+use Rattle.std.proofs.Common.{◌≡◌, map}
+use Rattle.parallel_load.proofs.Prelude.{normalized_name}
+use Rattle.parallel_load.proofs.mains.Mains.normalize_all.Given as goal
+
+abbrev pub invariant-loop-name : goal.invariant-loop-name
+invariant-loop-name l = l.all.items ≡ map (normalized_name l.self) l.yielded

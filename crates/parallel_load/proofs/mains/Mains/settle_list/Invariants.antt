@@ -1,9 +1,0 @@
-use Rattle.std.proofs.Common.{◌≡◌, ◌++◌, map, take}
-use Rattle.parallel_load.specs.Settled.{dependency_of, other_mains, other_numbers}
-use Rattle.parallel_load.proofs.mains.Mains.settle_list.Given as goal
-
-abbrev pub invariant-loop-name : goal.invariant-loop-name
-invariant-loop-name l = record {
-  mains : l.mains.items ≡ other_mains l.self l.unit (take l.name-index l.name-items);
-  deps : l.deps ≡ l.initial.deps ++ map (dependency_of l.kind) (other_numbers l.self l.unit (take l.name-index l.name-items));
-}

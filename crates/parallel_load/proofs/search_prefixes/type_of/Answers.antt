@@ -1,0 +1,13 @@
+use Rattle.std.proofs.Common.{◌∙◌, codes, Some, sym}
+use Rattle.std.proofs.lemmas.Bool.Decides.{Decides-eqb}
+use Rattle.std.proofs.lemmas.Slice.Eq.{strip_suffix_is}
+use Rattle.parallel_load.proofs.search_prefixes.type_of.Goals as goal
+
+pub returns-else-contains : goal.returns-else-contains
+returns-else-contains c =
+    record {
+      word = record {
+        is = strip_suffix_is Decides-eqb c.args.part.now (codes ".d") (Some c.in_ok-word.word) c.in_ok-word.ensures.cases;
+        dotless = sym c.contains.ensures.value ∙ c.if-contains.false;
+      };
+    }

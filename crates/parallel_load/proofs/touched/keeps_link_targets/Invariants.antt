@@ -1,0 +1,6 @@
+use Rattle.std.proofs.Common.{All, take}
+use Rattle.parallel_load.proofs.Prelude.{host_view_of, KeepsLinkTargets}
+use Rattle.parallel_load.proofs.touched.keeps_link_targets.Given as goal
+
+abbrev pub invariant-loop-place : goal.invariant-loop-place
+invariant-loop-place l = All (KeepsLinkTargets l.loaded.host l.loaded.words (host_view_of l.store l.loaded.host)) (take l.place-index l.touched)

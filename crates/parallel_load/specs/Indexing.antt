@@ -1,0 +1,25 @@
+-- The indices of main names: definitions for private clauses.
+-- Source: this project's own.
+use Rattle.std.proofs.Common.{[], ◌<◌, ◌∷◌, ◌≡◌, length, List, ℕ}
+use Rattle.std.specs.Map.{keys_of}
+use Rattle.parallel_load.specs.Prelude.{IsAmong, Name}
+use Rattle.parallel_load.specs.{declared.loaded.NameLoad.NameLoad, declared.loaded.NameLoad.TheVariants.Alias as OfAlias, declared.loaded.NameLoad.TheVariants.Unit as OfUnit, Indices.name_of}
+
+-- ---- the indices of main names
+
+-- the main name of a name that was found
+abbrev pub main_name : Name × NameLoad → Name
+main_name (name, OfUnit unit) = name
+main_name (name, OfAlias of) = of
+
+-- this is the index of a name's main name, if that was found
+pub record IsMainIndex (found : List (Name × NameLoad)) (p : Name × NameLoad) (index : ℕ) : Type 0 where
+  pub below : index < length found
+  pub named : IsAmong (main_name p) (keys_of found) → name_of found index ≡ main_name p
+
+-- these are names that were found, each with the index of its main name
+abbrev pub AreIndexed : List (Name × NameLoad) → List (Name × NameLoad) → List (Name × ℕ) → Type 0
+AreIndexed found [] [] = Unit {0}
+AreIndexed found [] (m ∷ ms) = ⊥
+AreIndexed found (p ∷ ps) [] = ⊥
+AreIndexed found (p ∷ ps) (m ∷ ms) = (m.0 ≡ p.0) × IsMainIndex found p m.1 × AreIndexed found ps ms

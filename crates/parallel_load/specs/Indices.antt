@@ -1,0 +1,40 @@
+-- The names of a load by indices: a name's index is its position in byte order, from 0.
+-- Source: this project's own.
+use Rattle.std.proofs.Common.{[], ◌<◌, ◌≡◌, length, List, Some, ℕ}
+use Rattle.std.specs.FinMap.{find}
+use Rattle.std.specs.Map.{keys_of}
+use Rattle.std.specs.Option.{option_and_then}
+use Rattle.std.specs.Prelude.{slice_index_or}
+use Rattle.parallel_load.specs.Prelude.{DependencyList, DepKind, IsAmong, IsListed, LoadedUnit, Name, name_cmp}
+use Rattle.parallel_load.specs.{declared.loaded.Dependency.Dependency, declared.loaded.NameLoad.NameLoad, Loads.lists_in, Loads.unit_part}
+
+-- the name with this index
+abbrev pub name_of : List (Name × NameLoad) → ℕ → Name
+name_of names index = slice_index_or (keys_of names) index []
+
+-- the name is the main name of a unit among these
+abbrev pub IsUnitAmong : List (Name × NameLoad) → Name → Type 0
+IsUnitAmong names name = (unit : LoadedUnit) × (option_and_then unit_part (find name_cmp name names) ≡ Some unit)
+
+-- this is a dependency that the lists have, by the index of a unit
+pub record IsDependencyOf (names : List (Name × NameLoad)) (lists : List DependencyList) (one : Dependency) : Type 0 where
+  pub below : one.index < length names
+  pub unit : IsUnitAmong names (name_of names one.index)
+  pub listed : IsListed lists one.kind (name_of names one.index)
+
+-- one of the dependencies has this kind and the index of this name
+pub record HasIndex (names : List (Name × NameLoad)) (deps : List Dependency) (dep : DepKind) (name : Name) : Type 0 where
+  pub one : Dependency
+  pub there : IsAmong one deps
+  pub kind_is : one.kind ≡ dep
+  pub named : name_of names one.index ≡ name
+
+-- these are exactly the dependencies that the lists have, by the indices of units
+pub record AreDependenciesOf (names : List (Name × NameLoad)) (lists : List DependencyList) (deps : List Dependency) : Type 0 where
+  pub each : (one : Dependency) → IsAmong one deps → IsDependencyOf names lists one
+  pub all : (dep : DepKind) (name : Name) → IsListed lists dep name → HasIndex names deps dep name
+
+-- For each name these are the dependencies of what it resolves to, by indices.
+pub record AreDependencyAdjacency (names : List (Name × NameLoad)) (table : List (List Dependency)) : Type 0 where
+  pub one_each : length table ≡ length names
+  pub rows : (i : ℕ) (p : Name × NameLoad) → i < length names → AreDependenciesOf names (lists_in (slice_index_or names i p).1) (slice_index_or table i [])

@@ -1,6 +1,0 @@
-use Rattle.std.proofs.Common.{arith, refl}
-use Rattle.start_order.proofs.Frees.{front_least}
-use Rattle.start_order.proofs.free.front_of.Goals as goal
-
-pub returns-in-Some : goal.returns-in-Some
-returns-in-Some c = front_least c.args.nodes.now.items c.in-Some.node.now c.in-Some.ensures.lookup (let l = c.in-Some.ensures.variant.0 refl in omega (arith, l, c.args.nodes.now.ok)) c.requires

@@ -1,0 +1,85 @@
+//! What is known of units, as bit sets.
+ghost use Rattle.std.specs.Prelude.{◌≡◌, ◌↔◌, ◌<◌, ℕ, IfOk, length};
+ghost use Rattle.list_laws.specs.Members.{IsAmong};
+ghost use Rattle.index_rows.specs.Adjacency.{IsMember};
+ghost use Rattle.parallel_load.specs.Loads.{unit_part};
+ghost use Rattle.inverse_deps.specs.Indices.{count_of};
+ghost use Rattle.unit_graph.specs.Graphs.{IsIndexFor};
+ghost use Rattle.start_plan.specs.{Requests.{has_fragment, is_loaded, is_manual}, Bits.{AreBitsBy}};
+
+use index_rows::empty_bits;
+use parallel_load::{Loaded, NameLoad, Status};
+use std::alloc::{AllocError, Global};
+use unit_graph::Graph;
+use unit_name::UnitName;
+
+// The sets of the units that are loaded, and of those that refuse to be started by hand.
+#[derive(Drop)]
+pub(crate) struct StatusBits {
+    pub(crate) loaded: Vec<bool>,
+    pub(crate) manual: Vec<bool>,
+}
+
+// The sets that the units' statuses give. O(n).
+pub(crate) fn status_bits(alloc: Global, load: &Loaded) -> Result<StatusBits, AllocError>
+    ensures loaded { IfOk result (λ bits. AreBitsBy load.now is_loaded bits.loaded.items) }
+    ensures manual { IfOk result (λ bits. AreBitsBy load.now is_manual bits.manual.items) }
+{
+    let names = load.names();
+    let mut loaded = Vec::new(alloc);
+    let mut manual = Vec::new(alloc);
+    for index in 0..names.len() {
+        let one = &names[index].1;
+        loaded.push(is_loaded(one))?;
+        manual.push(is_manual(one))?;
+    }
+    Ok(StatusBits { loaded, manual })
+}
+
+// Whether a name has a unit of its own, and it is loaded.
+fn is_loaded(load: &NameLoad) -> bool
+    ensures loaded { result ≡ is_loaded (unit_part load.now) }
+{
+    match load {
+        NameLoad::Unit(unit) => has_fragment(&unit.get().status),
+        NameLoad::Alias(_) => false,
+    }
+}
+
+fn has_fragment(status: &Status) -> bool
+    ensures fragment { result ≡ has_fragment status.now }
+{
+    match status {
+        Status::Loaded(_) => true,
+        Status::NotFound | Status::Masked | Status::Bad(_) => false,
+    }
+}
+
+// Whether a name has a unit of its own, and it refuses to be started by hand.
+fn is_manual(load: &NameLoad) -> bool
+    ensures manual { result ≡ is_manual (unit_part load.now) }
+{
+    match load {
+        NameLoad::Unit(unit) => unit.get().manual,
+        NameLoad::Alias(_) => false,
+    }
+}
+
+// The set of the units that names resolve to.
+pub(crate) fn named_bits(
+    alloc: Global,
+    graph: &Graph,
+    names: &[UnitName],
+) -> Result<Vec<bool>, AllocError>
+    ensures units { IfOk result (λ bits. length bits.items ≡ count_of graph.now.load) }
+    ensures bits { IfOk result (λ bits. (i : ℕ) → IsMember bits.items i
+        ↔ ((n : _) × IsAmong n names.now × IsIndexFor graph.now.load n i)) }
+{
+    let mut bits = empty_bits(alloc, graph.loaded().names().len())?;
+    for name in names {
+        if let Some(index) = graph.index(name) {
+            bits[index] = true;
+        }
+    }
+    Ok(bits)
+}

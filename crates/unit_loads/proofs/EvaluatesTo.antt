@@ -1,0 +1,25 @@
+-- A unit has the effective settings of its files and its links.
+use Rattle.std.proofs.Common.{◌++◌, ◌∙◌, ◌∷◌, ◌≡◌, ap, List, map, subst, sym}
+use Rattle.unit_loads.proofs.Prelude.{AreDropIns, AreLinkNames, assignments_of, borrowed_notes, bytes_at, Entry, entry_place, EvaluatesTo, file_notes, HasSettings, HostViewMap, items_of, items_with, LinkNames, lists_with, Name, notes_at, PathParts, PlaceParts, refuses, rows_of, setting_notes, settings_of, unit_of_parts, UnitParts}
+use Rattle.unit_loads.proofs.Borrowed.{AreHeld, items_borrowed, notes_borrowed}
+use Rattle.unit_loads.specs.declared.units.UnitNote.TheVariants as note
+
+module _ (s : HostViewMap) (fragment : PlaceParts) (borrowed : List (PathParts × Entry)) (unit : Name) (links : LinkNames) (found : UnitParts) (held : AreHeld s borrowed) (it : EvaluatesTo s fragment borrowed unit links found) where
+  items : items_with s fragment borrowed ≡ items_of s (fragment ∷ found.dropins)
+  items = ap (λ xs. assignments_of (bytes_at s fragment) ++ xs) (items_borrowed s borrowed held ∙ ap (items_of s) (sym it.dropins))
+
+  lines : notes_at s fragment ++ borrowed_notes s borrowed ≡ file_notes s (fragment ∷ found.dropins)
+  lines = ap (λ ns. notes_at s fragment ++ ns) (notes_borrowed s borrowed held ∙ ap (file_notes s) (sym it.dropins))
+
+  pub has_settings : (names : List Name) → AreDropIns s names (map (entry_place s) borrowed) → AreLinkNames s names links → HasSettings s fragment (unit_of_parts unit names fragment found)
+  has_settings names dropins_are links_are = record {
+    dropins_are = subst (λ (ps : List PlaceParts). AreDropIns s names ps) (sym it.dropins) dropins_are;
+    links = links;
+    links_are = links_are;
+    values_are = it.values ∙ ap (λ xs. rows_of (settings_of xs) unit) items;
+    deps_are = it.deps ∙ ap (λ xs. lists_with (settings_of xs) unit links) items;
+    notes_are =
+        it.notes ∙ ap (λ ns. ns ++ map note.Setting (setting_notes (items_with s fragment borrowed) unit links)) lines
+        ∙ ap (λ xs. file_notes s (fragment ∷ found.dropins) ++ map note.Setting (setting_notes xs unit links)) items;
+    manual_is = it.manual ∙ ap (λ xs. refuses (settings_of xs)) items;
+  }

@@ -1,0 +1,124 @@
+//! The effective settings of a unit's files and links.
+ghost use Rattle.std.specs.Prelude.{◌≡◌, ◌++◌, IfOk, OnOk, map};
+ghost use Rattle.setting_rules.specs.{Rows.{escape_notes, rows_of}, Settings.{settings_of}, Switches.{refuses}};
+ghost use Rattle.unit_loads.specs.Units.{dependency_notes, lists_with, setting_notes};
+
+use crate::dependencies::named_units;
+use crate::files::UnitText;
+use crate::links::LinkNames;
+use crate::units::UnitNote;
+use plain_values::Items;
+use section_reader::Assignment;
+use setting_rules::{
+    DependencyList, Row, SettingNote, Settings, apply, refuses_manual_start, values,
+};
+use std::alloc::{AllocError, Global};
+use std::mem;
+use unit_name::UnitName;
+
+/// The effective settings of a unit's files and links.
+#[derive(Drop)]
+pub(crate) struct EffectiveSettings {
+    /// The values of keys that set no dependencies.
+    pub values: Items<Row>,
+    /// The names that words and links give, for each kind that a unit file may set.
+    pub deps: Items<DependencyList>,
+    /// What is wrong in files, with settings, and with links.
+    pub notes: Items<UnitNote>,
+    /// Whether the unit refuses to be started by hand.
+    pub manual: bool,
+}
+
+impl EffectiveSettings {
+    /// Evaluates the text and the link names of the unit with a name. Fails only if memory runs out.
+    pub fn of(
+        alloc: Global,
+        unit: &UnitName,
+        text: UnitText,
+        links: LinkNames,
+    ) -> Result<EffectiveSettings, AllocError>
+        ensures values { IfOk result (λ it. it.values ≡ rows_of (settings_of text.items) unit.now) }
+        ensures deps { IfOk result (λ it. it.deps ≡ lists_with (settings_of text.items) unit.now links) }
+        ensures notes { IfOk result (λ it. it.notes
+            ≡ text.notes ++ map UnitNote.Setting (setting_notes text.items unit.now links)) }
+        ensures manual { IfOk result (λ it. it.manual ≡ refuses (settings_of text.items)) }
+    {
+        let UnitText { items, mut notes } = text;
+        let outcome = Outcome::of(alloc, items.as_slice(), unit, links)?;
+        add_setting_notes(&mut notes, outcome.notes)?;
+        Ok(EffectiveSettings {
+            values: outcome.values,
+            deps: outcome.deps,
+            notes,
+            manual: outcome.manual,
+        })
+    }
+}
+
+// The effective settings of the assignments and the links of a unit, with the notes on settings alone.
+#[derive(Drop)]
+struct Outcome {
+    values: Items<Row>,
+    deps: Items<DependencyList>,
+    notes: Items<SettingNote>,
+    manual: bool,
+}
+
+impl Outcome {
+    // Evaluates assignments and links for a unit.
+    fn of(
+        alloc: Global,
+        items: &[Assignment],
+        unit: &UnitName,
+        links: LinkNames,
+    ) -> Result<Outcome, AllocError>
+        ensures values { IfOk result (λ it. it.values ≡ rows_of (settings_of items.now) unit.now) }
+        ensures deps { IfOk result (λ it. it.deps ≡ lists_with (settings_of items.now) unit.now links) }
+        ensures notes { IfOk result (λ it. it.notes ≡ setting_notes items.now unit.now links) }
+        ensures manual { IfOk result (λ it. it.manual ≡ refuses (settings_of items.now)) }
+    {
+        let mut settings = apply(alloc, items)?;
+        let notes = mem::replace(&mut settings.notes, Items::new(alloc));
+        Outcome::of_settings(alloc, &settings, notes, unit, links)
+    }
+
+    // Evaluates settings and links for a unit; its notes follow those on the settings.
+    fn of_settings(
+        alloc: Global,
+        settings: &Settings,
+        noted: Items<SettingNote>,
+        unit: &UnitName,
+        links: LinkNames,
+    ) -> Result<Outcome, AllocError>
+        ensures values { IfOk result (λ it. it.values ≡ rows_of settings.now.map unit.now) }
+        ensures deps { IfOk result (λ it. it.deps ≡ lists_with settings.now.map unit.now links) }
+        ensures notes { IfOk result (λ it. it.notes
+            ≡ noted ++ escape_notes settings.now.map unit.now ++ dependency_notes settings.now.map unit.now links) }
+        ensures manual { IfOk result (λ it. it.manual ≡ refuses settings.now.map) }
+    {
+        let mut notes = noted;
+        let values = values(alloc, settings, unit)?;
+        notes.append(values.notes)?;
+        let named = named_units(alloc, settings, unit, links)?;
+        notes.append(named.notes)?;
+        Ok(Outcome {
+            values: values.rows,
+            deps: named.lists,
+            notes,
+            manual: refuses_manual_start(settings),
+        })
+    }
+}
+
+// Adds notes on settings.
+fn add_setting_notes(
+    notes: &mut Items<UnitNote>,
+    more: Items<SettingNote>,
+) -> Result<(), AllocError>
+    ensures added { OnOk result (notes.new ≡ notes.old ++ map UnitNote.Setting more) }
+{
+    for note in more.into_vec() {
+        notes.push(UnitNote::Setting(note))?;
+    }
+    Ok(())
+}

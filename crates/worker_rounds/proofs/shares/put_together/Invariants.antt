@@ -1,5 +1,0 @@
-use Rattle.worker_rounds.specs.Joined.{IsJoined}
-use Rattle.worker_rounds.proofs.shares.put_together.Given as goal
-
-abbrev pub invariant-loop-part : goal.invariant-loop-part
-invariant-loop-part g l = IsJoined l.yielded l.all.items

@@ -1,8 +1,0 @@
--- How many workers may load.
--- Source: this project's own.
-use Rattle.std.specs.Prelude.{◌<◌, ◌≤◌, ℕ}
-
--- 1 to 64 workers
-pub record IsCrew (workers : ℕ) : Type 0 where
-  pub some : 0 < workers
-  pub within : workers ≤ 64
