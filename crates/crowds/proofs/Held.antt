@@ -1,15 +1,7 @@
 -- The result of a crowd: how many takes, and how many paths.
-use Rattle.std.proofs.Common.{[], ◌*◌, ◌++◌, ◌<◌, ◌==◌, ◌∙◌, ◌∷◌, ◌≡◌, ◌≤◌, ◌⊎◌, ap, arith, Bool, cond, false, get_or, inl, inr, length, List, map, nat_lt, refl, subst, sym, true, ℕ}
-use Rattle.std.proofs.Math.Dec.{leb}
-use Rattle.std.proofs.lemmas.Bool.{and_parts, ltb-true}
-use Rattle.std.proofs.lemmas.Bool.Decides.{leb_tells}
-use Rattle.std.proofs.lemmas.List.Sums.{sum_by-cons}
-use Rattle.std.proofs.lemmas.Option.{slice_get-get_or}
-use Rattle.std.specs.List.{sum_by}
-use Rattle.std.specs.Ordering.{eq_by_cmp}
-use Rattle.std.specs.Prelude.{count_by}
-use Rattle.crowds.proofs.Prelude.{Absorbed, all_edits, AllAgree, crowd_place, crowd_places, Edit, edit_at, Edited, edits_in, edits_of, HaveWorked, HistoryEvent, is_own, IsAmong, IsAmong-append_cases, IsAmong-append_left, IsAmong-append_right, IsLegal, Opening, own_edits, place_cmp, places_with, Replicated, SeatNow, store_of, takes_in, tied}
-use Rattle.crowds.proofs.{Listed.from_places, Listed.in_places, Ours.all_pass, Ours.is_ours, Ours.ours_many, Ours.sum_same, Own.own_grows, SamePaths.AreAmongPlaces, SamePaths.same_places}
+use Rattle.std.proofs.Common.{◌*◌, ◌++◌, ◌<◌, ◌==◌, ◌∷◌, ◌≡◌, ◌≤◌, ◌⊎◌}
+use Rattle.crowds.proofs.Prelude.{[], Absorbed, all_edits, AllAgree, and_parts, ap, arith, Bool, cond, count_by, crowd_place, crowd_places, Edit, edit_at, Edited, edits_in, edits_of, eq_by_cmp, false, get_or, HaveWorked, HistoryEvent, inl, inr, is_own, IsAmong, IsAmong-append_cases, IsAmong-append_left, IsAmong-append_right, IsLegal, leb, leb_tells, length, List, ltb-true, map, nat_lt, Opening, own_edits, place_cmp, places_with, refl, Replicated, SeatNow, slice_get-get_or, store_of, subst, sum_by, sum_by-cons, sym, takes_in, tied, true, ℕ, ◌∙◌}
+use Rattle.crowds.proofs.{Listed.{from_places, in_places}, Ours.{all_pass, is_ours, ours_many, sum_same}, Own.{own_grows}, SamePaths.{AreAmongPlaces, same_places}}
 use Rattle.std.specs.FinMap as finmap
 
 -- the edits of an event of the crowd are at a worker's path

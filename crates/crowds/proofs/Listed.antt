@@ -1,10 +1,6 @@
 -- The paths of a crowd, each by its worker.
-use Rattle.std.proofs.Common.{[], ◌+◌, ◌<◌, ◌==◌, ◌∙◌, ◌∷◌, ◌≡◌, ◌≤◌, ◌⊎◌, ap, arith, Bool, false, if◌then◌else◌, inl, inr, List, map, refl, subst, suc, sym, true, zero, ℕ}
-use Rattle.std.proofs.Math.Dec.{leb}
-use Rattle.std.proofs.lemmas.Bool.{ne_eqb}
-use Rattle.std.proofs.lemmas.Bool.Decides.{leb_tells}
-use Rattle.std.specs.List.{range_with_len}
-use Rattle.crowds.proofs.Prelude.{crowd_place, crowd_places, Edit, edit_at, IsAmong}
+use Rattle.std.proofs.Common.{if◌then◌else◌, ◌+◌, ◌<◌, ◌==◌, ◌∷◌, ◌≡◌, ◌≤◌, ◌⊎◌}
+use Rattle.crowds.proofs.Prelude.{[], ap, arith, Bool, crowd_place, crowd_places, Edit, edit_at, false, inl, inr, IsAmong, leb, leb_tells, List, map, ne_eqb, range_with_len, refl, subst, suc, sym, true, zero, ℕ, ◌∙◌}
 
 among_map : {X Y : Type 0} (f : X → Y) (x : X) (xs : List X) → IsAmong x xs → IsAmong (f x) (map f xs)
 among_map f x [] a = absurd a

@@ -1,6 +1,6 @@
 -- What is made of a valid text.
-use Rattle.std.proofs.Common.{◌≡◌, ◌⊎◌, Bool, Err, false, if◌then◌else◌, inl, inr, List, Ok, true, ℕ}
-use Rattle.crowds.proofs.Prelude.{Content, File, file_of, is_file, path_of, PathParts}
+use Rattle.std.proofs.Common.{if◌then◌else◌, ◌≡◌, ◌⊎◌}
+use Rattle.crowds.proofs.Prelude.{Bool, Content, Err, false, File, file_of, inl, inr, is_file, List, Ok, path_of, PathParts, true, ℕ}
 use Rattle.load_path.specs.declared.paths.PathFault.TheVariants as path
 use Rattle.edit_sums.specs.declared.contents.ContentFault.TheVariants as content
 

@@ -1,14 +1,6 @@
 -- All takes of a node are its crowd's, if there are as many.
-use Rattle.std.proofs.Common.{[], ◌&&◌, ◌*◌, ◌+◌, ◌<◌, ◌==◌, ◌∷◌, ◌≡◌, ◌≤◌, ◌⊎◌, ap, arith, Bool, cond, false, inl, inr, length, List, nat_lt, refl, slice_get, Some, subst, suc, true, zero, ℕ}
-use Rattle.std.proofs.Math.Dec.{leb}
-use Rattle.std.proofs.Math.Nat.{suc-mul}
-use Rattle.std.proofs.lemmas.Bool.{eq-eqb, le-ltb, lt-ltb, ne_eqb}
-use Rattle.std.proofs.lemmas.Bool.Decides.{leb_tells}
-use Rattle.std.proofs.lemmas.List.Sums.{count_by-le-length, sum_by-cons}
-use Rattle.std.specs.List.{sum_by}
-use Rattle.std.specs.Ordering.{eq_by_cmp}
-use Rattle.std.specs.Prelude.{count_by}
-use Rattle.crowds.proofs.Prelude.{Absorbed, crowd_place, Edit, Edited, HistoryEvent, is_own, IsAmong, Opening, own_edits, place_cmp}
+use Rattle.std.proofs.Common.{◌&&◌, ◌*◌, ◌+◌, ◌<◌, ◌==◌, ◌∷◌, ◌≡◌, ◌≤◌, ◌⊎◌}
+use Rattle.crowds.proofs.Prelude.{[], Absorbed, ap, arith, Bool, cond, count_by, count_by-le-length, crowd_place, Edit, Edited, eq-eqb, eq_by_cmp, false, HistoryEvent, inl, inr, is_own, IsAmong, le-ltb, leb, leb_tells, length, List, lt-ltb, nat_lt, ne_eqb, Opening, own_edits, place_cmp, refl, slice_get, Some, subst, suc, suc-mul, sum_by, sum_by-cons, true, zero, ℕ}
 
 -- an edit of a worker's own file, by one of these workers
 abbrev pub is_ours : ℕ → HistoryEvent → Bool

@@ -1,10 +1,7 @@
 -- A worker's own edits, and one more.
-use Rattle.std.proofs.Common.{◌+◌, ◌==◌, ◌∙◌, ◌≡◌, ◌≤◌, ap, arith, cond, List, refl, subst, sym, true, ℕ}
-use Rattle.std.proofs.lemmas.Bool.{and_from, eq-eqb}
-use Rattle.std.proofs.lemmas.List.Sums.{sum_by-append, sum_by_push}
-use Rattle.std.specs.Ordering.{eq_by_cmp}
+use Rattle.std.proofs.Common.{◌+◌, ◌==◌, ◌≡◌, ◌≤◌}
 use mathlib.Core.List.{IsPrefix}
-use Rattle.crowds.proofs.Prelude.{crowd_place, Edit, Edited, EndsWith, HistoryEvent, is_own, own_edits, place_cmp, PlaceParts, same_place}
+use Rattle.crowds.proofs.Prelude.{and_from, ap, arith, cond, crowd_place, Edit, Edited, EndsWith, eq-eqb, eq_by_cmp, HistoryEvent, is_own, List, own_edits, place_cmp, PlaceParts, refl, same_place, subst, sum_by-append, sum_by_push, sym, true, ℕ, ◌∙◌}
 
 pub own_grows : (worker : ℕ) (seen h : List HistoryEvent) → IsPrefix seen h → own_edits worker seen ≤ own_edits worker h
 own_grows worker seen h p =

@@ -1,15 +1,8 @@
 -- The text of a worker's path is read as that path.
-use Rattle.std.proofs.Common.{[], ◌++◌, ◌<◌, ◌^◌, ◌∙◌, ◌∷◌, ◌≡◌, ap, arith, codes, length, length-append, List, nat_le, Ok, refl, rules, true, ℕ}
-use Rattle.std.proofs.lemmas.Bool.{and_from, and_parts, le-leb, lt-ltb}
-use Rattle.std.proofs.lemmas.Bool.Decides.{nat_tests}
-use Rattle.std.proofs.lemmas.Fmt.{digits_decimal, length-decimal-le}
-use Rattle.std.proofs.lemmas.Str.Parse.{IsDigitsTest, numerals_by_value}
-use Rattle.std.specs.Char.{is_ascii_digit}
-use Rattle.std.specs.Fmt.{decimal}
-use Rattle.std.specs.List.{list_all}
-use Rattle.crowds.proofs.Prelude.{are_their_texts, is_component, is_component_byte, IsPath, path_of}
-use Rattle.crowds.specs.Crowds.{crowd_path}
+use Rattle.std.proofs.Common.{◌++◌, ◌<◌, ◌^◌, ◌∷◌, ◌≡◌}
 use Rattle.load_path.specs.Paths.{text_of}
+use Rattle.crowds.proofs.Prelude.{[], and_from, and_parts, ap, are_their_texts, arith, codes, decimal, digits_decimal, is_ascii_digit, is_component, is_component_byte, IsDigitsTest, IsPath, le-leb, length, length-append, length-decimal-le, List, list_all, lt-ltb, nat_le, nat_tests, numerals_by_value, Ok, path_of, refl, rules, true, ℕ, ◌∙◌}
+use Rattle.crowds.specs.Crowds.{crowd_path}
 
 abbrev AreDigits : List ℕ → Type 0
 AreDigits digits = list_all is_ascii_digit digits ≡ true

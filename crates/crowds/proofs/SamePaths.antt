@@ -1,10 +1,6 @@
 -- Lists of edits at the same paths give stores with the same number of paths.
-use Rattle.std.proofs.Common.{[], ◌&&◌, ◌∙◌, ◌∷◌, ◌≡◌, ap, Bool, cond, false, is_some, length, List, map, None, Option, refl, Some, subst, sym, T, true}
-use Rattle.std.proofs.lemmas.List.{length-map}
-use Rattle.std.specs.FinMap.{find, FinMap, is_sorted}
-use Rattle.std.specs.FinMap.Entries.{below_all}
-use Rattle.std.specs.Ordering.{eq_by_cmp, is_lt}
-use Rattle.crowds.proofs.Prelude.{Edit, edit_of, Entry, entry_of, EntryMap, get-sum_of, greatest_at, greatest_at-above, greatest_at-found, IsAmong, IsBelow, place_cmp, place_cmp-IsAntisymmetric, place_cmp_total, PlaceParts, sum_of}
+use Rattle.std.proofs.Common.{◌&&◌, ◌∷◌, ◌≡◌}
+use Rattle.crowds.proofs.Prelude.{[], ap, below_all, Bool, cond, Edit, edit_of, Entry, entry_of, EntryMap, eq_by_cmp, false, find, FinMap, get-sum_of, greatest_at, greatest_at-above, greatest_at-found, is_lt, is_some, is_sorted, IsAmong, IsBelow, length, length-map, List, map, None, Option, place_cmp, place_cmp-IsAntisymmetric, place_cmp_total, PlaceParts, refl, Some, subst, sum_of, sym, T, true, ◌∙◌}
 use Rattle.std.specs.FinMap as finmap
 
 -- the entries without their contents

@@ -1,8 +1,6 @@
 -- The list of seats: one more seat, and the result of each.
-use Rattle.std.proofs.Common.{[], ◌++◌, ◌<◌, ◌∙◌, ◌∷◌, ◌≡◌, All, ap, arith, get_or, IfOk, length, List, map, Ok, refl, Result, slice_get, Some, subst, suc, sym, zero, ℕ}
-use Rattle.std.proofs.lemmas.List.{length-map, map-append}
-use Rattle.std.proofs.lemmas.List.Elements.{All-cons, All-nil}
-use Rattle.crowds.proofs.Prelude.{AreFresh, AreGathered, HasWorked, HaveWorked, SeatNow}
+use Rattle.std.proofs.Common.{◌++◌, ◌<◌, ◌∷◌, ◌≡◌}
+use Rattle.crowds.proofs.Prelude.{[], All, All-cons, All-nil, ap, AreFresh, AreGathered, arith, get_or, HasWorked, HaveWorked, IfOk, length, length-map, List, map, map-append, Ok, refl, Result, SeatNow, slice_get, Some, subst, suc, sym, zero, ℕ, ◌∙◌}
 
 -- the last element of a list is at its end, and the others keep their positions
 push_cases : {X : Type 0} (P : ℕ → X → Type 0) (xs : List X) (x : X) → ((k : ℕ) (y : X) → slice_get xs k ≡ Some y → P k y) → P (length xs) x → (k : ℕ) (y : X) → slice_get (xs ++ x ∷ []) k ≡ Some y → P k y

@@ -1,9 +1,7 @@
 -- What a crowd writes, and how many places are held then.
 -- Source: this project's own.
-use Rattle.std.proofs.Common.{[], ◌++◌, ◌==◌, codes, if◌then◌else◌, List, map, ℕ}
-use Rattle.std.specs.Fmt.{decimal}
-use Rattle.std.specs.List.{range_with_len}
-use Rattle.crowds.specs.Prelude.{Edit, edits_of, EntryMap, Fleet, Gone, PathParts, PlaceParts, sum_of}
+use Rattle.std.proofs.Common.{if◌then◌else◌, ◌++◌, ◌==◌}
+use Rattle.crowds.specs.Prelude.{[], codes, decimal, Edit, edits_of, EntryMap, Fleet, Gone, List, map, PathParts, PlaceParts, range_with_len, sum_of, ℕ}
 use Rattle.std.specs.FinMap as finmap
 
 -- the path of a worker's own file

@@ -1,10 +1,7 @@
 -- What a worker of a crowd has done.
 -- Source: this project's own.
-use Rattle.std.proofs.Common.{◌&&◌, ◌==◌, ◌≡◌, ◌≤◌, Bool, false, List, map, Ok, Result, slice_get, Some, ℕ}
-use Rattle.std.specs.Ordering.{eq_by_cmp}
-use Rattle.std.specs.Prelude.{count_by}
-use Rattle.crowds.specs.Prelude.{Absorbed, Edited, HistoryEvent, Opening, place_cmp, SeatNow}
-use Rattle.crowds.specs.Crowds.{crowd_place}
+use Rattle.std.proofs.Common.{◌&&◌, ◌==◌, ◌≡◌, ◌≤◌}
+use Rattle.crowds.specs.{Crowds.{crowd_place}, Prelude.{Absorbed, Bool, count_by, Edited, eq_by_cmp, false, HistoryEvent, List, map, Ok, Opening, place_cmp, Result, SeatNow, slice_get, Some, ℕ}}
 
 -- the event is an edit of the worker's own file, from the seat with its number
 abbrev pub is_own : ℕ → HistoryEvent → Bool

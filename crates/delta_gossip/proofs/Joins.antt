@@ -1,7 +1,6 @@
 -- The order of stores, and their joins.
-use Rattle.std.proofs.Common.{[], ◌∙◌, ◌∷◌, ◌≡◌, All, ap, Err, List, Ok, OnErr, Result, subst, sym}
-use Rattle.std.proofs.lemmas.List.Elements.{All-cons, All-head, All-nil, All-tail, All-weaker}
-use Rattle.delta_gossip.proofs.Prelude.{EntryMap, get-sum_of, IsBelow, IsLeastAbove, IsStoreBelow, join, join-least, join-left, join-nothing, join-right, join_all, join_assoc, join_comm, join_idem, Replicated, store_below_antisym, store_below_refl, store_below_trans}
+use Rattle.std.proofs.Common.{◌∷◌, ◌≡◌}
+use Rattle.delta_gossip.proofs.Prelude.{[], All, All-cons, All-head, All-nil, All-tail, All-weaker, ap, EntryMap, Err, get-sum_of, IsBelow, IsLeastAbove, IsStoreBelow, join, join-least, join-left, join-nothing, join-right, join_all, join_assoc, join_comm, join_idem, List, Ok, OnErr, Replicated, Result, store_below_antisym, store_below_refl, store_below_trans, subst, sym, ◌∙◌}
 use Rattle.std.specs.FinMap as finmap
 
 pub on_err : {T E P : Type 0} (r : Result T E) → P → OnErr r P

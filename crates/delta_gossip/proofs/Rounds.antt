@@ -1,7 +1,6 @@
 -- The two loops of a sweep.
-use Rattle.std.proofs.Common.{[], ◌++◌, ◌+◌, ◌<◌, ◌∙◌, ◌∷◌, ◌≡◌, ◌≤◌, All, ap, arith, drop, get_or, length, List, map, refl, set, subst, suc, sym, take, zero, ℕ}
-use Rattle.std.proofs.lemmas.List.{map-append, take-append-drop, take_more}
-use Rattle.delta_gossip.proofs.Prelude.{AreBetween, EntryMap, IsBelow, IsBetween, IsStoreBelow, join, join-least, join-left, join-nothing, join-right, join_all, join_assoc, place_cmp, Replicated, store_below_antisym, store_below_refl, store_below_trans, with_store}
+use Rattle.std.proofs.Common.{◌++◌, ◌+◌, ◌<◌, ◌∷◌, ◌≡◌, ◌≤◌}
+use Rattle.delta_gossip.proofs.Prelude.{[], All, ap, AreBetween, arith, drop, EntryMap, get_or, IsBelow, IsBetween, IsStoreBelow, join, join-least, join-left, join-nothing, join-right, join_all, join_assoc, length, List, map, map-append, place_cmp, refl, Replicated, set, store_below_antisym, store_below_refl, store_below_trans, subst, suc, sym, take, take-append-drop, take_more, with_store, zero, ℕ, ◌∙◌}
 use Rattle.delta_gossip.proofs.Joins.{join_below, nothing_first}
 use Rattle.std.specs.FinMap as finmap
 

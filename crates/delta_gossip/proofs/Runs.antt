@@ -1,10 +1,7 @@
 -- Running all events, and what holds for each node afterwards.
-use Rattle.std.proofs.Common.{[], ◌++◌, ◌+◌, ◌<◌, ◌∙◌, ◌∷◌, ◌≡◌, ap, get_or, length, List, map, None, Option, refl, replicate, slice_get, Some, subst, suc, sym, take, zero, ℕ}
-use Rattle.std.proofs.lemmas.List.{take_more}
-use Rattle.std.proofs.lemmas.Option.{IfSome_then}
-use Rattle.std.specs.Prelude.{IfSome}
-use Rattle.delta_gossip.proofs.Prelude.{after, AreSameEdits, blank, Edit, EntryMap, Event, EventWorld, happens, Node, Replicated, Shows, sum_of, sum_of-same_edits, took, took_by, VersionMap}
-use Rattle.delta_gossip.proofs.{Rounds.stores_of, Shown.node_at}
+use Rattle.std.proofs.Common.{◌++◌, ◌+◌, ◌<◌, ◌∷◌, ◌≡◌}
+use Rattle.delta_gossip.proofs.Prelude.{[], after, ap, AreSameEdits, blank, Edit, EntryMap, Event, EventWorld, get_or, happens, IfSome, IfSome_then, length, List, map, Node, None, Option, refl, replicate, Replicated, Shows, slice_get, Some, subst, suc, sum_of, sum_of-same_edits, sym, take, take_more, took, took_by, VersionMap, zero, ℕ, ◌∙◌}
+use Rattle.delta_gossip.proofs.{Rounds.{stores_of}, Shown.{node_at}}
 use Rattle.std.specs.FinMap as finmap
 
 -- One more event.

@@ -1,10 +1,6 @@
 -- How each event changes the stores, asks and pieces that correspond to a world.
-use Rattle.std.proofs.Common.{[], ◌++◌, ◌∙◌, ◌∷◌, ◌≡◌, ap, length, List, map, None, Option, refl, set, slice_get, Some, subst, suc, sym, zero, ℕ}
-use Rattle.std.proofs.lemmas.List.{map-set, map_push}
-use Rattle.std.proofs.lemmas.Option.{slice_get-map, slice_get_read}
-use Rattle.std.specs.List.{ItemBy}
-use Rattle.std.specs.Option.{option_map}
-use Rattle.delta_gossip.proofs.Prelude.{Ask, Asked, asked_by, changed_at, Cut, cut, cut_for, digest_of, Edit, edits_with, EntryMap, EventWorld, Give, given_to, happens, join, Node, Piece, PlaceParts, Put, Replicated, Shows, sum_of, taken, VersionMap}
+use Rattle.std.proofs.Common.{◌++◌, ◌∷◌, ◌≡◌}
+use Rattle.delta_gossip.proofs.Prelude.{[], ap, Ask, Asked, asked_by, changed_at, Cut, cut, cut_for, digest_of, Edit, edits_with, EntryMap, EventWorld, Give, given_to, happens, ItemBy, join, length, List, map, map-set, map_push, Node, None, Option, option_map, Piece, PlaceParts, Put, refl, Replicated, set, Shows, slice_get, slice_get-map, slice_get_read, Some, subst, suc, sum_of, sym, taken, VersionMap, zero, ℕ, ◌∙◌}
 use Rattle.delta_gossip.proofs.Rounds.{stores_of}
 
 -- the result of `get` and `get_mut`

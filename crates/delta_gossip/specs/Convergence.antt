@@ -1,7 +1,6 @@
 -- Convergence of the program's replicas: strong eventual consistency (Shapiro et al. 2011).
-use Rattle.std.proofs.Common.{◌++◌, ◌≡◌, List, reverse, ℕ}
-use Rattle.delta_gossip.specs.Prelude.{AreSameEdits, Event, IsHonest, IsSumOf, puts_of, sum_of, Took}
-use Rattle.delta_gossip.specs.{declared.worlds.World.World, Shows.NodeHolds, Shows.ReplicaHolds, Shows.took_after}
+use Rattle.std.proofs.Common.{◌++◌, ◌≡◌}
+use Rattle.delta_gossip.specs.{declared.worlds.World.{World}, Prelude.{AreSameEdits, Event, IsHonest, IsSumOf, List, puts_of, reverse, sum_of, Took, ℕ}, Shows.{NodeHolds, ReplicaHolds, took_after}}
 
 -- no version belongs to two different edits among those put
 abbrev pub AreHonest : ℕ → List Event → Type 0

@@ -1,8 +1,7 @@
 -- The result of bringing two replicas together: an anti-entropy round of whole states (Almeida et al. 2018; Shapiro et
 -- al. 2011).
-use Rattle.std.proofs.Common.{◌≡◌, ℕ}
-use Rattle.delta_gossip.specs.Prelude.{changed_places, join, Replicated}
-use Rattle.delta_gossip.specs.Sweeps.{IsBetween, with_store}
+use Rattle.std.proofs.Common.{◌≡◌}
+use Rattle.delta_gossip.specs.{Prelude.{changed_places, join, Replicated, ℕ}, Sweeps.{IsBetween, with_store}}
 
 -- both hold the join of their stores, and `changed` counts the places that changed in each
 pub record AreJoined (a b a' b' : Replicated) (changed : ℕ × ℕ) : Type 0 where

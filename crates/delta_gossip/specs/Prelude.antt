@@ -1,8 +1,5 @@
 -- What the definitions use of std and of the crates below.
 pub use Rattle.edit_sums.specs.Sums.{changed_places}
 pub use Rattle.replica_store.specs.Replicas.{Replicated}
-pub use Rattle.world_law.specs.Cuts.{VersionMap}
-pub use Rattle.world_law.specs.Prelude.{Edit, EntryMap, IsHonest, IsStoreBelow, join, sum_of}
-pub use Rattle.world_law.specs.Took.{IsSumOf, Took}
-pub use Rattle.world_law.specs.Worlds.{after, AreSameEdits, blank, EventWorld, puts_of, took}
-pub use Rattle.world_law.specs.declared.events.Event.{Event}
+pub use Rattle.std.{proofs.Common.{[], All, List, map, reverse, slice_get, ℕ}, specs.Prelude.{IfSome}}
+pub use Rattle.world_law.specs.{Cuts.{VersionMap}, declared.events.Event.{Event}, Prelude.{Edit, EntryMap, IsHonest, IsStoreBelow, join, sum_of}, Took.{IsSumOf, Took}, Worlds.{after, AreSameEdits, blank, EventWorld, puts_of, took}}

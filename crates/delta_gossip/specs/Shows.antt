@@ -1,9 +1,7 @@
 -- How worlds of the program correspond to worlds of the model.
 -- Source: this project's own.
-use Rattle.std.proofs.Common.{◌≡◌, List, map, slice_get, ℕ}
-use Rattle.std.specs.Prelude.{IfSome}
-use Rattle.delta_gossip.specs.Prelude.{after, blank, Edit, EntryMap, Event, EventWorld, took, VersionMap}
-use Rattle.delta_gossip.specs.declared.worlds.World.{World}
+use Rattle.std.proofs.Common.{◌≡◌}
+use Rattle.delta_gossip.specs.{declared.worlds.World.{World}, Prelude.{after, blank, Edit, EntryMap, Event, EventWorld, IfSome, List, map, slice_get, took, VersionMap, ℕ}}
 
 -- these are the stores, asks and pieces of the world
 pub record Shows (w : EventWorld) (stores : List EntryMap) (asks : List VersionMap) (pieces : List EntryMap) : Type 0 where

@@ -1,7 +1,7 @@
 -- The result of a sweep over replicas.
 -- Source (least upper bounds): Shapiro, Preguica, Baquero, Zawirski 2011.
-use Rattle.std.proofs.Common.{[], ◌∷◌, ◌≡◌, All, List}
-use Rattle.delta_gossip.specs.Prelude.{EntryMap, IsStoreBelow, join, Replicated}
+use Rattle.std.proofs.Common.{◌∷◌, ◌≡◌}
+use Rattle.delta_gossip.specs.Prelude.{[], All, EntryMap, IsStoreBelow, join, List, Replicated}
 use Rattle.std.specs.FinMap as finmap
 
 -- the join of all these stores

@@ -1,14 +1,7 @@
 -- Versions at some places only.
-use Rattle.std.proofs.Common.{[], ◌&&◌, ◌++◌, ◌+◌, ◌<◌, ◌||◌, ◌∙◌, ◌∷◌, ◌≡◌, ap, Bool, cond, false, get_or, IsTrue, length, List, None, Option, refl, Some, sym, take, true, ℕ}
-use Rattle.std.proofs.lemmas.List.{take_more}
-use Rattle.std.proofs.lemmas.List.Folds.{list_any-append}
-use Rattle.std.specs.FinMap.{put, same_map}
-use Rattle.std.specs.FinMap.Entries.{find-put, is_sorted-put}
-use Rattle.std.specs.Option.{option_map}
-use Rattle.std.specs.Ordering.{eq_by_cmp}
-use Rattle.delta_pieces.proofs.Prelude.{cut, digest_of, Entry, EntryMap, from_T, get-cut, get-digest_of, get-only_at, is_asked, is_newer, is_wanted, only_at, passed, place_cmp, place_cmp-IsAntisymmetric, place_cmp_total, PlaceParts, same_store, tied, to_T, Version, VersionMap}
+use Rattle.std.{proofs.Common.{◌&&◌, ◌++◌, ◌+◌, ◌<◌, ◌||◌, ◌∷◌, ◌≡◌}, specs.FinMap.{find, is_sorted}}
+use Rattle.delta_pieces.proofs.Prelude.{[], ap, Bool, cond, cut, digest_of, Entry, EntryMap, eq_by_cmp, false, find-put, from_T, get-cut, get-digest_of, get-only_at, get_or, is_asked, is_newer, is_sorted-put, is_wanted, IsTrue, length, List, list_any-append, None, only_at, Option, option_map, passed, place_cmp, place_cmp-IsAntisymmetric, place_cmp_total, PlaceParts, put, refl, same_map, same_store, Some, sym, take, take_more, tied, to_T, true, Version, VersionMap, ℕ, ◌∙◌}
 use Rattle.std.specs.FinMap as finmap
-use Rattle.std.specs.FinMap.{find, is_sorted}
 
 pub put_ascends : (k : PlaceParts) (v : Version) (es : List (PlaceParts × Version)) → IsTrue (is_sorted place_cmp es) → IsTrue (is_sorted place_cmp (put place_cmp k v es))
 put_ascends k v es s = from_T _ (is_sorted-put place_cmp place_cmp_total k v es (to_T _ s))

@@ -1,9 +1,6 @@
 -- Collecting entries place by place.
-use Rattle.std.proofs.Common.{[], ◌&&◌, ◌++◌, ◌+◌, ◌<◌, ◌||◌, ◌∙◌, ◌∷◌, ◌≡◌, ap, Bool, cond, false, filter, get_or, length, List, None, Option, refl, Some, sym, take, true, ℕ}
-use Rattle.std.proofs.lemmas.List.{take_more}
-use Rattle.std.proofs.lemmas.List.Folds.{list_any-append}
-use Rattle.std.specs.Ordering.{eq_by_cmp}
-use Rattle.delta_pieces.proofs.Prelude.{cut, Edit, edit_of, edits_of, Entry, EntryMap, get-cut, get-join, get-sum_of, is_asked, is_newer, is_wanted, join, join-nothing, larger, larger_idem, only_at, passed, place_cmp, PlaceParts, same_store, sum_of, tied, VersionMap, with_edit, with_edit-join}
+use Rattle.std.proofs.Common.{◌&&◌, ◌++◌, ◌+◌, ◌<◌, ◌||◌, ◌∷◌, ◌≡◌}
+use Rattle.delta_pieces.proofs.Prelude.{[], ap, Bool, cond, cut, Edit, edit_of, edits_of, Entry, EntryMap, eq_by_cmp, false, filter, get-cut, get-join, get-sum_of, get_or, is_asked, is_newer, is_wanted, join, join-nothing, larger, larger_idem, length, List, list_any-append, None, only_at, Option, passed, place_cmp, PlaceParts, refl, same_store, Some, sum_of, sym, take, take_more, tied, true, VersionMap, with_edit, with_edit-join, ℕ, ◌∙◌}
 use Rattle.std.specs.FinMap as finmap
 
 nothing : (b : Bool) → ◌≡◌ {A = Option Entry} (cond b None None) None

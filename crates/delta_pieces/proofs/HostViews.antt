@@ -1,11 +1,7 @@
 -- Digests and pieces as maps.
-use Rattle.std.proofs.Common.{[], ◌++◌, ◌==◌, ◌↔◌, ◌∙◌, ◌∷◌, ◌≡◌, ◌≤◌, ap, arith, Bool, cond, drop, false, filter, IsTrue, length, List, map, None, refl, sym, take, true, ℕ}
-use Rattle.std.proofs.lemmas.Bool.Decides.{nat_tests}
-use Rattle.std.proofs.lemmas.List.{length-drop, map-append, take-append-drop}
-use Rattle.std.specs.FinMap.{same_map}
-use Rattle.delta_pieces.proofs.Prelude.{cut, digest_of, Edit, edit_of, Entry, EntryMap, is_newer, is_wanted, join, place_cmp, place_cmp-IsAntisymmetric, place_cmp_total, PlaceParts, sum_of, sum_of-edits_of, to_T, Version, VersionMap}
+use Rattle.std.{proofs.Common.{◌++◌, ◌==◌, ◌↔◌, ◌∷◌, ◌≡◌, ◌≤◌}, specs.FinMap.{find, is_sorted}}
+use Rattle.delta_pieces.proofs.Prelude.{[], ap, arith, Bool, cond, cut, digest_of, drop, Edit, edit_of, Entry, EntryMap, false, filter, is_newer, is_wanted, IsTrue, join, length, length-drop, List, map, map-append, nat_tests, None, place_cmp, place_cmp-IsAntisymmetric, place_cmp_total, PlaceParts, refl, same_map, sum_of, sum_of-edits_of, sym, take, take-append-drop, to_T, true, Version, VersionMap, ℕ, ◌∙◌}
 use Rattle.std.specs.FinMap as finmap
-use Rattle.std.specs.FinMap.{find, is_sorted}
 
 -- the map of sorted versions
 abbrev pub versions_map : List (PlaceParts × Version) → VersionMap

@@ -1,7 +1,6 @@
 -- Copies of entries, joined one by one.
-use Rattle.std.proofs.Common.{[], ◌∙◌, ◌∷◌, ◌≡◌, ap, Bool, Bor, cond, drop, false, filter, List, map, None, Option, refl, Some, suc, sym, take, true, zero, ℕ}
-use Rattle.std.specs.Option.{option_copied, option_map}
-use Rattle.delta_pieces.proofs.Prelude.{digest_of, edit_of, Entry, EntryMap, get-digest_of, is_newer, join, join-nothing, join_assoc, join_comm, PlaceParts, sum_of, sum_of-append, with_edit, with_edit-join}
+use Rattle.std.proofs.Common.{◌∷◌, ◌≡◌}
+use Rattle.delta_pieces.proofs.Prelude.{[], ap, Bool, Bor, cond, digest_of, drop, edit_of, Entry, EntryMap, false, filter, get-digest_of, is_newer, join, join-nothing, join_assoc, join_comm, List, map, None, Option, option_copied, option_map, PlaceParts, refl, Some, suc, sum_of, sum_of-append, sym, take, true, with_edit, with_edit-join, zero, ℕ, ◌∙◌}
 use Rattle.std.specs.FinMap as finmap
 
 abbrev pub sum_at : List (PlaceParts × Entry) → EntryMap

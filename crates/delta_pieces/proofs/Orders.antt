@@ -1,11 +1,6 @@
 -- Operations that keep pairs sorted by place.
-use Rattle.std.proofs.Common.{[], ◌&&◌, ◌++◌, ◌∷◌, ◌≡◌, ap, Bool, cond, drop, false, filter, IsTrue, List, map, refl, subst, sym, take, true, ℕ}
-use Rattle.std.proofs.lemmas.Bool.{and_from, and_parts}
-use Rattle.std.proofs.lemmas.List.{take-append-drop}
-use Rattle.std.specs.FinMap.{FinMap}
-use Rattle.std.specs.FinMap.Entries.{below_all, is_sorted}
-use Rattle.std.specs.Ordering.{is_lt}
-use Rattle.delta_pieces.proofs.Prelude.{from_T, place_cmp, PlaceParts}
+use Rattle.std.proofs.Common.{◌&&◌, ◌++◌, ◌∷◌, ◌≡◌}
+use Rattle.delta_pieces.proofs.Prelude.{[], and_from, and_parts, ap, below_all, Bool, cond, drop, false, filter, FinMap, from_T, is_lt, is_sorted, IsTrue, List, map, place_cmp, PlaceParts, refl, subst, sym, take, take-append-drop, true, ℕ}
 use Rattle.std.specs.FinMap as finmap
 
 module _ {X : Type 0} where

@@ -1,12 +1,6 @@
 -- A pass over entries and versions side by side.
-use Rattle.std.proofs.Common.{[], ◌++◌, ◌+◌, ◌<◌, ◌∙◌, ◌∷◌, ◌≡◌, ◌≢◌, add-one, ap, append-nil, Bool, cond, drop, drop-cons, false, filter, get_or, IsTrue, length, List, None, Option, refl, slice_get, Some, subst, suc, sym, take, true, ℕ}
-use Rattle.std.proofs.lemmas.Bool.{and_parts}
-use Rattle.std.proofs.lemmas.List.Elements.{filter_more}
-use Rattle.std.specs.Cmp.{tied_itself}
-use Rattle.std.specs.FinMap.Entries.{below_all, find, is_sorted}
-use Rattle.std.specs.Ordering.{eq_by_cmp, is_eq, ordering_reverse}
-use Rattle.std.specs.declared.cmp.Ordering.TheVariants.{Equal, Greater, Less}
-use Rattle.delta_pieces.proofs.Prelude.{Entry, find_before, is_equal, is_greater, is_less, is_newer, IsNotBelow, place_cmp, place_cmp_total, PlaceParts, tied, turned, Version}
+use Rattle.std.proofs.Common.{◌++◌, ◌+◌, ◌<◌, ◌∷◌, ◌≡◌, ◌≢◌}
+use Rattle.delta_pieces.proofs.Prelude.{[], add-one, and_parts, ap, append-nil, below_all, Bool, cond, drop, drop-cons, Entry, eq_by_cmp, Equal, false, filter, filter_more, find, find_before, get_or, Greater, is_eq, is_equal, is_greater, is_less, is_newer, is_sorted, IsNotBelow, IsTrue, length, Less, List, None, Option, ordering_reverse, place_cmp, place_cmp_total, PlaceParts, refl, slice_get, Some, subst, suc, sym, take, tied, tied_itself, true, turned, Version, ℕ, ◌∙◌}
 
 -- at the places of these entries, the remaining versions are those of the complete list
 abbrev pub RecordsTheSame : (left versions : List (PlaceParts × Version)) → List (PlaceParts × Entry) → Type 0

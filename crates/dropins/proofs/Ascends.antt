@@ -1,18 +1,9 @@
 -- What is taken, as lists in ascending order of file names.
-use Rattle.std.proofs.Common.{[], ◌++◌, ◌↔◌, ◌∙◌, ◌∷◌, ◌≡◌, ◌⊎◌, ap, Bool, cond, false, filter, inl, inr, List, map, refl, Some, subst, sym, true, ℕ}
-use Rattle.std.proofs.lemmas.List.Elements.{Contains-append_cases, Contains-append_left, Contains-append_right, Contains-push}
-use Rattle.std.proofs.lemmas.List.Kept.{IsStrictlySortedBy-filter}
-use Rattle.std.proofs.lemmas.Map.Views.{btree_map_get_iff}
-use Rattle.std.specs.BTreeMap.{BTreeMap, get, IsOrdered}
-use Rattle.std.specs.Cmp.Lexicographic.{nat_list_cmp_total}
-use Rattle.std.specs.List.{AllByRecursion, Contains}
-use Rattle.std.specs.Map.{keys_of}
-use Rattle.std.specs.declared.cmp.Ordering.TheVariants.{Less}
-use Rattle.dropins.proofs.Prelude.{At, dirs_with, ending, Entry, entry_name, Folder, given, held_there, is_name, IsLinkedOf, IsName, IsTakenOver, Links, made_there, Name, name_cmp, name_cmp-IsAntisymmetric, none_there, Nothing, only_one, over_none, over_of_names, PathParts, Placed, Search, Take, took_over, unmasked}
-use Rattle.dropins.proofs.Lends.{over_iff_taken, over_name}
-use Rattle.std.specs.List.Sorted.{IsStrictlySortedBy}
-use Rattle.std.specs.FinMap as finmap
+use Rattle.std.proofs.Common.{◌++◌, ◌↔◌, ◌∷◌, ◌≡◌, ◌⊎◌}
 use Rattle.path_maps.specs.HostViews.{HostViewMap, view}
+use Rattle.dropins.proofs.Prelude.{[], AllByRecursion, ap, At, Bool, btree_map_get_iff, BTreeMap, cond, Contains, Contains-append_cases, Contains-append_left, Contains-append_right, Contains-push, dirs_with, ending, Entry, entry_name, false, filter, Folder, get, given, held_there, inl, inr, is_name, IsLinkedOf, IsName, IsOrdered, IsStrictlySortedBy, IsStrictlySortedBy-filter, IsTakenOver, keys_of, Less, Links, List, made_there, map, Name, name_cmp, name_cmp-IsAntisymmetric, nat_list_cmp_total, none_there, Nothing, only_one, over_none, over_of_names, PathParts, Placed, refl, Search, Some, subst, sym, Take, took_over, true, unmasked, ℕ, ◌∙◌}
+use Rattle.dropins.proofs.Lends.{over_iff_taken, over_name}
+use Rattle.std.specs.FinMap as finmap
 
 abbrev IsNamed : List ℕ → Take → Type 0
 IsNamed f Nothing = Unit {0}

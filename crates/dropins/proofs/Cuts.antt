@@ -1,10 +1,6 @@
 -- The cuts of a prefix, one at a time, and the names with a cut prefix.
-use Rattle.std.proofs.Common.{[], ◌++◌, ◌-◌, ◌<◌, ◌∙◌, ◌∷◌, ◌≡◌, ◌≤◌, ap, append_assoc, arith, cond, drop, false, fold, get_or, is_ok, length, List, refl, suc, sym, take, true, zero, ℕ}
-use Rattle.std.proofs.lemmas.Bool.{true≢false}
-use Rattle.std.proofs.lemmas.List.{length-drop, take-append-drop, take_all}
-use Rattle.std.specs.List.{flat_map}
-use Rattle.dropins.proofs.Prelude.{BadByte, EmptyPrefix, Instance, instance, is_dash, is_empty, IsFaultOf, IsName, Length, Memory, Name, name_with, NameFault, names_are_their_parts, NoKind, Plain, prefix, prefixes, prefixes_may_be_cut, Shape, shape, suffix, Template, with_name, with_prefix}
-use Rattle.std.proofs.lemmas.List.Sums.{fold-append}
+use Rattle.std.proofs.Common.{◌++◌, ◌-◌, ◌<◌, ◌∷◌, ◌≡◌, ◌≤◌}
+use Rattle.dropins.proofs.Prelude.{[], ap, append_assoc, arith, BadByte, cond, drop, EmptyPrefix, false, flat_map, fold, fold-append, get_or, Instance, instance, is_dash, is_empty, is_ok, IsFaultOf, IsName, Length, length, length-drop, List, Memory, Name, name_with, NameFault, names_are_their_parts, NoKind, Plain, prefix, prefixes, prefixes_may_be_cut, refl, Shape, shape, suc, suffix, sym, take, take-append-drop, take_all, Template, true, true≢false, with_name, with_prefix, zero, ℕ, ◌∙◌}
 
 prefixes_at : (p : List ℕ) (n m : ℕ) → n ≡ suc m → prefixes n p ≡ cond (is_dash (get_or p m 0)) (take n p ∷ prefixes m p) (prefixes m p)
 prefixes_at p n m e = rw e refl

@@ -1,7 +1,6 @@
 -- The first item that says something.
-use Rattle.std.proofs.Common.{◌&&◌, ◌||◌, ◌∙◌, ◌∷◌, ◌≡◌, ap, Bool, cond, false, List, None, Option, refl, Some, true}
-use Rattle.std.specs.Option.{option_or}
-use Rattle.dropins.proofs.Prelude.{first_said, or_none}
+use Rattle.std.proofs.Common.{◌&&◌, ◌||◌, ◌∷◌, ◌≡◌}
+use Rattle.dropins.proofs.Prelude.{ap, Bool, cond, false, first_said, List, None, Option, option_or, or_none, refl, Some, true, ◌∙◌}
 
 module _ {B : Type 0} where
   or_again : (b : Bool) (a : Option B) → option_or a (cond b a None) ≡ a

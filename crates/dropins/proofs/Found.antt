@@ -1,15 +1,6 @@
 -- What the paths of a folder say of a file name.
-use Rattle.std.proofs.Common.{[], ◌&&◌, ◌==◌, ◌||◌, ◌∙◌, ◌∷◌, ◌≡◌, ap, Bool, cond, eq-eqb, false, filter, inl, inr, is_some, IsTrue, List, map, None, Option, refl, Some, sym, true, ℕ}
-use Rattle.std.proofs.lemmas.Bool.{and_from, and_parts, eqb-true}
-use Rattle.std.proofs.lemmas.Cmp.{tied_itself}
-use Rattle.std.proofs.lemmas.Slice.Eq.{bytes_eq-Decides}
-use Rattle.std.specs.FinMap.{contains_key-keys}
-use Rattle.std.specs.FinMap.Entries.{below_all, find, is_sorted}
-use Rattle.std.specs.List.{list_any}
-use Rattle.std.specs.Option.{option_and_then, option_or}
-use Rattle.std.specs.Ordering.{eq_by_cmp, is_eq, ordering_reverse}
-use Rattle.std.specs.Str.{bytes_eq}
-use Rattle.dropins.proofs.Prelude.{Entry, first_said, from_T, HostViewMap, is_equal, is_in, is_less, IsAmong, path, path_cmp, path_cmp-IsAntisymmetric, path_cmp_total, PathParts, said_for, Search, take_at, take_of, view}
+use Rattle.std.proofs.Common.{◌&&◌, ◌==◌, ◌||◌, ◌∷◌, ◌≡◌}
+use Rattle.dropins.proofs.Prelude.{[], and_from, and_parts, ap, below_all, Bool, bytes_eq, bytes_eq-Decides, cond, contains_key-keys, Entry, eq-eqb, eq_by_cmp, eqb-true, false, filter, find, first_said, from_T, HostViewMap, inl, inr, is_eq, is_equal, is_in, is_less, is_some, is_sorted, IsAmong, IsTrue, List, list_any, map, None, Option, option_and_then, option_or, ordering_reverse, path, path_cmp, path_cmp-IsAntisymmetric, path_cmp_total, PathParts, refl, said_for, Search, Some, sym, take_at, take_of, tied_itself, true, view, ℕ, ◌∙◌}
 use Rattle.dropins.proofs.Firsts.{said_among}
 use Rattle.std.specs.FinMap as finmap
 

@@ -1,16 +1,8 @@
 -- Kinds in a list are found by their words, and the types of names are listed one at a time.
-use Rattle.std.proofs.Common.{[], ◌++◌, ◌+◌, ◌<◌, ◌||◌, ◌∙◌, ◌∷◌, ◌≡◌, ap, Bool, cond, false, get_or, length, List, map, refl, Some, sym, take, true, ℕ}
-use Rattle.std.proofs.lemmas.Bool.{true≢false}
-use Rattle.std.proofs.lemmas.Grind.{fold-append}
-use Rattle.std.proofs.lemmas.List.{map-append, take_more}
-use Rattle.std.proofs.lemmas.Option.{same_Some}
-use Rattle.std.proofs.lemmas.Slice.Eq.{bytes_eq-Decides}
-use Rattle.std.specs.List.{list_any}
-use Rattle.std.specs.Str.{bytes_eq}
+use Rattle.std.proofs.{Common.{◌++◌, ◌+◌, ◌<◌, ◌||◌, ◌∷◌, ◌≡◌}, lemmas.Grind.{fold-append}}
+use Rattle.unit_name.specs.contracts.kinds.{Kind.{the_type}, KindPartialEq.TheImpl.{eq-value}}
 use denote.Enum.Bare.{same_false, same_true}
-use Rattle.dropins.proofs.Prelude.{firsts, is_among, Kind, kind, kind_of, kind_of-word, Name, suffix, suffix_is_word, types_of, with_name, word}
-use Rattle.unit_name.specs.contracts.kinds.Kind.{the_type}
-use Rattle.unit_name.specs.contracts.kinds.KindPartialEq.TheImpl.{eq-value}
+use Rattle.dropins.proofs.Prelude.{[], ap, Bool, bytes_eq, bytes_eq-Decides, cond, false, firsts, get_or, is_among, Kind, kind, kind_of, kind_of-word, length, List, list_any, map, map-append, Name, refl, same_Some, Some, suffix, suffix_is_word, sym, take, take_more, true, true≢false, types_of, with_name, word, ℕ, ◌∙◌}
 
 -- Each kind has its own word.
 same_kind : (j k : Kind) → word j ≡ word k → j ≡ k

@@ -1,8 +1,6 @@
 -- The entry that is borrowed for a file name is what is taken for it, as the store has it.
-use Rattle.std.proofs.Common.{[], ◌↔◌, ◌∙◌, ◌∷◌, ◌≡◌, ◌⊎◌, ap, get_or, inl, inr, List, None, Option, refl, Some, subst, sym, ℕ}
-use Rattle.std.proofs.lemmas.Option.{same_Some}
-use Rattle.std.specs.Option.{option_and_then, option_map, option_or}
-use Rattle.dropins.proofs.Prelude.{as_found, At, borrowed, Candidate, candidate_at, Entry, first_is, first_said, first_same, found_iff_taken, found_is_taken, found_name, found_path, HostViewMap, IsTaken, IsTakenOver, levels, Mask, none_stands, NoneStands, Nothing, over_is_either, over_of_names, over_of_types, path, PathParts, Placed, Search, shown, Take, take_at, take_of, taken, taken_in, took, took_in, took_over, view}
+use Rattle.std.proofs.Common.{◌↔◌, ◌∷◌, ◌≡◌, ◌⊎◌}
+use Rattle.dropins.proofs.Prelude.{[], ap, as_found, At, borrowed, Candidate, candidate_at, Entry, first_is, first_said, first_same, found_iff_taken, found_is_taken, found_name, found_path, get_or, HostViewMap, inl, inr, IsTaken, IsTakenOver, levels, List, Mask, None, none_stands, NoneStands, Nothing, Option, option_and_then, option_map, option_or, over_is_either, over_of_names, over_of_types, path, PathParts, Placed, refl, same_Some, Search, shown, Some, subst, sym, Take, take_at, take_of, taken, taken_in, took, took_in, took_over, view, ℕ, ◌∙◌}
 use Rattle.dropins.specs.WalkLaws.{path_or}
 use Rattle.std.specs.FinMap as finmap
 

@@ -1,10 +1,6 @@
 -- One more name in a list, and in the set with the same names.
-use Rattle.std.proofs.Common.{[], ◌++◌, ◌||◌, ◌∙◌, ◌∷◌, ◌≡◌, ap, Bool, cond, false, List, refl, sym, true}
-use Rattle.std.proofs.lemmas.Map.Text.{is_eq-slice_cmp}
-use Rattle.std.proofs.lemmas.Slice.Eq.{bytes_eq-Decides}
-use Rattle.std.specs.Ordering.{is_eq}
-use Rattle.std.specs.Str.{bytes_eq}
-use Rattle.dropins.proofs.Prelude.{is_among, Name, name_cmp}
+use Rattle.std.proofs.Common.{◌++◌, ◌||◌, ◌∷◌, ◌≡◌}
+use Rattle.dropins.proofs.Prelude.{[], ap, Bool, bytes_eq, bytes_eq-Decides, cond, false, is_among, is_eq, is_eq-slice_cmp, List, Name, name_cmp, refl, sym, true, ◌∙◌}
 
 either_way : (x y : Name) → bytes_eq x y ≡ bytes_eq y x
 either_way x y = by (bytes_eq x y) (bytes_eq y x) refl refl

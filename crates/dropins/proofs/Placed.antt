@@ -1,13 +1,6 @@
 -- What is found is added after what was found before, and for each file name the first is taken.
-use Rattle.std.proofs.Common.{[], ◌++◌, ◌∙◌, ◌∷◌, ◌≡◌, ap, Bool, cond, false, List, None, Option, refl, reverse, Some, sym, true, ℕ}
-use Rattle.std.proofs.lemmas.List.{reverse-append}
-use Rattle.std.proofs.lemmas.Map.{update_all_push}
-use Rattle.std.proofs.lemmas.Map.Text.{is_eq-slice_cmp}
-use Rattle.std.specs.Map.{update_all}
-use Rattle.std.specs.Option.{option_or}
-use Rattle.std.specs.Ordering.{eq_by_cmp}
-use Rattle.std.specs.Str.{bytes_eq}
-use Rattle.dropins.proofs.Prelude.{first_for, name_cmp, or_assoc, or_none, Take}
+use Rattle.std.proofs.Common.{◌++◌, ◌∷◌, ◌≡◌}
+use Rattle.dropins.proofs.Prelude.{[], ap, Bool, bytes_eq, cond, eq_by_cmp, false, first_for, is_eq-slice_cmp, List, name_cmp, None, Option, option_or, or_assoc, or_none, refl, reverse, reverse-append, Some, sym, Take, true, update_all, update_all_push, ℕ, ◌∙◌}
 
 -- What a candidate gives for a file name.
 abbrev gives : List ℕ → List ℕ × Take → Option Take

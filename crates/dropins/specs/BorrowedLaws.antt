@@ -1,11 +1,7 @@
 -- Laws of borrowed entries: they give their places.
-use Rattle.std.proofs.Common.{[], ◌↔◌, ◌∷◌, ◌≡◌, ◌⊎◌, ap, inl, inr, List, map, None, Option, refl, Some, subst, sym, ℕ}
-use Rattle.std.proofs.lemmas.List.Elements.{Contains-append_cases, Contains-append_left, Contains-append_right, Contains-push}
-use Rattle.std.specs.List.{Contains}
-use Rattle.std.specs.List.Sorted.{IsStrictlySortedBy}
-use Rattle.std.specs.Option.{option_and_then}
-use Rattle.dropins.specs.Prelude.{Entry, HostViewMap, Name, name_cmp, none_there, only_one, PathParts, PlaceParts, shown, view}
-use Rattle.dropins.specs.{declared.precedence.Search.Search, declared.precedence.Search.TheVariants.DropIns, Taken.AreDropInsOf, Taken.as_found, Taken.Candidate.At, Taken.candidate_at, Taken.entry_name, Taken.entry_place, Taken.file_name, Taken.IsDropInAtOf}
+use Rattle.std.proofs.Common.{◌↔◌, ◌∷◌, ◌≡◌, ◌⊎◌}
+use Rattle.dropins.specs.Prelude.{[], ap, Contains, Contains-append_cases, Contains-append_left, Contains-append_right, Contains-push, Entry, HostViewMap, inl, inr, IsStrictlySortedBy, List, map, Name, name_cmp, None, none_there, only_one, Option, option_and_then, PathParts, PlaceParts, refl, shown, Some, subst, sym, view, ℕ}
+use Rattle.dropins.specs.{declared.precedence.Search.{Search, TheVariants.{DropIns}}, Taken.{AreDropInsOf, as_found, Candidate.{At}, candidate_at, entry_name, entry_place, file_name, IsDropInAtOf}}
 use Rattle.std.specs.FinMap as finmap
 
 -- The places of the entries of a unit's drop-ins are its drop-ins, and they are in ascending order of file names if the

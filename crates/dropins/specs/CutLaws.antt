@@ -1,11 +1,6 @@
 -- Laws of cuts: they are the proper fronts of a prefix that end in a dash, the longer ones first.
-use Rattle.std.proofs.Common.{[], ◌++◌, ◌+◌, ◌-◌, ◌<◌, ◌↔◌, ◌∙◌, ◌∷◌, ◌≡◌, ◌≤◌, ◌⊎◌, add-one, All, ap, arith, Bool, cond, drop, false, get_or, inl, inr, length, length-append, List, refl, subst, suc, sym, take, true, zero, ℕ}
-use Rattle.std.proofs.lemmas.Bool.{cases_lt, eqb-true}
-use Rattle.std.proofs.lemmas.List.{drop_more, length-take-le, take-append-drop, take_more}
-use Rattle.std.proofs.lemmas.List.Elements.{All-cons, All-nil, All-weaker}
-use Rattle.std.proofs.lemmas.List.Kept.{AllPairs-cons}
-use Rattle.std.specs.List.{AllPairs, Contains}
-use Rattle.dropins.specs.Prelude.{among_from_contains, contains_from_among, IsAmong}
+use Rattle.std.proofs.Common.{◌++◌, ◌+◌, ◌-◌, ◌<◌, ◌↔◌, ◌∷◌, ◌≡◌, ◌≤◌, ◌⊎◌}
+use Rattle.dropins.specs.Prelude.{[], add-one, All, All-cons, All-nil, All-weaker, AllPairs, AllPairs-cons, among_from_contains, ap, arith, Bool, cases_lt, cond, Contains, contains_from_among, drop, drop_more, eqb-true, false, get_or, inl, inr, IsAmong, length, length-append, length-take-le, List, refl, subst, suc, sym, take, take-append-drop, take_more, true, zero, ℕ, ◌∙◌}
 use Rattle.dropins.specs.FolderLists.{cuts, is_dash, prefixes}
 
 -- c is a proper front of p, and ends in a dash

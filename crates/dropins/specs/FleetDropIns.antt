@@ -1,9 +1,8 @@
 -- Drop-ins and links without hosts: from the fleet's paths, by rank. Only one law about hosts cites them.
 -- Source: systemd.unit(5), "Description".
-use Rattle.std.proofs.Common.{[], ◌<◌, ◌≡◌, List, slice_get, Some, ℕ}
-use Rattle.std.specs.Option.{option_and_then}
-use Rattle.dropins.specs.Prelude.{IsName, Name, PathMap, PathParts, shown_at}
-use Rattle.dropins.specs.{declared.link_names.Folder.Folder, declared.precedence.Search.Search, declared.precedence.Search.TheVariants.DropIns, declared.precedence.Search.TheVariants.Links, FolderLists.folders, Taken.as_found, Taken.Candidate, Taken.Candidate.At, Taken.dirs_by, Taken.dirs_with, Taken.ending, Taken.name_dirs, Taken.Owner, Taken.Precedes, Taken.type_dirs}
+use Rattle.std.proofs.Common.{◌<◌, ◌≡◌}
+use Rattle.dropins.specs.Prelude.{[], IsName, List, Name, option_and_then, PathMap, PathParts, shown_at, slice_get, Some, ℕ}
+use Rattle.dropins.specs.{declared.{link_names.Folder.{Folder}, precedence.Search.{Search, TheVariants.{DropIns, Links}}}, FolderLists.{folders}, Taken.{as_found, Candidate, Candidate.{At}, dirs_by, dirs_with, ending, name_dirs, Owner, Precedes, type_dirs}}
 
 -- The candidate is visible at the path, which is in one of the four directories and in the folder at this index of the
 -- list.

@@ -1,13 +1,6 @@
 -- Laws of the folders of several names: they are the folders of each, name by name.
-use Rattle.std.proofs.Common.{[], ◌++◌, ◌||◌, ◌↔◌, ◌∙◌, ◌∷◌, ◌≡◌, ◌⊎◌, ap, append-nil, append_assoc, Bool, cond, false, filter, fold, inl, inr, List, not, refl, subst, sym, true}
-use Rattle.std.proofs.lemmas.Bool.{true≢false}
-use Rattle.std.proofs.lemmas.Grind.{flat_map-append, fold-append}
-use Rattle.std.proofs.lemmas.List.Elements.{filter_agree}
-use Rattle.std.proofs.lemmas.List.Folds.{list_any-append}
-use Rattle.std.proofs.lemmas.Slice.Eq.{bytes_eq-Decides}
-use Rattle.std.specs.List.{Contains, flat_map}
-use Rattle.std.specs.Str.{bytes_eq}
-use Rattle.dropins.specs.Prelude.{among_from_contains, contains_from_among, filter_twice, IsAmong, IsAmong-append_cases, IsAmong-append_left, IsAmong-append_right, Name}
+use Rattle.std.proofs.Common.{◌++◌, ◌||◌, ◌↔◌, ◌∷◌, ◌≡◌, ◌⊎◌}
+use Rattle.dropins.specs.Prelude.{[], among_from_contains, ap, append-nil, append_assoc, Bool, bytes_eq, bytes_eq-Decides, cond, Contains, contains_from_among, false, filter, filter_agree, filter_twice, flat_map, flat_map-append, fold, fold-append, inl, inr, IsAmong, IsAmong-append_cases, IsAmong-append_left, IsAmong-append_right, List, list_any-append, Name, not, refl, subst, sym, true, true≢false, ◌∙◌}
 use Rattle.dropins.specs.FolderLists.{firsts, folders, folders_of, is_among, with_name}
 
 -- The folders of `fs` that aren't among the others.

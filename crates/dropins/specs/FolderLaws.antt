@@ -1,13 +1,7 @@
 -- Laws of folder lists: each folder is a name and is listed once.
-use Rattle.std.proofs.Common.{[], ◌++◌, ◌-◌, ◌<◌, ◌∙◌, ◌∷◌, ◌≡◌, ◌≢◌, All, ap, arith, Bool, cond, false, fold, get_or, length, List, None, Option, refl, slice_index, Some, suc, sym, take, true, zero, ℕ}
-use Rattle.std.proofs.lemmas.Bool.{or_parts, true≢false}
-use Rattle.std.proofs.lemmas.List.Elements.{All-append, All-cons, All-head, All-nil, All-push, All-tail}
-use Rattle.std.proofs.lemmas.List.Quantifiers.{all_pairs_push}
-use Rattle.std.proofs.lemmas.Slice.Eq.{bytes_eq-Decides}
-use Rattle.std.specs.List.{AllPairs, Contains, flat_map, list_any}
-use Rattle.std.specs.Str.{bytes_eq}
-use Rattle.dropins.specs.Prelude.{first_there, Instance, is_empty, IsName, later_there, Name, Plain, prefix, prefixes_may_be_cut, Shape, shape, Template, template_at, template_of, templates_keep_parts}
-use Rattle.dropins.specs.{CutLaws.cuts_are_dashed_prefixes, CutLaws.IsDashedPrefix, FolderLists.cuts, FolderLists.folders, FolderLists.folders_of, FolderLists.is_among, FolderLists.is_dash, FolderLists.listed, FolderLists.prefixes, FolderLists.with_name, FolderLists.with_prefix, FolderLists.with_template}
+use Rattle.std.proofs.Common.{◌++◌, ◌-◌, ◌<◌, ◌∷◌, ◌≡◌, ◌≢◌}
+use Rattle.dropins.specs.Prelude.{[], All, All-append, All-cons, All-head, All-nil, All-push, All-tail, all_pairs_push, AllPairs, ap, arith, Bool, bytes_eq, bytes_eq-Decides, cond, Contains, false, first_there, flat_map, fold, get_or, Instance, is_empty, IsName, later_there, length, List, list_any, Name, None, Option, or_parts, Plain, prefix, prefixes_may_be_cut, refl, Shape, shape, slice_index, Some, suc, sym, take, Template, template_at, template_of, templates_keep_parts, true, true≢false, zero, ℕ, ◌∙◌}
+use Rattle.dropins.specs.{CutLaws.{cuts_are_dashed_prefixes, IsDashedPrefix}, FolderLists.{cuts, folders, folders_of, is_among, is_dash, listed, prefixes, with_name, with_prefix, with_template}}
 
 -- A name that is no instance and has no dash in its prefix has one folder.
 abbrev pub OneFolder : Type 0

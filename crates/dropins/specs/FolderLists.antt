@@ -1,9 +1,7 @@
 -- The folders of a list of names.
 -- Source: systemd.unit(5), "Description"; the order of the whole list is this project's own.
-use Rattle.std.proofs.Common.{[], ◌++◌, ◌-◌, ◌==◌, ◌∷◌, Bool, fold, if◌then◌else◌, length, List, map, None, Option, slice_index, Some, suc, take, zero, ℕ}
-use Rattle.std.specs.List.{flat_map, list_any}
-use Rattle.std.specs.Str.{bytes_eq}
-use Rattle.dropins.specs.Prelude.{instance, Name, name_with, prefix, shape, suffix, template_of}
+use Rattle.std.proofs.Common.{if◌then◌else◌, ◌++◌, ◌-◌, ◌==◌, ◌∷◌}
+use Rattle.dropins.specs.Prelude.{[], Bool, bytes_eq, flat_map, fold, instance, length, List, list_any, map, Name, name_with, None, Option, prefix, shape, slice_index, Some, suc, suffix, take, template_of, zero, ℕ}
 
 abbrev pub is_dash : ℕ → Bool
 is_dash b = b == 45

@@ -1,17 +1,7 @@
 -- Laws of the order of one name's folders: a name comes before its template, and both before those of each cut of the prefix.
-use Rattle.std.proofs.Common.{[], ◌++◌, ◌-◌, ◌<◌, ◌∙◌, ◌∷◌, ◌≡◌, ◌≢◌, ◌≤◌, All, ap, append-nil, append_assoc, arith, Bool, cond, false, fold, get_or, length, List, map, None, Option, refl, Some, subst, suc, sym, take, true, zero, ℕ, ⊎_elim}
-use Rattle.std.proofs.lemmas.Bool.{cases_Bool}
-use Rattle.std.proofs.lemmas.Grind.{fold-append}
-use Rattle.std.proofs.lemmas.List.{length-take-le}
-use Rattle.std.proofs.lemmas.List.Concat.{flat_map_single}
-use Rattle.std.proofs.lemmas.List.Elements.{All-append, All-cons, All-nil, All-weaker}
-use Rattle.std.proofs.lemmas.List.Folds.{list_any_none}
-use Rattle.std.proofs.lemmas.Option.{same_Some}
-use Rattle.std.proofs.lemmas.Slice.Eq.{bytes_eq-Decides}
-use Rattle.std.specs.List.{Contains, flat_map}
-use Rattle.std.specs.Str.{bytes_eq}
-use Rattle.dropins.specs.Prelude.{first_there, Instance, instance, is_empty, IsName, later_there, Name, name_with, parts_of_names_fit, Plain, prefix, prefixes_may_be_cut, Shape, shape, suffix, Template, template_at, template_name, template_of, templates_keep_parts, word}
-use Rattle.dropins.specs.{CutLaws.cuts_are_dashed_prefixes, CutLaws.dashed_prefix_at, CutLaws.IsDashedPrefix, FolderLaws.ends_somewhere, FolderLists.cuts, FolderLists.folders, FolderLists.folders_of, FolderLists.is_among, FolderLists.is_dash, FolderLists.listed, FolderLists.prefixes, FolderLists.with_name, FolderLists.with_prefix, FolderLists.with_template}
+use Rattle.std.proofs.Common.{◌++◌, ◌-◌, ◌<◌, ◌∷◌, ◌≡◌, ◌≢◌, ◌≤◌}
+use Rattle.dropins.specs.Prelude.{[], All, All-append, All-cons, All-nil, All-weaker, ap, append-nil, append_assoc, arith, Bool, bytes_eq, bytes_eq-Decides, cases_Bool, cond, Contains, false, first_there, flat_map, flat_map_single, fold, fold-append, get_or, Instance, instance, is_empty, IsName, later_there, length, length-take-le, List, list_any_none, map, Name, name_with, None, Option, parts_of_names_fit, Plain, prefix, prefixes_may_be_cut, refl, same_Some, Shape, shape, Some, subst, suc, suffix, sym, take, Template, template_at, template_name, template_of, templates_keep_parts, true, word, zero, ℕ, ⊎_elim, ◌∙◌}
+use Rattle.dropins.specs.{CutLaws.{cuts_are_dashed_prefixes, dashed_prefix_at, IsDashedPrefix}, FolderLaws.{ends_somewhere}, FolderLists.{cuts, folders, folders_of, is_among, is_dash, listed, prefixes, with_name, with_prefix, with_template}}
 
 -- an instance's folders: its own, then its template's; then, for each cut of its prefix in turn, the same two with that prefix
 abbrev pub FoldersOfInstances : Type 0

@@ -1,11 +1,7 @@
 -- Laws of drop-ins: their order is that of their file names, whatever the folders, and each is a file.
-use Rattle.std.proofs.Common.{[], ◌↔◌, ◌∙◌, ◌∷◌, ◌≡◌, ap, Bool, cond, false, IsTrue, List, map, None, Option, refl, Some, sym, true, ℕ}
-use Rattle.std.specs.Cmp.Lexicographic.{nat_list_cmp_total}
-use Rattle.std.specs.List.{Contains}
-use Rattle.std.specs.List.Sorted.{IsStrictlySortedBy}
-use Rattle.std.specs.Option.{option_and_then}
-use Rattle.dropins.specs.Prelude.{among_from_contains, contains_from_among, Content, content_at, content_viewed, File, Gone, HostViewMap, Link, Name, name_cmp, one_ascending, PathParts, PlaceParts, viewed_at}
-use Rattle.dropins.specs.{FolderLists.folders, Taken.Candidate.At, Taken.Candidate.Mask, Taken.content_as_drop_in, Taken.file_name, Taken.is_conf, Taken.is_null, Taken.IsDropInAt, Taken.IsDropInOf}
+use Rattle.std.proofs.Common.{◌↔◌, ◌∷◌, ◌≡◌}
+use Rattle.dropins.specs.Prelude.{[], among_from_contains, ap, Bool, cond, Contains, contains_from_among, Content, content_at, content_viewed, false, File, Gone, HostViewMap, IsStrictlySortedBy, IsTrue, Link, List, map, Name, name_cmp, nat_list_cmp_total, None, one_ascending, Option, option_and_then, PathParts, PlaceParts, refl, Some, sym, true, viewed_at, ℕ, ◌∙◌}
+use Rattle.dropins.specs.{FolderLists.{folders}, Taken.{Candidate.{At, Mask}, content_as_drop_in, file_name, is_conf, is_null, IsDropInAt, IsDropInOf}}
 
 -- Two lists of places in ascending order of file names that have the same places are equal.
 abbrev pub OneOrder : Type 0

@@ -1,8 +1,7 @@
 -- Laws of what is taken in the folders of names, or else in those of types.
-use Rattle.std.proofs.Common.{[], ◌<◌, ◌↔◌, ◌∙◌, ◌≡◌, ◌≢◌, ◌≤◌, ◌⊎◌, ap, arith, inl, inr, List, None, Option, refl, slice_get, Some, sym, ℕ}
-use Rattle.std.specs.Option.{option_and_then}
-use Rattle.dropins.specs.Prelude.{agree_everywhere, HostViewMap, IsLevel, level_of, path_cmp, path_cmp-IsAntisymmetric, path_cmp_total, PathParts, viewed_at}
-use Rattle.dropins.specs.{declared.precedence.Search.Search, Taken.as_found, Taken.Candidate, Taken.dirs_by, Taken.IsTaken, Taken.IsTakenOver, Taken.Owner, Taken.Owner.OfName, Taken.Owner.OfType, Taken.Precedes, Taken.Stands, WalkLaws.found_is_taken, WalkLaws.none_stands, WalkLaws.taken_once, Walks.taken}
+use Rattle.std.proofs.Common.{◌<◌, ◌↔◌, ◌≡◌, ◌≢◌, ◌≤◌, ◌⊎◌}
+use Rattle.dropins.specs.Prelude.{[], agree_everywhere, ap, arith, HostViewMap, inl, inr, IsLevel, level_of, List, None, Option, option_and_then, path_cmp, path_cmp-IsAntisymmetric, path_cmp_total, PathParts, refl, slice_get, Some, sym, viewed_at, ℕ, ◌∙◌}
+use Rattle.dropins.specs.{declared.precedence.Search.{Search}, Taken.{as_found, Candidate, dirs_by, IsTaken, IsTakenOver, Owner, Owner.{OfName, OfType}, Precedes, Stands}, WalkLaws.{found_is_taken, none_stands, taken_once}, Walks.{taken}}
 
 -- There is no candidate for this file name.
 abbrev pub NoneStands : HostViewMap → Search → List (List ℕ) → List ℕ → Type 0

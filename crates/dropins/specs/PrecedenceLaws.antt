@@ -1,8 +1,7 @@
 -- Laws of what is taken for a file name.
-use Rattle.std.proofs.Common.{◌<◌, ◌∙◌, ◌≡◌, ◌≢◌, ◌≤◌, ◌⊎◌, ap, arith, inl, inr, List, None, Option, refl, slice_get, Some, sym, ℕ}
-use Rattle.std.specs.Option.{option_and_then}
-use Rattle.dropins.specs.Prelude.{agree_everywhere, HostViewMap, IsLevel, level_of, path_cmp, path_cmp-IsAntisymmetric, path_cmp_total, PathParts, viewed_at}
-use Rattle.dropins.specs.{declared.precedence.Search.Search, Taken.as_found, Taken.Candidate, Taken.Candidate.At, Taken.Candidate.Mask, Taken.IsTaken, Taken.Stands, Taken.TakenFor, Walks.taken}
+use Rattle.std.proofs.Common.{◌<◌, ◌≡◌, ◌≢◌, ◌≤◌, ◌⊎◌}
+use Rattle.dropins.specs.Prelude.{agree_everywhere, ap, arith, HostViewMap, inl, inr, IsLevel, level_of, List, None, Option, option_and_then, path_cmp, path_cmp-IsAntisymmetric, path_cmp_total, PathParts, refl, slice_get, Some, sym, viewed_at, ℕ, ◌∙◌}
+use Rattle.dropins.specs.{declared.precedence.Search.{Search}, Taken.{as_found, Candidate, Candidate.{At, Mask}, IsTaken, Stands, TakenFor}, Walks.{taken}}
 use Rattle.dropins.specs.WalkLaws as walk
 
 -- The level decides before the position of the folder: what is taken has at most the level of any candidate for its

@@ -1,11 +1,8 @@
 -- Drop-ins and links: what stands for a file name in the folders of names, and what of it is taken.
 -- Source: systemd.unit(5), "Description"; that the level goes before the closeness of a folder, and that types' folders come after every folder of a name, whatever the levels, is this project's own.
-use Rattle.std.proofs.Common.{[], ◌&&◌, ◌++◌, ◌-◌, ◌<◌, ◌↔◌, ◌∷◌, ◌≡◌, ◌≤◌, ◌⊎◌, Bool, codes, drop, if◌then◌else◌, length, List, map, nat_lt, None, Option, slice_get, Some, ℕ}
-use Rattle.std.specs.List.{Contains}
-use Rattle.std.specs.Option.{option_and_then}
-use Rattle.std.specs.Str.{bytes_eq}
-use Rattle.dropins.specs.Prelude.{Content, Entry, File, Gone, HostViewMap, IsLevel, IsName, level_of, Link, Name, PathParts, PlaceParts, view, viewed_at, viewed_place}
-use Rattle.dropins.specs.{declared.link_names.Folder.Folder, declared.link_names.Folder.TheVariants.Requires, declared.link_names.Folder.TheVariants.Wants, declared.precedence.Search.Search, declared.precedence.Search.TheVariants.DropIns, declared.precedence.Search.TheVariants.Links, FolderLists.folders, FolderLists.types_of}
+use Rattle.std.proofs.Common.{if◌then◌else◌, ◌&&◌, ◌++◌, ◌-◌, ◌<◌, ◌↔◌, ◌∷◌, ◌≡◌, ◌≤◌, ◌⊎◌}
+use Rattle.dropins.specs.Prelude.{[], Bool, bytes_eq, codes, Contains, Content, drop, Entry, File, Gone, HostViewMap, IsLevel, IsName, length, level_of, Link, List, map, Name, nat_lt, None, Option, option_and_then, PathParts, PlaceParts, slice_get, Some, view, viewed_at, viewed_place, ℕ}
+use Rattle.dropins.specs.{declared.{link_names.Folder.{Folder, TheVariants.{Requires, Wants}}, precedence.Search.{Search, TheVariants.{DropIns, Links}}}, FolderLists.{folders, types_of}}
 use Rattle.std.specs.FinMap as finmap
 
 -- what stands for a file name in a folder: it takes the place and gives nothing, or it gives what is at this path

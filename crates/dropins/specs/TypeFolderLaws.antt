@@ -1,11 +1,7 @@
 -- Laws of drop-ins in folders of types: they count last, and where none shows anything the folders of names decide alone.
-use Rattle.std.proofs.Common.{[], ◌++◌, ◌↔◌, ◌∙◌, ◌∷◌, ◌≡◌, ◌⊎◌, All, ap, codes, inl, inr, List, None, slice_get, Some, subst, suc, sym, zero, ℕ}
-use Rattle.std.proofs.lemmas.List.{append_cancel_right}
-use Rattle.std.proofs.lemmas.Option.{none-some, same_Some}
-use Rattle.std.specs.List.{Contains}
-use Rattle.std.specs.Option.{option_and_then}
-use Rattle.dropins.specs.Prelude.{contains_from_among, HostViewMap, IsAmong, IsName, Kind, Name, PathParts, viewed_at, word}
-use Rattle.dropins.specs.{declared.precedence.Search.TheVariants.DropIns, FolderLaws.folders_are_names, FolderLists.folders, FolderLists.types_of, OverLaws.NoneStands, OverLaws.over_is_either, OverLaws.over_of_names, OverLaws.over_once, Taken.as_found, Taken.Candidate, Taken.Candidate.At, Taken.Candidate.Mask, Taken.IsDropIn, Taken.IsTaken, Taken.name_dirs, Taken.Stands, Taken.type_dirs, TypeLaws.among_made, TypeLaws.folders_keep_types, TypeLaws.no_name_has_a_types_folder, TypeLaws.types_are_kinds}
+use Rattle.std.proofs.Common.{◌++◌, ◌↔◌, ◌∷◌, ◌≡◌, ◌⊎◌}
+use Rattle.dropins.specs.Prelude.{[], All, ap, append_cancel_right, codes, Contains, contains_from_among, HostViewMap, inl, inr, IsAmong, IsName, Kind, List, Name, None, none-some, option_and_then, PathParts, same_Some, slice_get, Some, subst, suc, sym, viewed_at, word, zero, ℕ, ◌∙◌}
+use Rattle.dropins.specs.{declared.precedence.Search.TheVariants.{DropIns}, FolderLaws.{folders_are_names}, FolderLists.{folders, types_of}, OverLaws.{NoneStands, over_is_either, over_of_names, over_once}, Taken.{as_found, Candidate, Candidate.{At, Mask}, IsDropIn, IsTaken, name_dirs, Stands, type_dirs}, TypeLaws.{among_made, folders_keep_types, no_name_has_a_types_folder, types_are_kinds}}
 
 -- the folder of a kind's drop-ins, as service.d
 abbrev pub kind_dir : Kind → List ℕ

@@ -1,15 +1,8 @@
 -- Laws of types: a unit's names and folders have the same types, and no folder of a name is named like that of a type.
-use Rattle.std.proofs.Common.{[], ◌++◌, ◌||◌, ◌∙◌, ◌∷◌, ◌≡◌, ◌⊎◌, All, ap, Bool, codes, cond, false, fold, inl, inr, List, map, None, Option, refl, Some, subst, sym, true, ℕ}
-use Rattle.std.proofs.lemmas.Bool.{or_right}
-use Rattle.std.proofs.lemmas.Grind.{fold-append}
-use Rattle.std.proofs.lemmas.List.{append_cancel_right, map-append}
-use Rattle.std.proofs.lemmas.List.Elements.{All-append, All-cons, All-contains, All-head, All-nil, All-tail}
-use Rattle.std.proofs.lemmas.Slice.Eq.{bytes_eq-Decides}
-use Rattle.std.specs.List.{Contains, flat_map}
-use Rattle.std.specs.Str.{bytes_eq}
-use Rattle.dropins.specs.Prelude.{among_from_contains, Automount, contains_from_among, Device, first_there, is_empty, IsAmong, IsName, Kind, kind, later_there, made_of_name, Mount, Name, Path, prefix, prefixes_may_be_cut, Scope, Service, Slice, Socket, suffix, suffix_is_word, Swap, Target, template_of, templates_keep_parts, Timer, word}
-use Rattle.dropins.specs.{CutLaws.cuts_are_dashed_prefixes, CutLaws.IsDashedPrefix, FolderJoinLaws.among_all, FolderJoinLaws.among_firsts, FolderLaws.ends_somewhere, FolderLaws.folders_are_names, FolderLists.cuts, FolderLists.firsts, FolderLists.folders, FolderLists.folders_of, FolderLists.is_among, FolderLists.listed, FolderLists.types_of, FolderLists.with_name, FolderLists.with_prefix, FolderLists.with_template, Taken.name_dirs}
+use Rattle.std.proofs.Common.{◌++◌, ◌||◌, ◌∷◌, ◌≡◌, ◌⊎◌}
 use Rattle.unit_name.specs.Names.{name_of}
+use Rattle.dropins.specs.Prelude.{[], All, All-append, All-cons, All-contains, All-head, All-nil, All-tail, among_from_contains, ap, append_cancel_right, Automount, Bool, bytes_eq, bytes_eq-Decides, codes, cond, Contains, contains_from_among, Device, false, first_there, flat_map, fold, fold-append, inl, inr, is_empty, IsAmong, IsName, Kind, kind, later_there, List, made_of_name, map, map-append, Mount, Name, None, Option, or_right, Path, prefix, prefixes_may_be_cut, refl, Scope, Service, Slice, Socket, Some, subst, suffix, suffix_is_word, Swap, sym, Target, template_of, templates_keep_parts, Timer, true, word, ℕ, ◌∙◌}
+use Rattle.dropins.specs.{CutLaws.{cuts_are_dashed_prefixes, IsDashedPrefix}, FolderJoinLaws.{among_all, among_firsts}, FolderLaws.{ends_somewhere, folders_are_names}, FolderLists.{cuts, firsts, folders, folders_of, is_among, listed, types_of, with_name, with_prefix, with_template}, Taken.{name_dirs}}
 
 -- The types of names are words of kinds.
 abbrev pub TypesAreKinds : Type 0

@@ -1,10 +1,7 @@
 -- Laws of the walk: what it finds first for a file name is what is taken for it, and nothing else is.
-use Rattle.std.proofs.Common.{[], ◌<◌, ◌↔◌, ◌∙◌, ◌∷◌, ◌≡◌, ◌≤◌, ◌⊎◌, ap, arith, Bool, cond, false, get_or, inl, inr, length, List, None, Option, refl, slice_get, Some, subst, sym, true, ℕ}
-use Rattle.std.proofs.lemmas.Bool.{cases_lt}
-use Rattle.std.proofs.lemmas.Option.{get_or_from_slice_get, none-some, same_Some, slice_get-get_or, slice_get_within}
-use Rattle.std.specs.Option.{option_and_then}
-use Rattle.dropins.specs.Prelude.{Content, File, first_is, Gone, HostViewMap, IsFirst, level_is, levels, Link, none_says, PathParts, viewed_at}
-use Rattle.dropins.specs.{declared.precedence.Search.Search, declared.precedence.Search.TheVariants.DropIns, declared.precedence.Search.TheVariants.Links, Taken.as_found, Taken.Candidate, Taken.Candidate.At, Taken.Candidate.Mask, Taken.candidate_at, Taken.content_as_drop_in, Taken.is_conf, Taken.is_null, Taken.IsTaken, Taken.Stands, Taken.TakenFor, Walks.path, Walks.taken, Walks.taken_in}
+use Rattle.std.proofs.Common.{◌<◌, ◌↔◌, ◌∷◌, ◌≡◌, ◌≤◌, ◌⊎◌}
+use Rattle.dropins.specs.Prelude.{[], ap, arith, Bool, cases_lt, cond, Content, false, File, first_is, get_or, get_or_from_slice_get, Gone, HostViewMap, inl, inr, IsFirst, length, level_is, levels, Link, List, None, none-some, none_says, Option, option_and_then, PathParts, refl, same_Some, slice_get, slice_get-get_or, slice_get_within, Some, subst, sym, true, viewed_at, ℕ, ◌∙◌}
+use Rattle.dropins.specs.{declared.precedence.Search.{Search, TheVariants.{DropIns, Links}}, Taken.{as_found, Candidate, Candidate.{At, Mask}, candidate_at, content_as_drop_in, is_conf, is_null, IsTaken, Stands, TakenFor}, Walks.{path, taken, taken_in}}
 
 -- ---- a candidate that gives a path is at that path
 

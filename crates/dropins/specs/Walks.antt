@@ -1,10 +1,8 @@
 -- What is taken for a file name, found by walking through levels and folders: definitions for private clauses.
 -- Source: this project's own.
-use Rattle.std.proofs.Common.{[], ◌++◌, ◌∷◌, ◌≡◌, if◌then◌else◌, List, None, Option, Some, ℕ}
-use Rattle.std.specs.Option.{option_and_then, option_map, option_or}
-use Rattle.std.specs.Str.{bytes_eq}
-use Rattle.dropins.specs.Prelude.{Entry, first_level, first_said, HostViewMap, PathParts, shown, view}
-use Rattle.dropins.specs.{declared.precedence.Search.Search, declared.precedence.Take.Take, declared.precedence.Take.TheVariants.Nothing, declared.precedence.Take.TheVariants.Placed, Taken.as_found, Taken.Candidate, Taken.Candidate.At, Taken.Candidate.Mask, Taken.candidate_at}
+use Rattle.std.proofs.Common.{if◌then◌else◌, ◌++◌, ◌∷◌, ◌≡◌}
+use Rattle.dropins.specs.Prelude.{[], bytes_eq, Entry, first_level, first_said, HostViewMap, List, None, Option, option_and_then, option_map, option_or, PathParts, shown, Some, view, ℕ}
+use Rattle.dropins.specs.{declared.precedence.{Search.{Search}, Take.{Take, TheVariants.{Nothing, Placed}}}, Taken.{as_found, Candidate, Candidate.{At, Mask}, candidate_at}}
 use Rattle.std.specs.FinMap as finmap
 
 abbrev pub path : ℕ → List ℕ → List ℕ → PathParts

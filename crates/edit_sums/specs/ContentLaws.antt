@@ -1,11 +1,7 @@
 -- The order of contents is total, and only equal contents tie.
-use Rattle.std.proofs.Common.{◌≡◌, ap, arith, refl}
-use Rattle.std.specs.Cmp.{IsTotalOrder, nat_cmp_total, on_total, then_total}
-use Rattle.std.specs.Cmp.Lexicographic.{nat_list_cmp_total}
-use Rattle.std.specs.FinMap.{nat_cmp-IsAntisymmetric, slice_cmp-IsAntisymmetric}
-use Rattle.std.specs.declared.cmp.Ordering.TheVariants.{Equal}
-use Rattle.edit_sums.specs.Prelude.{tied_parts}
-use Rattle.edit_sums.specs.{Contents.bytes_of, Contents.content_cmp, Contents.sort_of, declared.contents.Content.Content, declared.contents.Content.TheVariants.File, declared.contents.Content.TheVariants.Gone, declared.contents.Content.TheVariants.Link}
+use Rattle.std.proofs.Common.{◌≡◌}
+use Rattle.edit_sums.specs.Prelude.{ap, arith, Equal, IsTotalOrder, nat_cmp-IsAntisymmetric, nat_cmp_total, nat_list_cmp_total, on_total, refl, slice_cmp-IsAntisymmetric, then_total, tied_parts}
+use Rattle.edit_sums.specs.{Contents.{bytes_of, content_cmp, sort_of}, declared.contents.Content.{Content, TheVariants.{File, Gone, Link}}}
 
 pub content_cmp_total : IsTotalOrder content_cmp
 content_cmp_total = then_total (on_total sort_of nat_cmp_total) (on_total bytes_of nat_list_cmp_total)

@@ -1,10 +1,8 @@
 -- How contents are made of bytes, and their order.
 -- Source: this project's own.
-use Rattle.std.proofs.Common.{[], Err, if◌then◌else◌, List, Ok, Result, ℕ}
-use Rattle.std.specs.Cmp.Lexicographic.{slice_cmp}
-use Rattle.std.specs.Ordering.{nat_cmp, ordering_then}
-use Rattle.std.specs.declared.cmp.Ordering.{Ordering}
-use Rattle.edit_sums.specs.{declared.contents.Content.Content, declared.contents.Content.TheVariants.File, declared.contents.Content.TheVariants.Gone, declared.contents.Content.TheVariants.Link, declared.contents.ContentFault.ContentFault, declared.contents.ContentFault.TheVariants.BadLink, declared.contents.ContentFault.TheVariants.FileTooLarge, Limits.is_file, Limits.is_target}
+use Rattle.std.proofs.Common.{if◌then◌else◌}
+use Rattle.edit_sums.specs.Prelude.{[], Err, List, nat_cmp, Ok, Ordering, ordering_then, Result, slice_cmp, ℕ}
+use Rattle.edit_sums.specs.{declared.contents.{Content.{Content, TheVariants.{File, Gone, Link}}, ContentFault.{ContentFault, TheVariants.{BadLink, FileTooLarge}}}, Limits.{is_file, is_target}}
 
 -- a file of these bytes, or the fault
 abbrev pub file_of : List ℕ → Result Content ContentFault

@@ -1,12 +1,7 @@
 -- The greatest counter that a sum or a join holds.
-use Rattle.std.proofs.Common.{[], ◌++◌, ◌∙◌, ◌∷◌, ◌≡◌, ◌≤◌, ap, arith, false, inl, inr, List, map, None, Option, refl, Some, subst, ℕ}
-use Rattle.std.proofs.lemmas.Bool.Decides.{nat_tests}
-use Rattle.std.specs.Ordering.{is_gt, nat_cmp, ordering_then}
-use Rattle.std.specs.Prelude.{max}
-use Rattle.std.specs.declared.cmp.Ordering.{Ordering}
-use Rattle.std.specs.declared.cmp.Ordering.TheVariants.{Equal, Greater, Less}
-use Rattle.edit_sums.specs.Prelude.{IsAmong, PlaceParts}
-use Rattle.edit_sums.specs.{declared.entries.Edit.Edit, Entries.Entry, Entries.IsBelow, GreatestLaws.get_from_edits_of, SumLaws.sum_of-edits_of, SumLaws.sum_of-IsSum, Sums.edit_of, Sums.edits_of, Sums.entry_of, Sums.EntryMap, Sums.greatest_counter, Sums.high_among, Sums.high_of, Sums.join, Sums.sum_of}
+use Rattle.std.proofs.Common.{◌++◌, ◌∷◌, ◌≡◌, ◌≤◌}
+use Rattle.edit_sums.specs.Prelude.{[], ap, arith, Equal, false, Greater, inl, inr, is_gt, IsAmong, Less, List, map, max, nat_cmp, nat_tests, None, Option, Ordering, ordering_then, PlaceParts, refl, Some, subst, ℕ, ◌∙◌}
+use Rattle.edit_sums.specs.{declared.entries.Edit.{Edit}, Entries.{Entry, IsBelow}, GreatestLaws.{get_from_edits_of}, SumLaws.{sum_of-edits_of, sum_of-IsSum}, Sums.{edit_of, edits_of, entry_of, EntryMap, greatest_counter, high_among, high_of, join, sum_of}}
 use Rattle.std.specs.FinMap as finmap
 
 high_among-append : (xs ys : List Edit) → high_among (xs ++ ys) ≡ max (high_among xs) (high_among ys)

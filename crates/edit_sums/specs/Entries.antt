@@ -1,8 +1,6 @@
 -- The entries of stores: contents of unit files with their versions.
 -- Source (a register in which the last writer wins): Shapiro, Preguica, Baquero, Zawirski 2011.
-use Rattle.std.proofs.Common.{Option}
-use Rattle.std.specs.declared.cmp.Ordering.{Ordering}
-use Rattle.edit_sums.specs.{Contents.content_cmp, declared.contents.Content.Content}
+use Rattle.edit_sums.specs.{Contents.{content_cmp}, declared.contents.Content.{Content}, Prelude.{Option, Ordering}}
 use Rattle.join_law.specs.VersionOrder as order
 use Rattle.join_law.specs.declared.versions.Entry as versioned
 

@@ -1,8 +1,5 @@
 -- An injective encoding of entries, as maps of entries require.
-use Rattle.std.proofs.Common.{refl}
-use Rattle.std.specs.Coded.{code_by, Coded, coded×}
-use Rattle.edit_sums.specs.Prelude.{Version}
-use Rattle.edit_sums.specs.{declared.contents.Content.Content, Entries.Entry}
+use Rattle.edit_sums.specs.{declared.contents.Content.{Content}, Entries.{Entry}, Prelude.{code_by, Coded, coded×, refl, Version}}
 use Rattle.join_law.specs.contracts.versions.Version as version
 use Rattle.edit_sums.specs.contracts.contents.Content as content
 

@@ -1,8 +1,6 @@
 -- The laws of entries, for the order of contents.
-use Rattle.std.proofs.Common.{◌≡◌, ◌⊎◌, None, Option}
-use Rattle.std.specs.Cmp.{IsTotalOrder}
-use Rattle.std.specs.declared.cmp.Ordering.TheVariants.{Equal}
-use Rattle.edit_sums.specs.{ContentLaws.content_cmp-IsAntisymmetric, ContentLaws.content_cmp_total, Contents.content_cmp, Entries.Entry, Entries.entry_cmp, Entries.IsBelow, Entries.larger}
+use Rattle.std.proofs.Common.{◌≡◌, ◌⊎◌}
+use Rattle.edit_sums.specs.{ContentLaws.{content_cmp-IsAntisymmetric, content_cmp_total}, Contents.{content_cmp}, Entries.{Entry, entry_cmp, IsBelow, larger}, Prelude.{Equal, IsTotalOrder, None, Option}}
 use Rattle.join_law.specs.EntryLaws as law
 
 pub entry_cmp_total : IsTotalOrder entry_cmp

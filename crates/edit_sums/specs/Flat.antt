@@ -1,7 +1,6 @@
 -- Edits of stores without hosts.
 -- Source: this project's own.
-use Rattle.edit_sums.specs.Prelude.{Fleet}
-use Rattle.edit_sums.specs.{declared.entries.Edit.Edit, declared.entries.FlatEdit.FlatEdit}
+use Rattle.edit_sums.specs.{declared.entries.{Edit.{Edit}, FlatEdit.{FlatEdit}}, Prelude.{Fleet}}
 
 -- such an edit is for the whole fleet
 abbrev pub at_fleet : FlatEdit → Edit

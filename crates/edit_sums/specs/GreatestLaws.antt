@@ -1,14 +1,8 @@
 -- What sums and joins hold at a place.
-use Rattle.std.proofs.Common.{[], ◌++◌, ◌∙◌, ◌∷◌, ◌≡◌, ap, Bool, cond, false, filter, inl, inr, List, map, None, Option, refl, Some, subst, sym, T, true, unwrap_or}
-use Rattle.std.specs.FinMap.{find, is_sorted}
-use Rattle.std.specs.FinMap.Entries.{below_all}
-use Rattle.std.specs.Ordering.{eq_by_cmp, is_eq, is_gt, is_lt}
-use Rattle.std.specs.declared.cmp.Ordering.{Ordering}
-use Rattle.std.specs.declared.cmp.Ordering.TheVariants.{Equal, Greater, Less}
-use Rattle.edit_sums.specs.Prelude.{IsAmong, place_cmp, place_cmp-IsAntisymmetric, place_cmp_total, PlaceParts, T-both}
-use Rattle.edit_sums.specs.{declared.entries.Edit.Edit, Entries.Entry, Entries.entry_cmp, Entries.IsBelow, Entries.larger, EntryLaws.below_trans, EntryLaws.larger-least, EntryLaws.larger-left, EntryLaws.larger-right, EntryLaws.larger_assoc, EntryLaws.larger_cases, Sums.edit_of, Sums.edits_of, Sums.entry_of, Sums.EntryMap, Sums.greatest_at, Sums.join, Sums.sum_of, Sums.with_edit}
+use Rattle.std.{proofs.Common.{◌++◌, ◌∷◌, ◌≡◌}, specs.Cmp.{tied_itself}}
+use Rattle.edit_sums.specs.Prelude.{[], ap, below_all, Bool, cond, eq_by_cmp, Equal, false, filter, find, Greater, inl, inr, is_eq, is_gt, is_lt, is_sorted, IsAmong, Less, List, map, None, Option, Ordering, place_cmp, place_cmp-IsAntisymmetric, place_cmp_total, PlaceParts, refl, Some, subst, sym, T, T-both, true, unwrap_or, ◌∙◌}
+use Rattle.edit_sums.specs.{declared.entries.Edit.{Edit}, Entries.{Entry, entry_cmp, IsBelow, larger}, EntryLaws.{below_trans, larger-least, larger-left, larger-right, larger_assoc, larger_cases}, Sums.{edit_of, edits_of, entry_of, EntryMap, greatest_at, join, sum_of, with_edit}}
 use Rattle.std.specs.FinMap as finmap
-use Rattle.std.specs.Cmp.{tied_itself}
 
 is_equal : (r : Ordering) → is_eq r ≡ true → r ≡ Equal
 is_equal Less h = cc

@@ -1,7 +1,7 @@
 -- Which bytes are allowed in a file or a link.
 -- Source: this project's own.
-use Rattle.std.proofs.Common.{◌&&◌, Bool, length, List, nat_le, nat_lt, ℕ}
-use Rattle.std.specs.List.{list_all}
+use Rattle.std.proofs.Common.{◌&&◌}
+use Rattle.edit_sums.specs.Prelude.{Bool, length, List, list_all, nat_le, nat_lt, ℕ}
 
 -- the bytes of a file: at most 65,536
 abbrev pub is_file : List ℕ → Bool

@@ -1,9 +1,7 @@
 -- The laws of sums and joins.
-use Rattle.std.proofs.Common.{[], ◌++◌, ◌↔◌, ◌∙◌, ◌∷◌, ◌≡◌, ap, cond, false, List, None, Some, subst, sym, true}
-use Rattle.std.specs.FinMap.{same_map}
-use Rattle.std.specs.Ordering.{eq_by_cmp}
-use Rattle.edit_sums.specs.Prelude.{IsAmong, place_cmp, place_cmp-IsAntisymmetric, place_cmp_total, PlaceParts}
-use Rattle.edit_sums.specs.{declared.entries.Edit.Edit, Entries.IsBelow, Entries.larger, EntryLaws.below_antisym, EntryLaws.below_refl, EntryLaws.below_trans, EntryLaws.larger-least, EntryLaws.larger-left, EntryLaws.larger-None, EntryLaws.larger-right, EntryLaws.larger_assoc, EntryLaws.larger_comm, EntryLaws.larger_idem, GreatestLaws.get-join, GreatestLaws.get-sum_of, GreatestLaws.get-with_edit, GreatestLaws.greatest_at-above, GreatestLaws.greatest_at-append, GreatestLaws.greatest_at-edits_of, GreatestLaws.greatest_at-found, GreatestLaws.greatest_at-least, GreatestLaws.greatest_at-mono, Sums.edits_of, Sums.entry_of, Sums.EntryMap, Sums.greatest_at, Sums.IsAboveEdits, Sums.IsStoreBelow, Sums.IsSum, Sums.join, Sums.sum_of, Sums.with_edit}
+use Rattle.std.proofs.Common.{◌++◌, ◌↔◌, ◌∷◌, ◌≡◌}
+use Rattle.edit_sums.specs.Prelude.{[], ap, cond, eq_by_cmp, false, IsAmong, List, None, place_cmp, place_cmp-IsAntisymmetric, place_cmp_total, PlaceParts, same_map, Some, subst, sym, true, ◌∙◌}
+use Rattle.edit_sums.specs.{declared.entries.Edit.{Edit}, Entries.{IsBelow, larger}, EntryLaws.{below_antisym, below_refl, below_trans, larger-least, larger-left, larger-None, larger-right, larger_assoc, larger_comm, larger_idem}, GreatestLaws.{get-join, get-sum_of, get-with_edit, greatest_at-above, greatest_at-append, greatest_at-edits_of, greatest_at-found, greatest_at-least, greatest_at-mono}, Sums.{edits_of, entry_of, EntryMap, greatest_at, IsAboveEdits, IsStoreBelow, IsSum, join, sum_of, with_edit}}
 use Rattle.std.specs.FinMap as finmap
 
 -- stores with the same entry at each place are equal

@@ -1,13 +1,9 @@
 -- Lists of edits, and their sum.
 -- Source (states as joins of updates, and their order): Shapiro, Preguica, Baquero, Zawirski 2011. Honest edits,
 -- counters and changed places are this project's own.
-use Rattle.std.proofs.Common.{[], ◌++◌, ◌∷◌, ◌≡◌, Bool, if◌then◌else◌, List, map, None, not, Option, Some, true, unwrap_or, ℕ}
-use Rattle.std.specs.FinMap.{FinMap}
-use Rattle.std.specs.Option.{option_and_then}
-use Rattle.std.specs.Ordering.{eq_by_cmp, is_eq}
-use Rattle.std.specs.Prelude.{count_by, max}
-use Rattle.edit_sums.specs.Prelude.{IsAmong, place_cmp, PlaceParts}
-use Rattle.edit_sums.specs.{declared.contents.Content.Content, declared.contents.Content.TheVariants.File, declared.contents.Content.TheVariants.Gone, declared.contents.Content.TheVariants.Link, declared.entries.Edit.Edit, Entries.Entry, Entries.entry_cmp, Entries.IsBelow, Entries.larger}
+use Rattle.std.proofs.Common.{if◌then◌else◌, ◌++◌, ◌∷◌, ◌≡◌}
+use Rattle.edit_sums.specs.Prelude.{[], Bool, count_by, eq_by_cmp, FinMap, is_eq, IsAmong, List, map, max, None, not, Option, option_and_then, place_cmp, PlaceParts, Some, true, unwrap_or, ℕ}
+use Rattle.edit_sums.specs.{declared.{contents.Content.{Content, TheVariants.{File, Gone, Link}}, entries.Edit.{Edit}}, Entries.{Entry, entry_cmp, IsBelow, larger}}
 use Rattle.std.specs.FinMap as finmap
 
 -- a store's content: at most one entry at each place

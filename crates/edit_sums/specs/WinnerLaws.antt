@@ -1,15 +1,9 @@
 -- Which of two edits at one place is held: the order of versions and contents, spelled out.
 -- Source (the last writer wins): Shapiro, Preguica, Baquero, Zawirski 2011; breaking ties by content is this project's
 -- own.
-use Rattle.std.proofs.Common.{[], ◌<◌, ◌∙◌, ◌∷◌, ◌≡◌, ap, arith, cond, None, refl, Some, sym, true, ℕ}
-use Rattle.std.proofs.lemmas.Cmp.{ranked, tied_itself}
-use Rattle.std.specs.Cmp.{nat_cmp_total}
-use Rattle.std.specs.Cmp.Lexicographic.{slice_cmp}
-use Rattle.std.specs.Ordering.{eq_by_cmp, is_eq, is_gt, nat_cmp, ordering_then}
-use Rattle.std.specs.declared.cmp.Ordering.{Ordering}
-use Rattle.std.specs.declared.cmp.Ordering.TheVariants.{Equal, Greater, Less}
-use Rattle.edit_sums.specs.Prelude.{place_cmp, place_cmp_total, PlaceParts, version_cmp, version_cmp_total}
-use Rattle.edit_sums.specs.{Contents.bytes_of, Contents.content_cmp, Contents.sort_of, declared.contents.Content.Content, declared.contents.Content.TheVariants.File, declared.contents.Content.TheVariants.Gone, declared.contents.Content.TheVariants.Link, declared.entries.Edit.Edit, Entries.entry_cmp, Entries.larger, GreatestLaws.get-sum_of, Sums.entry_of, Sums.greatest_at, Sums.sum_of}
+use Rattle.std.proofs.Common.{◌<◌, ◌∷◌, ◌≡◌}
+use Rattle.edit_sums.specs.Prelude.{[], ap, arith, cond, eq_by_cmp, Equal, Greater, is_eq, is_gt, Less, nat_cmp, nat_cmp_total, None, Ordering, ordering_then, place_cmp, place_cmp_total, PlaceParts, ranked, refl, slice_cmp, Some, sym, tied_itself, true, version_cmp, version_cmp_total, ℕ, ◌∙◌}
+use Rattle.edit_sums.specs.{Contents.{bytes_of, content_cmp, sort_of}, declared.{contents.Content.{Content, TheVariants.{File, Gone, Link}}, entries.Edit.{Edit}}, Entries.{entry_cmp, larger}, GreatestLaws.{get-sum_of}, Sums.{entry_of, greatest_at, sum_of}}
 use Rattle.std.specs.FinMap as finmap
 
 -- of two edits at one place the first is held

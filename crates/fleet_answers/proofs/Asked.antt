@@ -1,11 +1,6 @@
 -- Names and places that are compared.
-use Rattle.std.proofs.Common.{[], ◌==◌, ◌↔◌, ◌∙◌, ◌∷◌, ◌≡◌, ◌≢◌, ◌⊎◌, arith, Bool, inl, inr, length, List, refl, subst, sym, true, vec_len}
-use Rattle.std.proofs.lemmas.Bool.{cases_eq, ne_eqb}
-use Rattle.std.specs.Cmp.Lexicographic.{pointwise}
-use Rattle.std.specs.Ordering.{eq_by_cmp}
-use Rattle.fleet_answers.proofs.Prelude.{AreSources, asked_for, changed_or_same, EntryMap, host_view_of, HostViewMap, IsAmong, IsSnapshot, IsSnapshotOf, LoadMap, Name, name_cmp, name_eq-Decides, one_viewer, PlaceParts, same_by, ShowTheSame, snapshots_stay, sources_make_the_load, sources_make_the_size, Viewer, visible_at}
-use Rattle.std.specs.declared.vec.Vec.{Vec}
-use Rattle.std.specs.declared.alloc.Global.{Global}
+use Rattle.std.{proofs.Common.{◌==◌, ◌↔◌, ◌∷◌, ◌≡◌, ◌≢◌, ◌⊎◌}, specs.declared.{alloc.Global.{Global}, vec.Vec.{Vec}}}
+use Rattle.fleet_answers.proofs.Prelude.{[], AreSources, arith, asked_for, Bool, cases_eq, changed_or_same, EntryMap, eq_by_cmp, host_view_of, HostViewMap, inl, inr, IsAmong, IsSnapshot, IsSnapshotOf, length, List, LoadMap, Name, name_cmp, name_eq-Decides, ne_eqb, one_viewer, PlaceParts, pointwise, refl, same_by, ShowTheSame, snapshots_stay, sources_make_the_load, sources_make_the_size, subst, sym, true, vec_len, Viewer, visible_at, ◌∙◌}
 
 -- names that a test finds equal
 pub names_same : (xs ys : List Name) → pointwise (eq_by_cmp name_cmp) xs ys ≡ true → xs ≡ ys

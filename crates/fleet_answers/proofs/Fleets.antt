@@ -1,7 +1,6 @@
 -- A node answers what its replica answers.
-use Rattle.std.proofs.Common.{◌++◌, ◌↔◌, ◌≡◌, List, None, Option, reverse, slice_get, Some, subst, sym, ℕ}
-use Rattle.std.specs.Prelude.{IfSome}
-use Rattle.fleet_answers.proofs.Prelude.{AgreesLater, Answer, AnswersByEvents, AnswersItsStore, AnswersItsSum, AreSameEdits, EachStoreIsLeast, EntryMap, Event, HoldsLater, HoldsLeast, HoldsSameLater, HoldsSums, HoldsSumsByEvents, IsAboveEdits, IsAnswer, IsStoreBelow, IsSumOf, IsWorld, Name, Node, NodeHolds, one_answer, Question, Replicated, SameTookSameStore, sum_of, Took, took_after, took_by, World, world_after}
+use Rattle.std.proofs.Common.{◌++◌, ◌↔◌, ◌≡◌}
+use Rattle.fleet_answers.proofs.Prelude.{AgreesLater, Answer, AnswersByEvents, AnswersItsStore, AnswersItsSum, AreSameEdits, EachStoreIsLeast, EntryMap, Event, HoldsLater, HoldsLeast, HoldsSameLater, HoldsSums, HoldsSumsByEvents, IfSome, IsAboveEdits, IsAnswer, IsStoreBelow, IsSumOf, IsWorld, List, Name, Node, NodeHolds, None, one_answer, Option, Question, Replicated, reverse, SameTookSameStore, slice_get, Some, subst, sum_of, sym, Took, took_after, took_by, World, world_after, ℕ}
 use Rattle.fleet_answers.proofs.Held.{if_some, of_found, shown_at}
 
 -- the answer is that of the replica of a node

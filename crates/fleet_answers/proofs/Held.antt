@@ -1,8 +1,6 @@
 -- What a node of a world holds is what its replica holds.
-use Rattle.std.proofs.Common.{[], ◌∷◌, ◌≡◌, length, List, map, None, Option, refl, slice_get, Some, subst, suc, zero, ℕ}
-use Rattle.std.proofs.lemmas.Option.{slice_get_read}
-use Rattle.std.specs.List.{ItemBy}
-use Rattle.std.specs.Prelude.{IfSome}
+use Rattle.std.proofs.Common.{◌∷◌, ◌≡◌}
+use Rattle.fleet_answers.proofs.Prelude.{[], IfSome, ItemBy, length, List, map, None, Option, refl, slice_get, slice_get_read, Some, subst, suc, zero, ℕ}
 
 -- what holds of a value implies what follows from it
 pub if_some : {X : Type 0} (P Q : X → Type 0) → ((x : X) → P x → Q x) → (o : Option X) → IfSome o P → IfSome o Q

@@ -1,10 +1,6 @@
 -- An edit with a counter above all that is held decides what is shown at its place, and nothing elsewhere.
-use Rattle.std.proofs.Common.{◌+◌, ◌<◌, ◌∙◌, ◌∷◌, ◌≡◌, ◌≢◌, ◌⊎◌, ap, arith, Bool, cond, drop, false, inl, inr, List, None, Option, refl, Some, subst, sym, true, unwrap_or, ℕ}
-use Rattle.std.specs.Cmp.{nat_cmp_is}
-use Rattle.std.specs.Option.{option_and_then}
-use Rattle.std.specs.Ordering.{eq_by_cmp, is_gt, nat_cmp, ordering_then}
-use Rattle.std.specs.declared.cmp.Ordering.TheVariants.{Less}
-use Rattle.fleet_answers.proofs.Prelude.{Content, content_cmp, Edit, Entry, entry_of, EntryMap, File, get-with_edit, Gone, high_of, high_of-above, IsAmong, IsBelow, larger, larger-absorb, Link, place_cmp, PlaceParts, same_place, shown, tied, Version, visible_at, with_edit}
+use Rattle.std.proofs.Common.{◌+◌, ◌<◌, ◌∷◌, ◌≡◌, ◌≢◌, ◌⊎◌}
+use Rattle.fleet_answers.proofs.Prelude.{ap, arith, Bool, cond, Content, content_cmp, drop, Edit, Entry, entry_of, EntryMap, eq_by_cmp, false, File, get-with_edit, Gone, high_of, high_of-above, inl, inr, is_gt, IsAmong, IsBelow, larger, larger-absorb, Less, Link, List, nat_cmp, nat_cmp_is, None, Option, option_and_then, ordering_then, place_cmp, PlaceParts, refl, same_place, shown, Some, subst, sym, tied, true, unwrap_or, Version, visible_at, with_edit, ℕ, ◌∙◌}
 use Rattle.std.specs.FinMap as finmap
 
 -- a content that is shown is shown under any version

@@ -1,7 +1,6 @@
 -- A snapshot of all names of a question answers it as its store does.
-use Rattle.std.proofs.Common.{[], ◌∙◌, ◌∷◌, ◌≡◌, Err, false, Global, IfOk, inl, inr, is_ok, List, MatchOption, MatchResult, Ok, Option, refl, Result, Some, subst, sym, true, Vec}
-use Rattle.std.specs.Prelude.{IfSome}
-use Rattle.fleet_answers.proofs.Prelude.{Answer, AreKnown, asked, EntryMap, HasTemplate, host_asked, host_view_of, IsAnswer, IsKnown, IsOfGraph, IsReturned, IsSnapshot, LoadMap, Name, names_asked, one_viewer, own_are_known, Question, Request, Viewer}
+use Rattle.std.proofs.Common.{◌∷◌, ◌≡◌}
+use Rattle.fleet_answers.proofs.Prelude.{[], Answer, AreKnown, asked, EntryMap, Err, false, Global, HasTemplate, host_asked, host_view_of, IfOk, IfSome, inl, inr, is_ok, IsAnswer, IsKnown, IsOfGraph, IsReturned, IsSnapshot, List, LoadMap, MatchOption, MatchResult, Name, names_asked, Ok, one_viewer, Option, own_are_known, Question, refl, Request, Result, Some, subst, sym, true, Vec, Viewer, ◌∙◌}
 
 -- names that are known are those of the graph
 pub of_graph : (load : LoadMap) (request : Request) → AreKnown load (request.target ∷ request.running) → IsOfGraph load request

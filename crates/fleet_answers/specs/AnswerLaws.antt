@@ -1,8 +1,7 @@
 -- Laws of answers: a store and a question have one answer, and no place of another host changes it.
-use Rattle.std.proofs.Common.{[], ◌↔◌, ◌∙◌, ◌∷◌, ◌≡◌, ◌≢◌, ap, inl, inr, List, None, refl, Some, subst, sym, ℕ}
-use Rattle.std.specs.Cmp.Lexicographic.{nat_list_cmp_total}
-use Rattle.fleet_answers.specs.Prelude.{AreDepths, AreEdges, AreEdgesOf, AreSameSuccessors, Bad, Case, Conflict, Cycle, DependencyList, EdgeMap, EntryMap, host_view_of, HostViewMap, IsAmong, IsAmong-append_right, IsDistance, IsDistances, IsFault, IsKnown, IsLoad, IsPlan, IsPlanned, IsRefusal, IsRefusalOf, IsRefused, known_names, LeadsBy, level_for, Listed, LoadedUnit, LoadMap, ManualStart, Masked, Memory, Name, name_cmp, NotFound, one_case, one_list_by_kind, one_list_of_distances, one_list_of_edges, one_load, one_plan, one_refusal_returned, other_hosts_are_not_in_view, PlaceParts, plan_or_refusal, PlanMap, pulling, Refusal, Request, Requisite, same_distance, Template, unit_in, Why}
-use Rattle.fleet_answers.specs.{Answers.AreKnown, Answers.ArePulled, Answers.asked, Answers.graph_of, Answers.host_asked, Answers.IsAnswer, Answers.IsLinkedUnit, Answers.IsPlanBy, Answers.IsReturned, Answers.IsReturnedFrom, Answers.IsWholeAnswer, Answers.names_asked, declared.questions.Answer.Answer, declared.questions.LinkedUnit.LinkedUnit, declared.questions.Question.Question, declared.questions.Question.TheVariants.Plan as OfPlan, declared.questions.Question.TheVariants.Pulled as OfPulled, declared.questions.Question.TheVariants.Unit as OfUnit}
+use Rattle.std.proofs.Common.{◌↔◌, ◌∷◌, ◌≡◌, ◌≢◌}
+use Rattle.fleet_answers.specs.Prelude.{[], ap, AreDepths, AreEdges, AreEdgesOf, AreSameSuccessors, Bad, Case, Conflict, Cycle, DependencyList, EdgeMap, EntryMap, host_view_of, HostViewMap, inl, inr, IsAmong, IsAmong-append_right, IsDistance, IsDistances, IsFault, IsKnown, IsLoad, IsPlan, IsPlanned, IsRefusal, IsRefusalOf, IsRefused, known_names, LeadsBy, level_for, List, Listed, LoadedUnit, LoadMap, ManualStart, Masked, Memory, Name, name_cmp, nat_list_cmp_total, None, NotFound, one_case, one_list_by_kind, one_list_of_distances, one_list_of_edges, one_load, one_plan, one_refusal_returned, other_hosts_are_not_in_view, PlaceParts, plan_or_refusal, PlanMap, pulling, refl, Refusal, Request, Requisite, same_distance, Some, subst, sym, Template, unit_in, Why, ℕ, ◌∙◌}
+use Rattle.fleet_answers.specs.{Answers.{AreKnown, ArePulled, asked, graph_of, host_asked, IsAnswer, IsLinkedUnit, IsPlanBy, IsReturned, IsReturnedFrom, IsWholeAnswer, names_asked}, declared.questions.{Answer.{Answer}, LinkedUnit.{LinkedUnit}, Question.{Question, TheVariants.{Plan as OfPlan, Pulled as OfPulled, Unit as OfUnit}}}}
 use Rattle.std.specs.FinMap as finmap
 use Rattle.fleet_answers.specs.declared.questions.Answer.TheVariants as answer
 

@@ -1,8 +1,8 @@
 -- What a question of a store is answered: a unit with its edges, what a unit pulls, the plan of a request, or the first refusal.
 -- Source: this project's own.
-use Rattle.std.proofs.Common.{[], ◌++◌, ◌∷◌, ◌≡◌, ◌≢◌, ◌⊎◌, List, None, Some, ℕ}
-use Rattle.fleet_answers.specs.Prelude.{AreDepths, AreEdges, AreEdgesOf, EdgeMap, EntryMap, GraphMap, HasTemplate, host_view_of, HostViewMap, IsAmong, IsKnown, IsLoad, IsPlanned, IsRefusalOf, IsTooLarge, LoadMap, main_in, Memory, Name, PlanMap, Refusal, Request, unit_in, Viewer}
-use Rattle.fleet_answers.specs.{declared.questions.Answer.Answer, declared.questions.LinkedUnit.LinkedUnit, declared.questions.Question.Question, declared.questions.Question.TheVariants.Plan as OfPlan, declared.questions.Question.TheVariants.Pulled as OfPulled, declared.questions.Question.TheVariants.Unit as OfUnit}
+use Rattle.std.proofs.Common.{◌++◌, ◌∷◌, ◌≡◌, ◌≢◌, ◌⊎◌}
+use Rattle.fleet_answers.specs.Prelude.{[], AreDepths, AreEdges, AreEdgesOf, EdgeMap, EntryMap, GraphMap, HasTemplate, host_view_of, HostViewMap, IsAmong, IsKnown, IsLoad, IsPlanned, IsRefusalOf, IsTooLarge, List, LoadMap, main_in, Memory, Name, None, PlanMap, Refusal, Request, Some, unit_in, Viewer, ℕ}
+use Rattle.fleet_answers.specs.declared.questions.{Answer.{Answer}, LinkedUnit.{LinkedUnit}, Question.{Question, TheVariants.{Plan as OfPlan, Pulled as OfPulled, Unit as OfUnit}}}
 use Rattle.fleet_answers.specs.declared.questions.Answer.TheVariants as answer
 
 -- ---- names

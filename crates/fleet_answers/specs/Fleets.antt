@@ -1,8 +1,8 @@
 -- What the nodes of a fleet answer: strong eventual consistency of units and plans.
 -- Source (strong eventual consistency): Shapiro, Preguica, Baquero, Zawirski 2011.
-use Rattle.std.proofs.Common.{◌++◌, ◌↔◌, ◌≡◌, List, reverse, ℕ}
-use Rattle.fleet_answers.specs.Prelude.{AreHonest, AreSameEdits, EntryMap, Event, IsAboveEdits, IsStoreBelow, IsSumOf, Name, NodeHolds, sum_of, Took, took_after}
-use Rattle.fleet_answers.specs.{Answers.IsAnswer, declared.questions.Answer.Answer, declared.questions.Question.Question}
+use Rattle.std.proofs.Common.{◌++◌, ◌↔◌, ◌≡◌}
+use Rattle.fleet_answers.specs.Prelude.{AreHonest, AreSameEdits, EntryMap, Event, IsAboveEdits, IsStoreBelow, IsSumOf, List, Name, NodeHolds, reverse, sum_of, Took, took_after, ℕ}
+use Rattle.fleet_answers.specs.{Answers.{IsAnswer}, declared.questions.{Answer.{Answer}, Question.{Question}}}
 
 -- if no two edits have the same version, node k holds the least store above the edits that it took: it is below exactly
 -- those that are above each of them

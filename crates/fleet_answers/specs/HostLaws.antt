@@ -1,8 +1,7 @@
 -- Laws of hosts: one at whose places nothing is visible has the answer to each question that is had without a host.
-use Rattle.std.proofs.Common.{◌++◌, ◌↔◌, ◌≡◌, ap, inl, inr, List, None, refl, Some, subst, sym, ℕ}
-use Rattle.std.proofs.lemmas.List.Elements.{All-weaker}
-use Rattle.fleet_answers.specs.Prelude.{AreEdges, AreEdgesFrom, AreEdgesOf, Bad, Conflict, Cycle, DependencyList, DependsOn, DepKind, EdgeMap, EntryMap, HasTemplate, Host, host_view_of, hosts_without_places_are_as_large, hosts_without_places_load_alike, HostViewMap, IsEdge, IsFault, IsLoad, IsPlanned, IsRefusalOf, IsRefused, loaded_for, LoadMap, ManualStart, Masked, Memory, Name, NotFound, PlanMap, Refusal, Request, Requisite, ShowsNothing, Template, Viewer, viewer_of, Why}
-use Rattle.fleet_answers.specs.{Answers.ArePulled, Answers.asked, Answers.host_asked, Answers.IsAnswer, Answers.IsLinkedUnit, Answers.IsPlanBy, Answers.IsPlanReturned, Answers.IsReturned, Answers.IsWholeAnswer, Answers.names_asked, Answers.without_host, declared.questions.Answer.Answer, declared.questions.LinkedUnit.LinkedUnit, declared.questions.Question.Question, declared.questions.Question.TheVariants.Plan as OfPlan, declared.questions.Question.TheVariants.Pulled as OfPulled, declared.questions.Question.TheVariants.Unit as OfUnit}
+use Rattle.std.proofs.Common.{◌++◌, ◌↔◌, ◌≡◌}
+use Rattle.fleet_answers.specs.Prelude.{All-weaker, ap, AreEdges, AreEdgesFrom, AreEdgesOf, Bad, Conflict, Cycle, DependencyList, DependsOn, DepKind, EdgeMap, EntryMap, HasTemplate, Host, host_view_of, hosts_without_places_are_as_large, hosts_without_places_load_alike, HostViewMap, inl, inr, IsEdge, IsFault, IsLoad, IsPlanned, IsRefusalOf, IsRefused, List, loaded_for, LoadMap, ManualStart, Masked, Memory, Name, None, NotFound, PlanMap, refl, Refusal, Request, Requisite, ShowsNothing, Some, subst, sym, Template, Viewer, viewer_of, Why, ℕ}
+use Rattle.fleet_answers.specs.{Answers.{ArePulled, asked, host_asked, IsAnswer, IsLinkedUnit, IsPlanBy, IsPlanReturned, IsReturned, IsWholeAnswer, names_asked, without_host}, declared.questions.{Answer.{Answer}, LinkedUnit.{LinkedUnit}, Question.{Question, TheVariants.{Plan as OfPlan, Pulled as OfPulled, Unit as OfUnit}}}}
 
 -- A host at whose places nothing is visible has the answer to each question that is had without a host.
 abbrev pub HostsWithoutPlacesHaveTheFleetsAnswers : Type 0

@@ -1,9 +1,7 @@
 -- What isn't visible counts for no load: where two stores show the same at all places, a load of one is a load of the other.
 -- Source: this project's own.
-use Rattle.std.proofs.Common.{[], ◌∙◌, ◌≡◌, inr, List, sym}
-use Rattle.std.specs.Cmp.Lexicographic.{nat_list_cmp_total}
-use Rattle.std.specs.Map.{keys_of}
-use Rattle.fleet_answers.specs.Prelude.{EntryMap, host_view_of, HostViewMap, IsLoad, IsSource, IsTooLarge, IsUnit, LeadsTo, link_targets_decide, LoadedUnit, LoadMap, Name, name_cmp, one_viewer, over-closure, PlaceParts, same_units_make_the_load, SameLeads, SameWords, store_footprints_decide, touched_words_decide, Viewer, visible_at}
+use Rattle.std.proofs.Common.{◌≡◌}
+use Rattle.fleet_answers.specs.Prelude.{[], EntryMap, host_view_of, HostViewMap, inr, IsLoad, IsSource, IsTooLarge, IsUnit, keys_of, LeadsTo, link_targets_decide, List, LoadedUnit, LoadMap, Name, name_cmp, nat_list_cmp_total, one_viewer, over-closure, PlaceParts, same_units_make_the_load, SameLeads, SameWords, store_footprints_decide, sym, touched_words_decide, Viewer, visible_at, ◌∙◌}
 use Rattle.fleet_answers.specs.Answers.{IsSnapshot}
 
 -- the stores show the same at each place

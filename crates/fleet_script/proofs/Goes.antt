@@ -1,19 +1,10 @@
 -- The outcome of a step, with one lemma for each word of the meaning.
-use Rattle.std.proofs.Common.{[], ◌++◌, ◌+◌, ◌<◌, ◌==◌, ◌∙◌, ◌∷◌, ◌≡◌, ◌≢◌, ap, Bool, codes, cond, Err, false, get_or, Global, inl, inr, is_some, IsSome, length, List, MatchOption, MatchResult, None, Ok, Option, refl, Result, set, slice_get, Some, subst, sym, true, Vec, ℕ}
-use Rattle.std.proofs.lemmas.Bool.{eq-eqb, eqb-true, ne_eqb, true≢false}
-use Rattle.std.proofs.lemmas.Map.Text.{is_eq-slice_cmp}
-use Rattle.std.specs.Cmp.{Equal-is, nat_cmp_is}
-use Rattle.std.specs.Cmp.Lexicographic.{slice_cmp}
-use Rattle.std.specs.FinMap.{nat_cmp-IsAntisymmetric}
-use Rattle.std.specs.Ordering.{is_eq, nat_cmp}
-use Rattle.std.specs.Prelude.{IsErrOf, MatchBool}
-use Rattle.std.specs.Str.{bytes_eq}
-use Rattle.std.specs.declared.cmp.Ordering.TheVariants.{Equal}
-use Rattle.fleet_script.proofs.Prelude.{AtNode, AtPlace, AtPlaces, bad_text, BadLink, BadText, Component, Content, Depth, Directory, Edit, EditFault, EntryMap, Fault, fault_of_edit, fault_of_place, FileTooLarge, Gives, Goes, Gone, happened, has_writer, HasNoNode, HasNoSite, held, high_of, Holds, HostName, IsFileOf, IsLinkTo, IsNodeNamed, IsNoFile, IsNoLink, IsPlaceFault, IsRead, IsSaid, IsSite, Keeps, LineRefusal, Memory, Names, next_edit, next_version, NodeTaken, Nothing, ok_line, Outcome, place_of, PlaceFault, PlaceParts, places_of, Reads, Refused, Refuses, RefusesPlace, Replicated, ScriptWorld, sum_of, too_large, UnknownNode, Version, VersionsSpent, visible_at, with_edit, with_new_node, with_put, WithFile, without_memory, WithTarget, WithText, WriterTaken, Writes}
+use Rattle.std.proofs.Common.{◌++◌, ◌+◌, ◌<◌, ◌==◌, ◌∷◌, ◌≡◌, ◌≢◌}
+use Rattle.world_law.specs.declared.events.Event.TheVariants.{Put}
+use Rattle.fleet_script.proofs.Prelude.{[], ap, AtNode, AtPlace, AtPlaces, bad_text, BadLink, BadText, Bool, bytes_eq, codes, Component, cond, Content, Depth, Directory, Edit, EditFault, EntryMap, eq-eqb, eqb-true, Equal, Equal-is, Err, false, Fault, fault_of_edit, fault_of_place, FileTooLarge, get_or, Gives, Global, Goes, Gone, happened, has_writer, HasNoNode, HasNoSite, held, high_of, Holds, HostName, inl, inr, is_eq, is_eq-slice_cmp, is_some, IsErrOf, IsFileOf, IsLinkTo, IsNodeNamed, IsNoFile, IsNoLink, IsPlaceFault, IsRead, IsSaid, IsSite, IsSome, Keeps, length, LineRefusal, List, MatchBool, MatchOption, MatchResult, Memory, Names, nat_cmp, nat_cmp-IsAntisymmetric, nat_cmp_is, ne_eqb, next_edit, next_version, NodeTaken, None, Nothing, Ok, ok_line, Option, Outcome, place_of, PlaceFault, PlaceParts, places_of, Reads, refl, Refused, Refuses, RefusesPlace, Replicated, Result, ScriptWorld, set, slice_cmp, slice_get, Some, subst, sum_of, sym, too_large, true, true≢false, UnknownNode, Vec, Version, VersionsSpent, visible_at, with_edit, with_new_node, with_put, WithFile, without_memory, WithTarget, WithText, WriterTaken, Writes, ℕ, ◌∙◌}
 use Rattle.fleet_script.proofs.Nodes.{holds_node, holds_put, set_same}
 use Rattle.load_places.specs.declared.texts.PlaceFault.TheVariants as place
 use Rattle.replica_store.specs.declared.replicas.EditFault.TheVariants as edit
-use Rattle.world_law.specs.declared.events.Event.TheVariants.{Put}
 
 -- steps, which constrain the outcome and the new world
 abbrev pub Step : Type 1

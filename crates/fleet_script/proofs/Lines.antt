@@ -1,7 +1,6 @@
 -- One line at a time: from the outcome of its command to its answer.
-use Rattle.std.proofs.Common.{◌≡◌, ◌≤◌, arith, false, length, List, MatchResult, nat_lt, Ok, Result, subst, ℕ}
-use Rattle.std.proofs.lemmas.Bool.Decides.{nat_tests}
-use Rattle.fleet_script.proofs.Prelude.{AnswersLine, Command, command_of, Continues, Does, Goes, is_passed_over, Keeps, LineRefusal, Outcome, outcome_text, Refuses, ScriptWorld}
+use Rattle.std.proofs.Common.{◌≡◌, ◌≤◌}
+use Rattle.fleet_script.proofs.Prelude.{AnswersLine, arith, Command, command_of, Continues, Does, false, Goes, is_passed_over, Keeps, length, LineRefusal, List, MatchResult, nat_lt, nat_tests, Ok, Outcome, outcome_text, Refuses, Result, ScriptWorld, subst, ℕ}
 use Rattle.fleet_script.proofs.Goes.{match_false, Rendered, weaker}
 
 -- the outcome of a line's command, whatever the command is

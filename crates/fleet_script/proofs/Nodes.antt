@@ -1,10 +1,7 @@
 -- The state of the shell and the world agree after each event.
-use Rattle.std.proofs.Common.{[], ◌++◌, ◌<◌, ◌==◌, ◌∙◌, ◌∷◌, ◌≡◌, ◌≢◌, ap, arith, Bool, cond, false, get_or, length, List, nat_lt, None, Option, refl, set, slice_get, Some, subst, suc, sym, true, zero, ℕ}
-use Rattle.std.proofs.lemmas.Bool.{eq-eqb, eqb-true, true≢false}
-use Rattle.std.proofs.lemmas.Bool.Decides.{nat_tests}
-use Rattle.std.specs.Str.{bytes_eq}
-use Rattle.fleet_script.proofs.Prelude.{answer_is, answered, Ask, Content, Cut, cut, digest_of, EntryMap, Give, happened, has_writer, has_writer-push, held, held_answered, held_given, held_given_elsewhere, held_merged, held_merged_elsewhere, held_past, held_put, held_put_elsewhere, held_with_node, Holds, IsNamed, IsPiece, IsValid, join, Keeps, Member, merged, next_ask, next_edit, next_piece, node_named, node_named-push, parted, piece_named, piece_stays, PlaceParts, Replicated, ScriptWorld, state, state_with_node, sum_of, valid_answered, valid_given, valid_merged, valid_put, valid_with_node, with_edit, with_node, writer_at}
+use Rattle.std.proofs.Common.{◌++◌, ◌<◌, ◌==◌, ◌∷◌, ◌≡◌, ◌≢◌}
 use Rattle.world_law.specs.declared.events.Event.TheVariants.{Put}
+use Rattle.fleet_script.proofs.Prelude.{[], answer_is, answered, ap, arith, Ask, Bool, bytes_eq, cond, Content, Cut, cut, digest_of, EntryMap, eq-eqb, eqb-true, false, get_or, Give, happened, has_writer, has_writer-push, held, held_answered, held_given, held_given_elsewhere, held_merged, held_merged_elsewhere, held_past, held_put, held_put_elsewhere, held_with_node, Holds, IsNamed, IsPiece, IsValid, join, Keeps, length, List, Member, merged, nat_lt, nat_tests, next_ask, next_edit, next_piece, node_named, node_named-push, None, Option, parted, piece_named, piece_stays, PlaceParts, refl, Replicated, ScriptWorld, set, slice_get, Some, state, state_with_node, subst, suc, sum_of, sym, true, true≢false, valid_answered, valid_given, valid_merged, valid_put, valid_with_node, with_edit, with_node, writer_at, zero, ℕ, ◌∙◌}
 use Rattle.world_law.specs.Worlds as worlds
 
 -- ---- places

@@ -1,6 +1,6 @@
 -- A command that only reads a node's store has one outcome for all nodes that took the same edits.
-use Rattle.std.proofs.Common.{◌↔◌, ◌∙◌, ◌≡◌, length, List, MatchOption, Option, slice_get, Some, subst, sym, ℕ}
-use Rattle.fleet_script.proofs.Prelude.{AreSameEdits, blank, Cat, Command, Crowd, crowds_are_rendered_once, Does, EntryMap, Files, files_are_rendered_once, held, IsAboveEdits, IsRead, IsReading, IsStoreBelow, Link, ListUnits, Merge, Node, node_named, of_node, Outcome, Part, Plan, plan_asked, pulled_asked, Put, questions_are_rendered_once, Reads, Refuses, Remove, RendersCrowd, RendersFiles, RendersList, RendersPlaces, RendersPlan, RendersUnit, Run, Same, SameEditsSameOutcomes, SameEditsSameStores, ScriptWorld, Send, Show, state, stores_are_sums, StoresAreLeast, sum_of-least, sum_of-same_edits, Sweep, took, unit_asked, UnknownNode, valid_blank, Workers}
+use Rattle.std.proofs.Common.{◌↔◌, ◌≡◌}
+use Rattle.fleet_script.proofs.Prelude.{AreSameEdits, blank, Cat, Command, Crowd, crowds_are_rendered_once, Does, EntryMap, Files, files_are_rendered_once, held, IsAboveEdits, IsRead, IsReading, IsStoreBelow, length, Link, List, ListUnits, MatchOption, Merge, Node, node_named, of_node, Option, Outcome, Part, Plan, plan_asked, pulled_asked, Put, questions_are_rendered_once, Reads, Refuses, Remove, RendersCrowd, RendersFiles, RendersList, RendersPlaces, RendersPlan, RendersUnit, Run, Same, SameEditsSameOutcomes, SameEditsSameStores, ScriptWorld, Send, Show, slice_get, Some, state, stores_are_sums, StoresAreLeast, subst, sum_of-least, sum_of-same_edits, Sweep, sym, took, unit_asked, UnknownNode, valid_blank, Workers, ℕ, ◌∙◌}
 use Rattle.fleet_script.proofs.WholeScripts.{run_valid}
 use Rattle.world_law.specs.Worlds as worlds
 

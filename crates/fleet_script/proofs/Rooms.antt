@@ -1,7 +1,6 @@
 -- Between two lines of a script each node has room for a crowd.
-use Rattle.std.proofs.Common.{◌++◌, ◌∙◌, ◌≤◌, ap, arith, length, length-append, List, Option, ℕ}
-use Rattle.fleet_script.proofs.Prelude.{HasRoom, high_of, Keeps, lines_of}
-use Rattle.fleet_script.proofs.{Runs.Progress, WholeScripts.counters_are_lines, WholeScripts.lines_are_few}
+use Rattle.std.proofs.Common.{◌++◌, ◌≤◌}
+use Rattle.fleet_script.proofs.{Prelude.{ap, arith, HasRoom, high_of, Keeps, length, length-append, lines_of, List, Option, ℕ, ◌∙◌}, Runs.{Progress}, WholeScripts.{counters_are_lines, lines_are_few}}
 
 -- no counter is greater than the number of lines
 pub has_room : (script rest pending : List ℕ) (keeps : Keeps) (old now : Option (List ℕ)) → length script ≤ 16777216 → Progress script rest keeps old now pending → HasRoom keeps

@@ -1,10 +1,6 @@
 -- How a run goes from line to line, and how its answers reach the writer.
-use Rattle.std.proofs.Common.{[], ◌++◌, ◌+◌, ◌∙◌, ◌∷◌, ◌≡◌, ap, append-nil, append_assoc, arith, Err, false, if◌then◌else◌, is_err, is_ok, length, List, None, Ok, OnErr, Option, refl, Result, slice_get, Some, subst, sym, take, true, ℕ}
-use Rattle.std.proofs.Math.Seq.{take-append-add}
-use Rattle.std.proofs.lemmas.Bool.{true≢false}
-use Rattle.std.proofs.lemmas.List.{take_all, take_at}
-use Rattle.std.specs.Io.KnownBytes.{Appends}
-use Rattle.fleet_script.proofs.Prelude.{Answers, AnswersLine, AnswersPrefix, Appends-append, Appends-nothing, AppendsPrefix, blank, Continues, EntryMap, Holds, IsBlank, IsNamed, Keeps, lines_of, Replicated, Run, ScriptWorld, valid_blank}
+use Rattle.std.proofs.Common.{if◌then◌else◌, ◌++◌, ◌+◌, ◌∷◌, ◌≡◌}
+use Rattle.fleet_script.proofs.Prelude.{[], Answers, AnswersLine, AnswersPrefix, ap, append-nil, append_assoc, Appends, Appends-append, Appends-nothing, AppendsPrefix, arith, blank, Continues, EntryMap, Err, false, Holds, is_err, is_ok, IsBlank, IsNamed, Keeps, length, lines_of, List, None, Ok, OnErr, Option, refl, Replicated, Result, Run, ScriptWorld, slice_get, Some, subst, sym, take, take-append-add, take_all, take_at, true, true≢false, valid_blank, ℕ, ◌∙◌}
 
 -- one more line
 run_more : (old : ScriptWorld) (lines : List (List ℕ)) (written : List ℕ) (mid : ScriptWorld) (line answer : List ℕ) (new : ScriptWorld)

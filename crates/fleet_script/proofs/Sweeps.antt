@@ -1,7 +1,7 @@
 -- A sweep of replicas leaves what the merges of the world leave, one after another.
-use Rattle.std.proofs.Common.{[], ◌++◌, ◌+◌, ◌-◌, ◌<◌, ◌∙◌, ◌∷◌, ◌≡◌, ◌≤◌, ap, append_assoc, arith, codes, get_or, Global, length, List, map, Ok, refl, set, subst, suc, sym, Vec, zero, ℕ}
-use Rattle.fleet_script.proofs.Prelude.{EntryMap, Goes, Holds, IsStoreBelow, join, join-least, join-left, join-nothing, join-right, join_all, join_assoc, joined_with, Keeps, merged, merged_all, numbers_from, Replicated, ScriptWorld, store_below_antisym, store_below_refl, store_below_trans, Sweeps, with_store}
-use Rattle.fleet_script.proofs.{Between.any_node, Nodes.get_or_twice, Nodes.holds_merge, Nodes.length_push, Nodes.length_set, Nodes.slice_get_at}
+use Rattle.std.proofs.Common.{◌++◌, ◌+◌, ◌-◌, ◌<◌, ◌∷◌, ◌≡◌, ◌≤◌}
+use Rattle.fleet_script.proofs.Prelude.{[], ap, append_assoc, arith, codes, EntryMap, get_or, Global, Goes, Holds, IsStoreBelow, join, join-least, join-left, join-nothing, join-right, join_all, join_assoc, joined_with, Keeps, length, List, map, merged, merged_all, numbers_from, Ok, refl, Replicated, ScriptWorld, set, store_below_antisym, store_below_refl, store_below_trans, subst, suc, Sweeps, sym, Vec, with_store, zero, ℕ, ◌∙◌}
+use Rattle.fleet_script.proofs.{Between.{any_node}, Nodes.{get_or_twice, holds_merge, length_push, length_set, slice_get_at}}
 
 -- ---- merges of replicas
 

@@ -1,16 +1,9 @@
 -- Laws of whole scripts: one list of answers, of which a fault leaves a prefix; valid worlds; and counters that are
 -- never spent.
-use Rattle.std.proofs.Common.{[], ◌++◌, ◌+◌, ◌==◌, ◌∙◌, ◌∷◌, ◌≡◌, ◌≤◌, ◌⊎◌, ap, append_assoc, arith, Bool, cond, Err, false, inl, inr, length, List, MatchResult, nat_lt, Ok, refl, Result, subst, suc, sym, take, true, zero, ℕ}
-use Rattle.std.proofs.lemmas.Bool.{ne_eqb, true≢false}
-use Rattle.std.proofs.lemmas.List.{length-take}
-use Rattle.std.proofs.lemmas.List.Splits.{length-slice_split}
-use Rattle.std.proofs.lemmas.List.Sums.{count_by-le-length}
-use Rattle.std.specs.List.{slice_split}
-use Rattle.std.specs.Prelude.{MatchBool}
-use Rattle.std.specs.Str.Lines.{lines_of_parts}
-use Rattle.fleet_script.proofs.Prelude.{Answers, AnswersCommand, AnswersLine, Arguments, BeginsWithVerb, blank, Command, command_of, counted, CountersAreLines, Does, error_line, held, high_of, is_passed_over, is_spent, IsPutUpTo, IsValid, LineRefusal, LineTooLong, NoLineIsRefusedForVersions, others_are_refused, Outcome, outcome_text, PrefixesAreOfTheWhole, put_blank, Refuses, Run, Says, ScriptWorld, UnknownCommand, valid_blank, VersionsAreNeverSpent, VersionsSpent, words_of}
-use Rattle.fleet_script.proofs.StepKinds.{does, Follows, HasCounters, refused_once, stays}
+use Rattle.std.proofs.Common.{◌++◌, ◌+◌, ◌==◌, ◌∷◌, ◌≡◌, ◌≤◌, ◌⊎◌}
 use Rattle.script_words.specs.Lines.{lines_of}
+use Rattle.fleet_script.proofs.Prelude.{[], Answers, AnswersCommand, AnswersLine, ap, append_assoc, Arguments, arith, BeginsWithVerb, blank, Bool, Command, command_of, cond, count_by-le-length, counted, CountersAreLines, Does, Err, error_line, false, held, high_of, inl, inr, is_passed_over, is_spent, IsPutUpTo, IsValid, length, length-slice_split, length-take, LineRefusal, lines_of_parts, LineTooLong, List, MatchBool, MatchResult, nat_lt, ne_eqb, NoLineIsRefusedForVersions, Ok, others_are_refused, Outcome, outcome_text, PrefixesAreOfTheWhole, put_blank, refl, Refuses, Result, Run, Says, ScriptWorld, slice_split, subst, suc, sym, take, true, true≢false, UnknownCommand, valid_blank, VersionsAreNeverSpent, VersionsSpent, words_of, zero, ℕ, ◌∙◌}
+use Rattle.fleet_script.proofs.StepKinds.{does, Follows, HasCounters, refused_once, stays}
 
 -- a line has one answer and leaves one world, which follows
 record IsLine {X : Type 0} (old : ScriptWorld) (A : X → ScriptWorld → Type 0) : Type 0 where

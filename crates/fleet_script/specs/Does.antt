@@ -1,8 +1,7 @@
 -- What each command does: which outcome it may have in a world, and which world it leaves.
 -- Source: this project's own.
-use Rattle.std.proofs.Common.{[], ◌==◌, ◌∷◌, ◌≡◌, ◌≢◌, ◌⊎◌, codes, Err, length, List, MatchOption, MatchResult, None, Ok, Option, Some, ℕ}
-use Rattle.std.specs.Prelude.{MatchBool}
-use Rattle.fleet_script.specs.Prelude.{BadLink, BadText, changed_line, changed_places, Command, Component, Content, cut, Depth, digest_of, Directory, entries_line, EntryMap, File, files_text, FileTooLarge, Gone, happened, has_writer, held, high_of, HostName, is_file, is_target, IsBadText, IsWorkerCount, LineRefusal, Link, merged, next_edit, node_named, NodeTaken, Nothing, ok_line, Outcome, parted, piece_named, place_of, PlaceFault, PlaceParts, places_of, RendersCrowd, RendersFiles, RendersList, RendersPlan, RendersUnit, ScriptWorld, Spells, swept, UnknownNode, UnknownPiece, VersionsSpent, visible_at, with_node, Workers, WriterTaken}
+use Rattle.std.proofs.Common.{◌==◌, ◌∷◌, ◌≡◌, ◌≢◌, ◌⊎◌}
+use Rattle.fleet_script.specs.Prelude.{[], BadLink, BadText, changed_line, changed_places, codes, Command, Component, Content, cut, Depth, digest_of, Directory, entries_line, EntryMap, Err, File, files_text, FileTooLarge, Gone, happened, has_writer, held, high_of, HostName, is_file, is_target, IsBadText, IsWorkerCount, length, LineRefusal, Link, List, MatchBool, MatchOption, MatchResult, merged, next_edit, node_named, NodeTaken, None, Nothing, Ok, ok_line, Option, Outcome, parted, piece_named, place_of, PlaceFault, PlaceParts, places_of, RendersCrowd, RendersFiles, RendersList, RendersPlan, RendersUnit, ScriptWorld, Some, Spells, swept, UnknownNode, UnknownPiece, VersionsSpent, visible_at, with_node, Workers, WriterTaken, ℕ}
 use Rattle.std.specs.FinMap as finmap
 use Rattle.load_places.specs.declared.texts.PlaceFault.TheVariants as place
 use Rattle.world_law.specs.declared.events.Event.TheVariants as event

@@ -1,9 +1,7 @@
 -- What holds when a run ends: of a reader that tells what it has left, and of a writer that tells what it holds.
 -- Source: this project's own.
-use Rattle.std.proofs.Common.{◌≤◌, ◌⊎◌, length, List, Option, ℕ}
-use Rattle.std.specs.Io.KnownBytes.{Appends, Keeps}
-use Rattle.fleet_script.specs.Prelude.{AreAll, FailedSince, IsOver}
-use Rattle.fleet_script.specs.Scripts.{Answers, AnswersPrefix}
+use Rattle.std.proofs.Common.{◌≤◌, ◌⊎◌}
+use Rattle.fleet_script.specs.{Prelude.{Appends, AreAll, FailedSince, IsOver, Keeps, length, List, Option, ℕ}, Scripts.{Answers, AnswersPrefix}}
 
 -- a script of at most this many bytes was left, and the answers to it are written
 pub record IsAnswered (limit : ℕ) (left held held' : Option (List ℕ)) : Type 0 where

@@ -1,13 +1,9 @@
 -- How the shell represents a world: the current replica of each node; by name the indices of nodes and the current
 -- pieces; and the writer numbers in use.
 -- Source: this project's own.
-use Rattle.std.proofs.Common.{[], ◌≡◌, ◌≤◌, ◌⊎◌, Bool, false, length, List, None, Ok, Option, Result, slice_get, slice_set, Some, ℕ}
-use Rattle.std.specs.Cmp.Lexicographic.{slice_cmp}
-use Rattle.std.specs.Ordering.{nat_cmp}
-use Rattle.std.specs.Prelude.{slice_index_or, Vec}
-use Rattle.std.specs.declared.alloc.Global.{Global}
-use Rattle.fleet_script.specs.Prelude.{Command, EntryMap, Fault, has_writer, held, high_of, IsPlaceFault, IsSaid, IsValid, join, Memory, node_named, Outcome, piece_named, place_of, PlaceParts, Refused, Replicated, ScriptWorld, state, UnknownNode, writer_at}
-use Rattle.fleet_script.specs.{declared.states.Shell.Shell, Does.Does}
+use Rattle.std.proofs.Common.{◌≡◌, ◌≤◌, ◌⊎◌}
+use Rattle.fleet_script.specs.Prelude.{[], Bool, Command, EntryMap, false, Fault, Global, has_writer, held, high_of, IsPlaceFault, IsSaid, IsValid, join, length, List, Memory, nat_cmp, node_named, None, Ok, Option, Outcome, piece_named, place_of, PlaceParts, Refused, Replicated, Result, ScriptWorld, slice_cmp, slice_get, slice_index_or, slice_set, Some, state, UnknownNode, Vec, writer_at, ℕ}
+use Rattle.fleet_script.specs.{declared.states.Shell.{Shell}, Does.{Does}}
 use Rattle.std.specs.BTreeMap as maps
 use Rattle.std.specs.BTreeSet as sets
 use Rattle.world_law.specs.Worlds as worlds

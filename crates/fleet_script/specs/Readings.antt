@@ -1,8 +1,7 @@
 -- Commands that only read one node have one outcome for all nodes that took the same edits.
 -- Source (strong eventual consistency): Shapiro, Preguica, Baquero, Zawirski 2011.
-use Rattle.std.proofs.Common.{◌↔◌, ◌≡◌, List, slice_get, Some, ℕ}
-use Rattle.fleet_script.specs.Prelude.{AreSameEdits, blank, Command, EntryMap, IsAboveEdits, IsStoreBelow, node_named, Outcome, ScriptWorld, state, took}
-use Rattle.fleet_script.specs.{Does.Does, Scripts.Run}
+use Rattle.std.proofs.Common.{◌↔◌, ◌≡◌}
+use Rattle.fleet_script.specs.{Does.{Does}, Prelude.{AreSameEdits, blank, Command, EntryMap, IsAboveEdits, IsStoreBelow, List, node_named, Outcome, ScriptWorld, slice_get, Some, state, took, ℕ}, Scripts.{Run}}
 use Rattle.world_law.specs.Worlds as worlds
 use Rattle.script_commands.specs.declared.commands.Command.TheVariants as command
 

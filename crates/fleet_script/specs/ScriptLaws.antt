@@ -1,7 +1,6 @@
 -- What is true of every script.
-use Rattle.std.proofs.Common.{◌≡◌, ◌≤◌, Err, length, List, take, ℕ}
-use Rattle.fleet_script.specs.Prelude.{blank, Command, IsCountedTo, lines_of, ScriptWorld, VersionsSpent}
-use Rattle.fleet_script.specs.{Does.Does, Scripts.Answers, Scripts.AnswersCommand, Scripts.AnswersPrefix, Scripts.Run}
+use Rattle.std.proofs.Common.{◌≡◌, ◌≤◌}
+use Rattle.fleet_script.specs.{Does.{Does}, Prelude.{blank, Command, Err, IsCountedTo, length, lines_of, List, ScriptWorld, take, VersionsSpent, ℕ}, Scripts.{Answers, AnswersCommand, AnswersPrefix, Run}}
 
 -- a prefix of the answers to a script's first lines is a prefix of the answers to the whole script, if that has answers
 abbrev pub PrefixesAreOfTheWhole : Type 0

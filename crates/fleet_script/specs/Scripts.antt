@@ -1,8 +1,7 @@
 -- The meaning of scripts.
 -- Source: this project's own.
-use Rattle.std.proofs.Common.{[], ◌++◌, ◌∷◌, ◌≡◌, length, List, MatchResult, nat_lt, take, ℕ}
-use Rattle.std.specs.Prelude.{MatchBool}
-use Rattle.fleet_script.specs.Prelude.{blank, command_of, error_line, is_passed_over, lines_of, LineTooLong, Outcome, outcome_text, ScriptWorld}
+use Rattle.std.proofs.Common.{◌++◌, ◌∷◌, ◌≡◌}
+use Rattle.fleet_script.specs.Prelude.{[], blank, command_of, error_line, is_passed_over, length, lines_of, LineTooLong, List, MatchBool, MatchResult, nat_lt, Outcome, outcome_text, ScriptWorld, take, ℕ}
 use Rattle.fleet_script.specs.Does.{Does, Refuses}
 
 -- this is the answer to the line, and the world stays as it was

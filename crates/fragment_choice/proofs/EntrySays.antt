@@ -1,7 +1,6 @@
 -- What an entry says is what its visible content says.
-use Rattle.std.proofs.Common.{◌∙◌, ◌≡◌, ap, None, refl, Some, ℕ}
-use Rattle.std.specs.Option.{option_and_then}
-use Rattle.fragment_choice.proofs.Prelude.{Content, content_says, Entry, File, Gone, HostViewMap, Link, Name, own_path, own_place, says, shown, Version, view}
+use Rattle.std.proofs.Common.{◌≡◌}
+use Rattle.fragment_choice.proofs.Prelude.{ap, Content, content_says, Entry, File, Gone, HostViewMap, Link, Name, None, option_and_then, own_path, own_place, refl, says, shown, Some, Version, view, ℕ, ◌∙◌}
 use Rattle.std.specs.FinMap as finmap
 
 module _ (s : HostViewMap) (n o : Name) (level : ℕ) where

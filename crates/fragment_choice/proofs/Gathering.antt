@@ -1,8 +1,6 @@
 -- How the other names of a unit are gathered.
-use Rattle.std.proofs.Common.{◌∙◌, ◌≡◌, ◌⊎◌, ap, Bool, cond, Err, false, IfOk, inl, inr, List, None, Ok, OnOk, refl, Result, Some, subst, sym, true}
-use Rattle.std.proofs.lemmas.Option.{none-some, same_Some}
-use Rattle.std.specs.BTreeSet.{insert_key}
-use Rattle.fragment_choice.proofs.Prelude.{Adds, alias_keeps, Gathers, has_template, HostViewMap, instance, instances_have_the_template, is_name, IsAmong, IsName, Leads, Name, name_cmp, name_cmp-IsAntisymmetric, put_kept, put_sound, put_there, shape, template_of, unit_of, with_instance}
+use Rattle.std.proofs.Common.{◌≡◌, ◌⊎◌}
+use Rattle.fragment_choice.proofs.Prelude.{Adds, alias_keeps, ap, Bool, cond, Err, false, Gathers, has_template, HostViewMap, IfOk, inl, inr, insert_key, instance, instances_have_the_template, is_name, IsAmong, IsName, Leads, List, Name, name_cmp, name_cmp-IsAntisymmetric, None, none-some, Ok, OnOk, put_kept, put_sound, put_there, refl, Result, same_Some, shape, Some, subst, sym, template_of, true, unit_of, with_instance, ◌∙◌}
 
 -- No name passes.
 pub gathers_none : (P : Name → Type 0) (old : List Name) → ((n : Name) → P n → ⊥) → Gathers P old old

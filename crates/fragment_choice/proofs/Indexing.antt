@@ -1,17 +1,6 @@
 -- How the index of a store is made.
-use Rattle.std.proofs.Common.{[], ◌++◌, ◌<◌, ◌==◌, ◌∙◌, ◌∷◌, ◌≡◌, ◌⊎◌, ap, arith, Bool, cond, eq-eqb, false, filter, inl, inr, List, None, Option, refl, Some, subst, suc, sym, true, unwrap_or, ℕ}
-use Rattle.std.proofs.lemmas.Bool.{and_from, eqb-false, eqb-true}
-use Rattle.std.proofs.lemmas.Option.{none-some, same_Some}
-use Rattle.std.specs.BTreeMap.{BTreeMap, get, is_at, Updates, UpdatesBy}
-use Rattle.std.specs.BTreeSet.{insert_key}
-use Rattle.std.specs.FinMap.Entries.{find}
-use Rattle.std.specs.Global.{Vec}
-use Rattle.std.specs.Map.{lookup}
-use Rattle.std.specs.Option.{option_and_then}
-use Rattle.std.specs.Ordering.{is_eq}
-use Rattle.std.specs.declared.cmp.Ordering.{Ordering}
-use Rattle.std.specs.declared.cmp.Ordering.TheVariants.{Equal, Greater, Less}
-use Rattle.fragment_choice.proofs.Prelude.{Alias, alias_same, AreOwnChoices, ByLink, Choice, Collects, Entry, HostViewMap, is_in, is_link, IsAmong, IsAmong-append_cases, IsAmong-append_left, IsAmong-append_right, IsAny, IsIndexOf, IsLevel, IsName, IsOwnAt, IsOwnEntry, IsOwnLink, Name, name_cmp, name_cmp-IsAntisymmetric, name_eq-Decides, names_in, own_choice, own_link, own_path, owners_at, path_cmp, path_cmp-IsAntisymmetric, PathParts, put_kept, put_there, Puts, PutsSaid, shown, unit_of, view}
+use Rattle.std.proofs.Common.{◌++◌, ◌<◌, ◌==◌, ◌∷◌, ◌≡◌, ◌⊎◌}
+use Rattle.fragment_choice.proofs.Prelude.{[], Alias, alias_same, and_from, ap, AreOwnChoices, arith, Bool, BTreeMap, ByLink, Choice, Collects, cond, Entry, eq-eqb, eqb-false, eqb-true, Equal, false, filter, find, get, Greater, HostViewMap, inl, inr, insert_key, is_at, is_eq, is_in, is_link, IsAmong, IsAmong-append_cases, IsAmong-append_left, IsAmong-append_right, IsAny, IsIndexOf, IsLevel, IsName, IsOwnAt, IsOwnEntry, IsOwnLink, Less, List, lookup, Name, name_cmp, name_cmp-IsAntisymmetric, name_eq-Decides, names_in, None, none-some, Option, option_and_then, Ordering, own_choice, own_link, own_path, owners_at, path_cmp, path_cmp-IsAntisymmetric, PathParts, put_kept, put_there, Puts, PutsSaid, refl, same_Some, shown, Some, subst, suc, sym, true, unit_of, unwrap_or, Updates, UpdatesBy, Vec, view, ℕ, ◌∙◌}
 use Rattle.fragment_choice.proofs.Gathering.{read, unread}
 use Rattle.std.specs.FinMap as finmap
 

@@ -1,7 +1,6 @@
 -- What makes a name an alias of another: its own links, or the links of its template.
-use Rattle.std.proofs.Common.{[], ◌∙◌, ◌∷◌, ◌≡◌, ◌⊎◌, ap, Bool, cond, false, inl, inr, List, None, Option, refl, Some, sym, true, unwrap_or, ℕ}
-use Rattle.std.specs.Option.{option_and_then, option_or}
-use Rattle.fragment_choice.proofs.Prelude.{Alias, alias_of, alias_said, Bad, Choice, Content, content_says, File, first_said, Gone, has_template, HostViewMap, Instance, instance, instances_have_the_template, is_bad_kind, is_name, is_null, is_self, IsName, IsPassed, Kind, kind, last_component, Leads, levels, Link, link_says, Masked, Name, NotFound, own_choice, own_path, own_place, passed, PlaceParts, Plain, says, Shape, shape, shapes_agree, Target, target_says, Template, template_alias, template_of, templates_keep_parts, UnitShape, viewed_at, with_instance}
+use Rattle.std.proofs.Common.{◌∷◌, ◌≡◌, ◌⊎◌}
+use Rattle.fragment_choice.proofs.Prelude.{[], Alias, alias_of, alias_said, ap, Bad, Bool, Choice, cond, Content, content_says, false, File, first_said, Gone, has_template, HostViewMap, inl, inr, Instance, instance, instances_have_the_template, is_bad_kind, is_name, is_null, is_self, IsName, IsPassed, Kind, kind, last_component, Leads, levels, Link, link_says, List, Masked, Name, None, NotFound, Option, option_and_then, option_or, own_choice, own_path, own_place, passed, PlaceParts, Plain, refl, says, Shape, shape, shapes_agree, Some, sym, Target, target_says, Template, template_alias, template_of, templates_keep_parts, true, UnitShape, unwrap_or, viewed_at, with_instance, ℕ, ◌∙◌}
 
 -- The links of a template make it an alias of a template of `m`.
 pub record LeadsTemplate (s : HostViewMap) (o m : Name) : Type 0 where

@@ -1,11 +1,7 @@
 -- The names of a unit, level by level: level `d` has the names from which `d` aliases lead to the unit.
-use Rattle.std.proofs.Common.{[], ◌++◌, ◌<◌, ◌↔◌, ◌∙◌, ◌∷◌, ◌≡◌, ◌≢◌, ◌≤◌, ◌⊎◌, ap, arith, Bool, false, get_or, inl, inr, IsTrue, length, List, None, refl, Some, subst, suc, sym, take, true, zero, ℕ}
-use Rattle.std.proofs.lemmas.List.{take_all}
-use Rattle.std.proofs.lemmas.Option.{none-some, same_Some}
-use Rattle.std.specs.BTreeSet.{insert_key}
-use Rattle.fragment_choice.proofs.Prelude.{Adds, Alias, alias_same, aliases_are_alike, AreAliasesWithin, AreNames, AreOwners, Bad, Chain, Choice, choice, ends_at, following_finds_the_end, Fragment, Gathers, goes_on, here, HostViewMap, instance, instances_have_the_template, is_alias, is_same, IsAmong, IsAmong-append_cases, IsAmong-append_left, IsAmong-append_right, IsAny, IsEnd, IsLeadingInstance, IsLeadingInstanceOfAny, IsName, IsOtherName, Leads, LeadsToAny, Masked, Name, name_cmp, name_cmp-IsAntisymmetric, name_eq-Decides, NotFound, own_choice, put_kept, put_sound, put_there, Resolution, resolution, resolution_resolves, Resolves, step, template_of, templates_keep_parts, with_instance}
-use Rattle.fragment_choice.proofs.{Gathering.gathers_all, Gathering.gathers_none, Gathering.gathers_of, Gathering.gathers_put, Gathering.gathers_then, Gathering.linked_instance, Leads.leads_by, Leads.LeadsTemplate, Leads.own_leads}
-use Rattle.std.specs.List.Sorted.{IsStrictlySortedBy}
+use Rattle.std.proofs.Common.{◌++◌, ◌<◌, ◌↔◌, ◌∷◌, ◌≡◌, ◌≢◌, ◌≤◌, ◌⊎◌}
+use Rattle.fragment_choice.proofs.Prelude.{[], Adds, Alias, alias_same, aliases_are_alike, ap, AreAliasesWithin, AreNames, AreOwners, arith, Bad, Bool, Chain, Choice, choice, ends_at, false, following_finds_the_end, Fragment, Gathers, get_or, goes_on, here, HostViewMap, inl, inr, insert_key, instance, instances_have_the_template, is_alias, is_same, IsAmong, IsAmong-append_cases, IsAmong-append_left, IsAmong-append_right, IsAny, IsEnd, IsLeadingInstance, IsLeadingInstanceOfAny, IsName, IsOtherName, IsStrictlySortedBy, IsTrue, Leads, LeadsToAny, length, List, Masked, Name, name_cmp, name_cmp-IsAntisymmetric, name_eq-Decides, None, none-some, NotFound, own_choice, put_kept, put_sound, put_there, refl, Resolution, resolution, resolution_resolves, Resolves, same_Some, Some, step, subst, suc, sym, take, take_all, template_of, templates_keep_parts, true, with_instance, zero, ℕ, ◌∙◌}
+use Rattle.fragment_choice.proofs.{Gathering.{gathers_all, gathers_none, gathers_of, gathers_put, gathers_then, linked_instance}, Leads.{leads_by, LeadsTemplate, own_leads}}
 
 -- One more item of a list.
 pub any_next : {A : Type 0} (R : A → Name → Type 0) (xs : List A) (i : ℕ) (d : A) (n : Name) → i < length xs → IsAny R (take (suc i) xs) n → IsAny R (take i xs) n ⊎ R (get_or xs i d) n

@@ -1,6 +1,6 @@
 -- The steps of following a chain.
-use Rattle.std.proofs.Common.{◌∙◌, ◌≡◌, ap, refl, subst, suc, sym, ℕ}
-use Rattle.fragment_choice.proofs.Prelude.{Alias, Bad, Choice, choice, ended_or, Fragment, HostViewMap, IsEnd, Loop, Masked, Name, no_alias_stands, NotFound, Resolution, resolution, resolution_resolves, Resolves}
+use Rattle.std.proofs.Common.{◌≡◌}
+use Rattle.fragment_choice.proofs.Prelude.{Alias, ap, Bad, Choice, choice, ended_or, Fragment, HostViewMap, IsEnd, Loop, Masked, Name, no_alias_stands, NotFound, refl, Resolution, resolution, resolution_resolves, Resolves, subst, suc, sym, ℕ, ◌∙◌}
 use Rattle.fragment_choice.specs.Resolutions.{follow}
 
 -- One more name is looked up.

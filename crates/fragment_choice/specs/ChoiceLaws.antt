@@ -1,8 +1,7 @@
 -- Laws of choices: smaller levels come first, and only what is visible counts.
-use Rattle.std.proofs.Common.{[], ◌<◌, ◌∙◌, ◌∷◌, ◌≡◌, ◌≢◌, ◌≤◌, ◌⊎◌, ap, cond, inl, inr, IsTrue, None, Option, refl, Some, sym, unwrap_or, ℕ}
-use Rattle.std.specs.Option.{option_and_then, option_or}
-use Rattle.fragment_choice.specs.Prelude.{agree_everywhere, AreForOne, both_say, Content, File, first_at, first_same, Gone, HostViewMap, IsLevel, levels, Link, Name, path_cmp, path_cmp-IsAntisymmetric, path_cmp_total, PathParts, PlaceParts, same_place, template_of, viewed_at}
-use Rattle.fragment_choice.specs.{Choices.choice, Choices.content_says, Choices.is_null, Choices.last_component, Choices.link_says, Choices.own_choice, Choices.own_path, Choices.own_place, Choices.says, declared.choices.Choice.Choice, declared.choices.Choice.TheVariants.Masked, declared.choices.Choice.TheVariants.NotFound}
+use Rattle.std.proofs.Common.{◌<◌, ◌∷◌, ◌≡◌, ◌≢◌, ◌≤◌, ◌⊎◌}
+use Rattle.fragment_choice.specs.Prelude.{[], agree_everywhere, ap, AreForOne, both_say, cond, Content, File, first_at, first_same, Gone, HostViewMap, inl, inr, IsLevel, IsTrue, levels, Link, Name, None, Option, option_and_then, option_or, path_cmp, path_cmp-IsAntisymmetric, path_cmp_total, PathParts, PlaceParts, refl, same_place, Some, sym, template_of, unwrap_or, viewed_at, ℕ, ◌∙◌}
+use Rattle.fragment_choice.specs.{Choices.{choice, content_says, is_null, last_component, link_says, own_choice, own_path, own_place, says}, declared.choices.Choice.{Choice, TheVariants.{Masked, NotFound}}}
 
 -- The least level that says anything of `n` under its own name makes the choice.
 abbrev pub LeastLevelChooses : Type 0

@@ -1,12 +1,8 @@
 -- The choice of a unit's main file.
 -- Source: systemd.unit(5), "Unit File Load Path" and "Description"; the order of a link's tests is this project's own.
-use Rattle.std.proofs.Common.{[], ◌==◌, ◌||◌, ◌∷◌, Bool, codes, false, if◌then◌else◌, List, None, not, Option, Some, true, unwrap_or, ℕ}
-use Rattle.std.specs.List.{after_last}
-use Rattle.std.specs.Option.{option_and_then, option_or}
-use Rattle.std.specs.Ordering.{eq_by_cmp}
-use Rattle.std.specs.Str.{bytes_eq}
-use Rattle.fragment_choice.specs.Prelude.{Automount, Content, Device, File, first_level, Gone, HostViewMap, Instance, instance, is_name, kind, Link, Mount, Name, name_cmp, Path, path_at, PathParts, PlaceParts, Plain, Scope, Service, shape, Slice, Socket, Swap, TargetKind, Template, template_of, Timer, UnitKind, UnitShape, viewed_at, viewed_place, with_instance, word}
-use Rattle.fragment_choice.specs.{declared.choices.Cause.TheVariants.Kind, declared.choices.Cause.TheVariants.Shape, declared.choices.Cause.TheVariants.Target, declared.choices.Choice.Choice, declared.choices.Choice.TheVariants.Alias, declared.choices.Choice.TheVariants.Bad, declared.choices.Choice.TheVariants.Fragment, declared.choices.Choice.TheVariants.Masked, declared.choices.Choice.TheVariants.NotFound}
+use Rattle.std.proofs.Common.{if◌then◌else◌, ◌==◌, ◌||◌, ◌∷◌}
+use Rattle.fragment_choice.specs.Prelude.{[], after_last, Automount, Bool, bytes_eq, codes, Content, Device, eq_by_cmp, false, File, first_level, Gone, HostViewMap, Instance, instance, is_name, kind, Link, List, Mount, Name, name_cmp, None, not, Option, option_and_then, option_or, Path, path_at, PathParts, PlaceParts, Plain, Scope, Service, shape, Slice, Socket, Some, Swap, TargetKind, Template, template_of, Timer, true, UnitKind, UnitShape, unwrap_or, viewed_at, viewed_place, with_instance, word, ℕ}
+use Rattle.fragment_choice.specs.declared.choices.{Cause.TheVariants.{Kind, Shape, Target}, Choice.{Choice, TheVariants.{Alias, Bad, Fragment, Masked, NotFound}}}
 
 abbrev pub is_same : Name → Name → Bool
 is_same = eq_by_cmp name_cmp

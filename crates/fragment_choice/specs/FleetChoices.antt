@@ -1,9 +1,8 @@
 -- The choice of a unit's main file without hosts: from the fleet's paths, by rank. Only one law about hosts cites it.
 -- Source: systemd.unit(5), "Unit File Load Path" and "Description".
-use Rattle.std.proofs.Common.{[], ◌∷◌, List, Option, unwrap_or, ℕ}
-use Rattle.std.specs.Option.{option_and_then, option_or}
-use Rattle.fragment_choice.specs.Prelude.{first_said, Fleet, Name, path_at, PathMap, shown_at, template_of, within}
-use Rattle.fragment_choice.specs.{Choices.content_says, declared.choices.Choice.Choice, declared.choices.Choice.TheVariants.NotFound}
+use Rattle.std.proofs.Common.{◌∷◌}
+use Rattle.fragment_choice.specs.Prelude.{[], first_said, Fleet, List, Name, Option, option_and_then, option_or, path_at, PathMap, shown_at, template_of, unwrap_or, within, ℕ}
+use Rattle.fragment_choice.specs.{Choices.{content_says}, declared.choices.Choice.{Choice, TheVariants.{NotFound}}}
 
 -- The ranks of the directories; each overrides those after it.
 abbrev pub ranks : List ℕ

@@ -1,8 +1,7 @@
 -- Laws of fragments: each is a visible file that isn't empty, at a place whose path has one component.
-use Rattle.std.proofs.Common.{[], ◌∙◌, ◌∷◌, ◌≡◌, ◌⊎◌, ap, Bool, cond, false, inl, inr, List, None, Option, refl, Some, sym, true, unwrap_or, ℕ}
-use Rattle.std.specs.Option.{option_and_then, option_or}
-use Rattle.fragment_choice.specs.Prelude.{Content, content_at, content_viewed, first_said, HostViewMap, Instance, instance, is_name, kind, levels, Name, PathParts, PlaceParts, Plain, Shape, shape, Template, template_of, viewed_at, viewed_place, with_instance}
-use Rattle.fragment_choice.specs.{ChoiceLaws.IsOwnPath, Choices.alias_of, Choices.alias_to, Choices.choice, Choices.content_says, Choices.is_bad_kind, Choices.is_null, Choices.is_self, Choices.last_component, Choices.link_says, Choices.own_choice, Choices.own_path, Choices.own_place, Choices.says, Choices.shapes_agree, declared.choices.Choice.Choice, declared.choices.Choice.TheVariants.Bad, declared.choices.Choice.TheVariants.Fragment, declared.choices.Choice.TheVariants.Masked, declared.choices.Choice.TheVariants.NotFound, declared.resolutions.Resolution.Resolution, ResolutionLaws.resolution_resolves, Resolutions.main, Resolutions.resolution, Resolutions.Resolves, Resolutions.Resolves.ends_at, Resolutions.Resolves.goes_on}
+use Rattle.std.proofs.Common.{◌∷◌, ◌≡◌, ◌⊎◌}
+use Rattle.fragment_choice.specs.Prelude.{[], ap, Bool, cond, Content, content_at, content_viewed, false, first_said, HostViewMap, inl, inr, Instance, instance, is_name, kind, levels, List, Name, None, Option, option_and_then, option_or, PathParts, PlaceParts, Plain, refl, Shape, shape, Some, sym, Template, template_of, true, unwrap_or, viewed_at, viewed_place, with_instance, ℕ, ◌∙◌}
+use Rattle.fragment_choice.specs.{ChoiceLaws.{IsOwnPath}, Choices.{alias_of, alias_to, choice, content_says, is_bad_kind, is_null, is_self, last_component, link_says, own_choice, own_path, own_place, says, shapes_agree}, declared.{choices.Choice.{Choice, TheVariants.{Bad, Fragment, Masked, NotFound}}, resolutions.Resolution.{Resolution}}, ResolutionLaws.{resolution_resolves}, Resolutions.{main, resolution, Resolves, Resolves.{ends_at, goes_on}}}
 use Rattle.edit_sums.specs.declared.contents.Content.TheVariants as content
 use Rattle.fragment_choice.specs.declared.choices.Cause.TheVariants as cause
 

@@ -1,9 +1,8 @@
 -- Laws of hosts: a host at whose places nothing is visible has the choices that are made without a host, and these are
 -- the choices of the fleet by rank.
-use Rattle.std.proofs.Common.{◌%◌, ◌/◌, ◌==◌, ◌∙◌, ◌≡◌, ap, Bool, cond, false, List, None, refl, Some, sym, true, unwrap_or, ℕ}
-use Rattle.std.specs.Option.{option_and_then, option_or}
-use Rattle.fragment_choice.specs.Prelude.{EntryMap, first_said, Fleet, fleets_sights, Host, host_view_of, HostViewMap, levels, Name, own_scope, path_after, PathParts, same_sights, scope_of, shown_at, ShowsNothing, template_of, viewed_at}
-use Rattle.fragment_choice.specs.{Choices.choice, Choices.content_says, Choices.own_choice, Choices.own_path, Choices.own_place, Choices.says, declared.choices.Choice.TheVariants.NotFound, FleetChoices.fleet_choice, FleetChoices.fleet_own_choice, FleetChoices.fleet_says, ResolutionLaws.choices_decide, Resolutions.resolution}
+use Rattle.std.proofs.Common.{◌%◌, ◌/◌, ◌==◌, ◌≡◌}
+use Rattle.fragment_choice.specs.Prelude.{ap, Bool, cond, EntryMap, false, first_said, Fleet, fleets_sights, Host, host_view_of, HostViewMap, levels, List, Name, None, option_and_then, option_or, own_scope, path_after, PathParts, refl, same_sights, scope_of, shown_at, ShowsNothing, Some, sym, template_of, true, unwrap_or, viewed_at, ℕ, ◌∙◌}
+use Rattle.fragment_choice.specs.{Choices.{choice, content_says, own_choice, own_path, own_place, says}, declared.choices.Choice.TheVariants.{NotFound}, FleetChoices.{fleet_choice, fleet_own_choice, fleet_says}, ResolutionLaws.{choices_decide}, Resolutions.{resolution}}
 
 -- A host at whose places nothing is visible has the choices that are made without a host.
 abbrev pub HostsWithoutPlacesChooseAlike : Type 0

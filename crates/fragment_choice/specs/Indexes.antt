@@ -1,11 +1,8 @@
 -- The links of a store by the names that they point to: definitions for private clauses.
 -- Source: this project's own.
-use Rattle.std.proofs.Common.{[], ◌<◌, ◌∷◌, ◌≡◌, ◌≤◌, ◌⊎◌, Bool, false, IsTrue, List, None, Option, Some, true, unwrap_or, ℕ}
-use Rattle.std.specs.BTreeMap.{BTreeMap, get}
-use Rattle.std.specs.Global.{Vec}
-use Rattle.std.specs.Option.{option_and_then}
-use Rattle.fragment_choice.specs.Prelude.{Entry, HostViewMap, instance, IsAmong, IsLevel, IsName, Name, name_cmp, PathParts, shown, template_of, viewed_at, with_instance}
-use Rattle.fragment_choice.specs.{Choices.own_choice, Choices.own_path, declared.choices.Choice.Choice, declared.choices.Choice.TheVariants.Alias, declared.choices.Choice.TheVariants.Bad, declared.choices.Choice.TheVariants.Fragment, declared.choices.Choice.TheVariants.Masked, declared.choices.Choice.TheVariants.NotFound, LinkedNames.is_link, Resolutions.Chain, Resolutions.Leads}
+use Rattle.std.proofs.Common.{◌<◌, ◌∷◌, ◌≡◌, ◌≤◌, ◌⊎◌}
+use Rattle.fragment_choice.specs.Prelude.{[], Bool, BTreeMap, Entry, false, get, HostViewMap, instance, IsAmong, IsLevel, IsName, IsTrue, List, Name, name_cmp, None, Option, option_and_then, PathParts, shown, Some, template_of, true, unwrap_or, Vec, viewed_at, with_instance, ℕ}
+use Rattle.fragment_choice.specs.{Choices.{own_choice, own_path}, declared.choices.Choice.{Choice, TheVariants.{Alias, Bad, Fragment, Masked, NotFound}}, LinkedNames.{is_link}, Resolutions.{Chain, Leads}}
 
 -- The names of an optional list; none if it is absent.
 abbrev pub names_in : Option (Vec Name) → List Name

@@ -1,7 +1,7 @@
 -- Which names are aliases of which decides all main names, and with the choice for a main name what it resolves to.
-use Rattle.std.proofs.Common.{◌↔◌, ◌∙◌, ◌≡◌, ap, refl, subst, sym, ℕ}
-use Rattle.fragment_choice.specs.Prelude.{HostViewMap, Name}
-use Rattle.fragment_choice.specs.{Choices.choice, declared.choices.Cause.TheVariants.Loop, declared.choices.Choice.Choice, declared.choices.Choice.TheVariants.Alias, declared.choices.Choice.TheVariants.Bad, declared.choices.Choice.TheVariants.Fragment, declared.choices.Choice.TheVariants.Masked, declared.choices.Choice.TheVariants.NotFound, declared.resolutions.Resolution.Resolution, ResolutionLaws.following_finds_the_end, ResolutionLaws.resolution_resolves, Resolutions.Chain, Resolutions.Chain.here, Resolutions.Chain.step, Resolutions.IsEnd, Resolutions.Leads, Resolutions.main, Resolutions.resolution, Resolutions.Resolves, Resolutions.Resolves.ends_at, Resolutions.Resolves.goes_on}
+use Rattle.std.proofs.Common.{◌↔◌, ◌≡◌}
+use Rattle.fragment_choice.specs.Prelude.{ap, HostViewMap, Name, refl, subst, sym, ℕ, ◌∙◌}
+use Rattle.fragment_choice.specs.{Choices.{choice}, declared.{choices.{Cause.TheVariants.{Loop}, Choice.{Choice, TheVariants.{Alias, Bad, Fragment, Masked, NotFound}}}, resolutions.Resolution.{Resolution}}, ResolutionLaws.{following_finds_the_end, resolution_resolves}, Resolutions.{Chain, Chain.{here, step}, IsEnd, Leads, main, resolution, Resolves, Resolves.{ends_at, goes_on}}}
 
 -- Both views have the same aliases.
 abbrev pub SameLeads : HostViewMap → HostViewMap → Type 0

@@ -1,9 +1,7 @@
 -- Laws of aliases: a name and what it is an alias of have the same kind and the same shape.
-use Rattle.std.proofs.Common.{◌||◌, ◌∙◌, ◌≡◌, ◌⊎◌, ap, Bool, false, inl, inr, None, not, Option, refl, Some, subst, sym, true, ℕ}
-use Rattle.std.proofs.lemmas.Slice.Eq.{bytes_eq-Decides}
-use Rattle.std.specs.Str.{bytes_eq}
-use Rattle.fragment_choice.specs.Prelude.{HostViewMap, Instance, instance, instance_has_parts, IsName, kind, Name, Plain, shape, Template, template_of, templates_keep_parts, UnitKind, UnitShape, with_instance, word}
-use Rattle.fragment_choice.specs.{Choices.alias_of, Choices.alias_to, Choices.has_no_alias, Choices.is_bad_kind, Choices.last_component, Choices.shapes_agree, declared.choices.Choice.TheVariants.Alias, declared.resolutions.Resolution.Resolution, LinkCaseLaws.same_kind, LinkLaws.alias_same, LinkLaws.has_link, LinkLaws.has_template, LinkLaws.HasLink, LinkLaws.IsPassed, LinkLaws.passed, LinkLaws.template_alias, ResolutionLaws.resolution_resolves, Resolutions.Chain, Resolutions.Chain.here, Resolutions.Chain.step, Resolutions.Leads, Resolutions.main, Resolutions.resolution, Resolutions.Resolves, Resolutions.Resolves.ends_at, Resolutions.Resolves.goes_on}
+use Rattle.std.proofs.Common.{◌||◌, ◌≡◌, ◌⊎◌}
+use Rattle.fragment_choice.specs.Prelude.{ap, Bool, bytes_eq, bytes_eq-Decides, false, HostViewMap, inl, inr, Instance, instance, instance_has_parts, IsName, kind, Name, None, not, Option, Plain, refl, shape, Some, subst, sym, Template, template_of, templates_keep_parts, true, UnitKind, UnitShape, with_instance, word, ℕ, ◌∙◌}
+use Rattle.fragment_choice.specs.{Choices.{alias_of, alias_to, has_no_alias, is_bad_kind, last_component, shapes_agree}, declared.{choices.Choice.TheVariants.{Alias}, resolutions.Resolution.{Resolution}}, LinkCaseLaws.{same_kind}, LinkLaws.{alias_same, has_link, has_template, HasLink, IsPassed, passed, template_alias}, ResolutionLaws.{resolution_resolves}, Resolutions.{Chain, Chain.{here, step}, Leads, main, resolution, Resolves, Resolves.{ends_at, goes_on}}}
 
 -- `m` is a name with the kind and the shape of `n`.
 pub record IsLike (n m : Name) : Type 0 where

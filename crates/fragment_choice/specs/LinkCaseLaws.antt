@@ -1,12 +1,7 @@
 -- Laws of links: what makes a link bad, case by case, and what a good link makes an alias of.
-use Rattle.std.proofs.Common.{◌<◌, ◌||◌, ◌↔◌, ◌∙◌, ◌≡◌, ◌≢◌, ◌≤◌, ◌⊎◌, ap, arith, Bool, codes, cond, false, inl, inr, le-leb, leb, length, List, None, not, Option, refl, Some, subst, sym, true, ℕ}
-use Rattle.std.proofs.lemmas.Bool.{cases_lt, false_from_ne_true, leb-true, true≢false}
-use Rattle.std.proofs.lemmas.Option.{cond_some, none-some, same_Some}
-use Rattle.std.proofs.lemmas.Slice.Eq.{bytes_eq-Decides}
-use Rattle.std.specs.Option.{option_and_then}
-use Rattle.std.specs.Str.{bytes_eq}
-use Rattle.fragment_choice.specs.Prelude.{Automount, Device, fits, HostViewMap, if_short, Instance, instance, instance_at, instance_name, is_instance, is_name, IsName, kind, kind_of, kind_of-word, Link, made_of_name, Mount, Name, parts_of_names_fit, Path, Plain, prefix, Scope, Service, shape, Slice, Socket, suffix, Swap, TargetKind, Template, template_of, Timer, UnitKind, UnitShape, viewed_at, with_instance, word}
-use Rattle.fragment_choice.specs.{Choices.alias_of, Choices.alias_to, Choices.content_says, Choices.has_no_alias, Choices.is_bad_kind, Choices.is_null, Choices.is_self, Choices.last_component, Choices.link_says, Choices.own_path, Choices.own_place, Choices.says, Choices.shapes_agree, declared.choices.Cause.Cause, declared.choices.Cause.TheVariants.Kind, declared.choices.Cause.TheVariants.Loop, declared.choices.Cause.TheVariants.Shape, declared.choices.Cause.TheVariants.Target, declared.choices.Choice.Choice, declared.choices.Choice.TheVariants.Alias, declared.choices.Choice.TheVariants.Bad, declared.choices.Choice.TheVariants.Masked, UndefinedLaws.decided, UndefinedLaws.itself_leads, UndefinedLaws.leads_to_itself}
+use Rattle.std.proofs.Common.{◌<◌, ◌||◌, ◌↔◌, ◌≡◌, ◌≢◌, ◌≤◌, ◌⊎◌}
+use Rattle.fragment_choice.specs.Prelude.{ap, arith, Automount, Bool, bytes_eq, bytes_eq-Decides, cases_lt, codes, cond, cond_some, Device, false, false_from_ne_true, fits, HostViewMap, if_short, inl, inr, Instance, instance, instance_at, instance_name, is_instance, is_name, IsName, kind, kind_of, kind_of-word, le-leb, leb, leb-true, length, Link, List, made_of_name, Mount, Name, None, none-some, not, Option, option_and_then, parts_of_names_fit, Path, Plain, prefix, refl, same_Some, Scope, Service, shape, Slice, Socket, Some, subst, suffix, Swap, sym, TargetKind, Template, template_of, Timer, true, true≢false, UnitKind, UnitShape, viewed_at, with_instance, word, ℕ, ◌∙◌}
+use Rattle.fragment_choice.specs.{Choices.{alias_of, alias_to, content_says, has_no_alias, is_bad_kind, is_null, is_self, last_component, link_says, own_path, own_place, says, shapes_agree}, declared.choices.{Cause.{Cause, TheVariants.{Kind, Loop, Shape, Target}}, Choice.{Choice, TheVariants.{Alias, Bad, Masked}}}, UndefinedLaws.{decided, itself_leads, leads_to_itself}}
 
 -- A link is visible under the name `o` at a level, and its target, which isn't `/dev/null`, ends in the component `t`.
 pub record LinkStands (s : HostViewMap) (o : Name) (level : ℕ) (t : List ℕ) : Type 0 where

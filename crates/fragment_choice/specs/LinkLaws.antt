@@ -1,10 +1,7 @@
 -- Laws of links: where aliases come from, and what an instance keeps along them.
-use Rattle.std.proofs.Common.{[], ◌∙◌, ◌∷◌, ◌≡◌, ◌⊎◌, ap, Bool, cond, false, inl, inr, List, None, Option, refl, Some, subst, sym, true, unwrap_or, ℕ}
-use Rattle.std.proofs.lemmas.Option.{none-some, same_Some}
-use Rattle.std.proofs.lemmas.Slice.Eq.{bytes_eq-Decides}
-use Rattle.std.specs.Option.{option_and_then, option_or}
-use Rattle.fragment_choice.specs.Prelude.{Content, File, Gone, HostViewMap, Instance, instance, instances_have_the_template, is_name, IsLevel, IsName, kind, Link, Name, Plain, said_by, shape, Template, template_at, template_of, templates_keep_parts, UnitShape, viewed_at, with_instance}
-use Rattle.fragment_choice.specs.{Choices.alias_of, Choices.alias_to, Choices.content_says, Choices.is_bad_kind, Choices.is_null, Choices.is_self, Choices.last_component, Choices.link_says, Choices.own_choice, Choices.own_path, Choices.own_place, Choices.says, Choices.shapes_agree, Choices.target_says, declared.choices.Cause.TheVariants.Kind, declared.choices.Cause.TheVariants.Shape, declared.choices.Cause.TheVariants.Target, declared.choices.Choice.Choice, declared.choices.Choice.TheVariants.Alias, declared.choices.Choice.TheVariants.Bad, declared.choices.Choice.TheVariants.Fragment, declared.choices.Choice.TheVariants.Masked, declared.choices.Choice.TheVariants.NotFound, declared.resolutions.Resolution.Resolution, LinkedNames.is_link, LinkedNames.IsLinkedAt, ResolutionLaws.resolution_resolves, Resolutions.Chain, Resolutions.Chain.here, Resolutions.Chain.step, Resolutions.Leads, Resolutions.main, Resolutions.resolution, Resolutions.Resolves, Resolutions.Resolves.ends_at, Resolutions.Resolves.goes_on}
+use Rattle.std.proofs.Common.{◌∷◌, ◌≡◌, ◌⊎◌}
+use Rattle.fragment_choice.specs.Prelude.{[], ap, Bool, bytes_eq-Decides, cond, Content, false, File, Gone, HostViewMap, inl, inr, Instance, instance, instances_have_the_template, is_name, IsLevel, IsName, kind, Link, List, Name, None, none-some, Option, option_and_then, option_or, Plain, refl, said_by, same_Some, shape, Some, subst, sym, Template, template_at, template_of, templates_keep_parts, true, UnitShape, unwrap_or, viewed_at, with_instance, ℕ, ◌∙◌}
+use Rattle.fragment_choice.specs.{Choices.{alias_of, alias_to, content_says, is_bad_kind, is_null, is_self, last_component, link_says, own_choice, own_path, own_place, says, shapes_agree, target_says}, declared.{choices.{Cause.TheVariants.{Kind, Shape, Target}, Choice.{Choice, TheVariants.{Alias, Bad, Fragment, Masked, NotFound}}}, resolutions.Resolution.{Resolution}}, LinkedNames.{is_link, IsLinkedAt}, ResolutionLaws.{resolution_resolves}, Resolutions.{Chain, Chain.{here, step}, Leads, main, resolution, Resolves, Resolves.{ends_at, goes_on}}}
 
 -- A name that is an alias has a visible link of its own or of its template.
 abbrev pub AliasesHaveLinks : Type 0

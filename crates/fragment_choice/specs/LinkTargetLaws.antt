@@ -1,10 +1,7 @@
 -- Equal link targets make the same aliases, and show the same visible names.
-use Rattle.std.proofs.Common.{[], ◌↔◌, ◌∙◌, ◌∷◌, ◌≡◌, ◌⊎◌, ap, arith, Bool, cond, false, inl, inr, is_some, IsSome, List, None, Option, refl, Some, suc, sym, true, unwrap_or, zero, ℕ}
-use Rattle.std.proofs.lemmas.Option.{same_Some}
-use Rattle.std.specs.List.{cons_option}
-use Rattle.std.specs.Option.{option_and_then, option_map, option_or}
-use Rattle.fragment_choice.specs.Prelude.{Content, Entry, File, first_said, Gone, HostViewMap, IsAmong, IsLevel, levels, Link, Name, shown, template_of, view, viewed_at}
-use Rattle.fragment_choice.specs.{Choices.choice as chosen_for, Choices.content_says, Choices.is_null, Choices.last_component, Choices.link_says, Choices.own_choice, Choices.own_path, Choices.own_place, Choices.says, declared.choices.Choice.Choice, LeadsLaws.SameLeads, LinkTargets.link_targets, LinkTargets.Target, LinkTargets.target_at, LinkTargets.target_part, LinkTargets.targets_in, LinkTargets.words_of, Resolutions.Leads}
+use Rattle.std.proofs.Common.{◌↔◌, ◌∷◌, ◌≡◌, ◌⊎◌}
+use Rattle.fragment_choice.specs.Prelude.{[], ap, arith, Bool, cond, cons_option, Content, Entry, false, File, first_said, Gone, HostViewMap, inl, inr, is_some, IsAmong, IsLevel, IsSome, levels, Link, List, Name, None, Option, option_and_then, option_map, option_or, refl, same_Some, shown, Some, suc, sym, template_of, true, unwrap_or, view, viewed_at, zero, ℕ, ◌∙◌}
+use Rattle.fragment_choice.specs.{Choices.{choice as chosen_for, content_says, is_null, last_component, link_says, own_choice, own_path, own_place, says}, declared.choices.Choice.{Choice}, LeadsLaws.{SameLeads}, LinkTargets.{link_targets, Target, target_at, target_part, targets_in, words_of}, Resolutions.{Leads}}
 use Rattle.std.specs.FinMap as finmap
 use Rattle.fragment_choice.specs.declared.choices.Choice.TheVariants as choice
 

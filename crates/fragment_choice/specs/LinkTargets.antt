@@ -1,10 +1,7 @@
 -- What a name's own paths say of aliases: the targets of its links, level by level, up to the one that ends the search.
 -- Source: this project's own.
-use Rattle.std.proofs.Common.{[], ◌∷◌, if◌then◌else◌, List, None, Option, Some, ℕ}
-use Rattle.std.specs.List.{filter_map}
-use Rattle.std.specs.Option.{option_and_then}
-use Rattle.fragment_choice.specs.Prelude.{Content, File, Gone, HostViewMap, levels, Link, Name, PathParts, viewed_at}
-use Rattle.fragment_choice.specs.Choices.{is_null, own_path}
+use Rattle.std.proofs.Common.{if◌then◌else◌, ◌∷◌}
+use Rattle.fragment_choice.specs.{Choices.{is_null, own_path}, Prelude.{[], Content, File, filter_map, Gone, HostViewMap, levels, Link, List, Name, None, Option, option_and_then, PathParts, Some, viewed_at, ℕ}}
 
 -- The target of a link; `None` for a file.
 abbrev pub Target : Type 0

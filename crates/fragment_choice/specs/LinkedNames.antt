@@ -1,8 +1,7 @@
 -- The names that links give to a unit.
 -- Source: systemd.unit(5), "Description".
-use Rattle.std.proofs.Common.{◌≡◌, ◌⊎◌, Bool, false, if◌then◌else◌, IsTrue, List, None, Option, Some, true, ℕ}
-use Rattle.fragment_choice.specs.Prelude.{Content, File, Gone, HostViewMap, is_name, Link, Name, template_of, viewed_at}
-use Rattle.fragment_choice.specs.Choices.{own_path}
+use Rattle.std.proofs.Common.{if◌then◌else◌, ◌≡◌, ◌⊎◌}
+use Rattle.fragment_choice.specs.{Choices.{own_path}, Prelude.{Bool, Content, false, File, Gone, HostViewMap, is_name, IsTrue, Link, List, Name, None, Option, Some, template_of, true, viewed_at, ℕ}}
 
 -- The unit name that these bytes are, if they are one.
 abbrev pub unit_of : List ℕ → Option Name

@@ -1,9 +1,7 @@
 -- Laws of choices, said of a store's places: the first that stands for a name counts, and those of other hosts don't.
-use Rattle.std.proofs.Common.{[], ◌<◌, ◌∙◌, ◌∷◌, ◌≡◌, ◌≢◌, ◌≤◌, ◌⊎◌, ap, arith, inl, inr, List, None, refl, Some, sym, ℕ}
-use Rattle.std.proofs.lemmas.Bool.{cases_lt}
-use Rattle.std.specs.Option.{option_and_then}
-use Rattle.fragment_choice.specs.Prelude.{EntryMap, File, host_view_of, HostViewMap, lesser_ranks_go_first, level_for, levels_of_directories, Name, nothing_viewed, other_hosts_are_not_in_view, path_at, PlaceParts, places_are_in_views, shown, viewed_at, viewed_place, Viewer, visible_at, what_is_viewed_there_is_its_own}
-use Rattle.fragment_choice.specs.{ChoiceLaws.least_level_chooses, Choices.choice, Choices.content_says, Choices.own_path, Choices.own_place, Choices.says, declared.choices.Choice.TheVariants.Fragment, Resolutions.resolution}
+use Rattle.std.proofs.Common.{◌<◌, ◌∷◌, ◌≡◌, ◌≢◌, ◌≤◌, ◌⊎◌}
+use Rattle.fragment_choice.specs.Prelude.{[], ap, arith, cases_lt, EntryMap, File, host_view_of, HostViewMap, inl, inr, lesser_ranks_go_first, level_for, levels_of_directories, List, Name, None, nothing_viewed, option_and_then, other_hosts_are_not_in_view, path_at, PlaceParts, places_are_in_views, refl, shown, Some, sym, viewed_at, viewed_place, Viewer, visible_at, what_is_viewed_there_is_its_own, ℕ, ◌∙◌}
+use Rattle.fragment_choice.specs.{ChoiceLaws.{least_level_chooses}, Choices.{choice, content_says, own_path, own_place, says}, declared.choices.Choice.TheVariants.{Fragment}, Resolutions.{resolution}}
 use Rattle.std.specs.FinMap as finmap
 
 -- the place is a name's own: in one of the four directories, in no folder, and called as the name is

@@ -1,7 +1,7 @@
 -- Laws of chains of aliases and their ends.
-use Rattle.std.proofs.Common.{◌+◌, ◌-◌, ◌↔◌, ◌∙◌, ◌≡◌, ap, arith, refl, subst, suc, zero, ℕ}
-use Rattle.fragment_choice.specs.Prelude.{HostViewMap, Name}
-use Rattle.fragment_choice.specs.{Choices.choice, declared.choices.Choice.Choice, declared.choices.Choice.TheVariants.Alias, declared.choices.Choice.TheVariants.Bad, declared.choices.Choice.TheVariants.Fragment, declared.choices.Choice.TheVariants.Masked, declared.choices.Choice.TheVariants.NotFound, declared.resolutions.Resolution.Resolution, Resolutions.Chain, Resolutions.Chain.here, Resolutions.Chain.step, Resolutions.ended_or, Resolutions.follow, Resolutions.IsEnd, Resolutions.Leads, Resolutions.main, Resolutions.resolution, Resolutions.Resolves, Resolutions.Resolves.ends_at, Resolutions.Resolves.goes_on}
+use Rattle.std.proofs.Common.{◌+◌, ◌-◌, ◌↔◌, ◌≡◌}
+use Rattle.fragment_choice.specs.Prelude.{ap, arith, HostViewMap, Name, refl, subst, suc, zero, ℕ, ◌∙◌}
+use Rattle.fragment_choice.specs.{Choices.{choice}, declared.{choices.Choice.{Choice, TheVariants.{Alias, Bad, Fragment, Masked, NotFound}}, resolutions.Resolution.{Resolution}}, Resolutions.{Chain, Chain.{here, step}, ended_or, follow, IsEnd, Leads, main, resolution, Resolves, Resolves.{ends_at, goes_on}}}
 
 -- Following aliases finds the end of the chain: the name resolves to the result, and to nothing else.
 abbrev pub FollowingFindsTheEnd : Type 0

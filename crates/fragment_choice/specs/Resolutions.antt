@@ -1,8 +1,8 @@
 -- The chain of a unit's aliases, and its end.
 -- Source (aliases): systemd.unit(5), "Description"; that eight are followed is this project's own.
-use Rattle.std.proofs.Common.{◌≡◌, ◌≤◌, suc, zero, ℕ}
-use Rattle.fragment_choice.specs.Prelude.{HostViewMap, Name}
-use Rattle.fragment_choice.specs.{Choices.choice, declared.choices.Cause.TheVariants.Loop, declared.choices.Choice.Choice, declared.choices.Choice.TheVariants.Alias, declared.choices.Choice.TheVariants.Bad, declared.choices.Choice.TheVariants.Fragment, declared.choices.Choice.TheVariants.Masked, declared.choices.Choice.TheVariants.NotFound, declared.resolutions.Resolution.Resolution}
+use Rattle.std.proofs.Common.{◌≡◌, ◌≤◌}
+use Rattle.fragment_choice.specs.Prelude.{HostViewMap, Name, suc, zero, ℕ}
+use Rattle.fragment_choice.specs.{Choices.{choice}, declared.{choices.{Cause.TheVariants.{Loop}, Choice.{Choice, TheVariants.{Alias, Bad, Fragment, Masked, NotFound}}}, resolutions.Resolution.{Resolution}}}
 
 -- `n` is an alias of `m`.
 abbrev pub Leads : HostViewMap → Name → Name → Type 0

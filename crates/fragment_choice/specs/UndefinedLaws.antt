@@ -1,17 +1,10 @@
 -- A law of what is not found: nothing speaks for the name, nor for its template.
-use Rattle.std.proofs.Common.{[], ◌||◌, ◌↔◌, ◌∙◌, ◌∷◌, ◌≡◌, ◌⊎◌, ap, Bool, codes, cond, false, inl, inr, List, None, Option, refl, Some, subst, sym, true, unwrap_or, ℕ}
-use Rattle.std.proofs.lemmas.Bool.{or_right, true≢false}
-use Rattle.std.proofs.lemmas.Cmp.{tied_itself}
-use Rattle.std.proofs.lemmas.Option.{none-some, same_Some}
-use Rattle.std.proofs.lemmas.Slice.Eq.{bytes_eq-Decides}
-use Rattle.std.specs.Cmp.Lexicographic.{nat_list_cmp_total}
-use Rattle.std.specs.Option.{option_and_then, option_or}
-use Rattle.std.specs.Ordering.{is_eq}
-use Rattle.fragment_choice.specs.Prelude.{all_none, Content, Entry, HostViewMap, Instance, instance, is_equal, is_name, IsLevel, IsName, kind, Name, name_cmp-IsAntisymmetric, none_said, PlaceParts, Plain, said_by, Shape, shape, shown, Template, template_of, view, viewed_at, with_instance}
-use Rattle.fragment_choice.specs.{Choices.alias_of, Choices.alias_to, Choices.choice, Choices.content_says, Choices.is_bad_kind, Choices.is_null, Choices.is_same, Choices.is_self, Choices.is_that, Choices.last_component, Choices.link_says, Choices.own_choice, Choices.own_path, Choices.own_place, Choices.says, Choices.shapes_agree, Choices.target_says, declared.choices.Choice.Choice, declared.choices.Choice.TheVariants.Bad, declared.choices.Choice.TheVariants.Masked, declared.choices.Choice.TheVariants.NotFound}
+use Rattle.std.proofs.Common.{◌||◌, ◌↔◌, ◌∷◌, ◌≡◌, ◌⊎◌}
+use Rattle.unit_name.specs.Names.{name_of}
+use Rattle.fragment_choice.specs.Prelude.{[], all_none, ap, Bool, bytes_eq-Decides, codes, cond, Content, Entry, false, HostViewMap, inl, inr, Instance, instance, is_eq, is_equal, is_name, IsLevel, IsName, kind, List, Name, name_cmp-IsAntisymmetric, nat_list_cmp_total, None, none-some, none_said, Option, option_and_then, option_or, or_right, PlaceParts, Plain, refl, said_by, same_Some, Shape, shape, shown, Some, subst, sym, Template, template_of, tied_itself, true, true≢false, unwrap_or, view, viewed_at, with_instance, ℕ, ◌∙◌}
+use Rattle.fragment_choice.specs.{Choices.{alias_of, alias_to, choice, content_says, is_bad_kind, is_null, is_same, is_self, is_that, last_component, link_says, own_choice, own_path, own_place, says, shapes_agree, target_says}, declared.choices.Choice.{Choice, TheVariants.{Bad, Masked, NotFound}}}
 use Rattle.edit_sums.specs.declared.contents.Content.TheVariants as content
 use Rattle.std.specs.FinMap as finmap
-use Rattle.unit_name.specs.Names.{name_of}
 use Rattle.fragment_choice.specs.declared.choices.Cause.TheVariants as cause
 
 -- a link that is passed over: it leads to the name o that it has itself, or to the template of o

@@ -1,8 +1,6 @@
 -- Laws of the names of units.
-use Rattle.std.proofs.Common.{◌∙◌, ◌∷◌, ◌≡◌, ap, inl, inr, List, subst, sym}
-use Rattle.std.specs.Cmp.Lexicographic.{nat_list_cmp_total}
-use Rattle.fragment_choice.specs.Prelude.{HostViewMap, IsAmong, Name, name_cmp, one_ascending_list}
-use Rattle.fragment_choice.specs.{Resolutions.main, UnitNames.AreNames}
+use Rattle.std.proofs.Common.{◌∷◌, ◌≡◌}
+use Rattle.fragment_choice.specs.{Prelude.{ap, HostViewMap, inl, inr, IsAmong, List, Name, name_cmp, nat_list_cmp_total, one_ascending_list, subst, sym, ◌∙◌}, Resolutions.{main}, UnitNames.{AreNames}}
 
 -- Each name of a unit has the unit as its main name.
 abbrev pub NamesHaveTheMain : Type 0

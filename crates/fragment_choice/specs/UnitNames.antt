@@ -1,9 +1,7 @@
 -- All names of a unit.
 -- Source: systemd.unit(5), "Description".
-use Rattle.std.proofs.Common.{◌↔◌, ◌∷◌, ◌≡◌, ◌≢◌, List}
-use Rattle.std.specs.List.Sorted.{IsStrictlySortedBy}
-use Rattle.fragment_choice.specs.Prelude.{HostViewMap, IsAmong, IsName, Name, name_cmp}
-use Rattle.fragment_choice.specs.Resolutions.{main}
+use Rattle.std.proofs.Common.{◌↔◌, ◌∷◌, ◌≡◌, ◌≢◌}
+use Rattle.fragment_choice.specs.{Prelude.{HostViewMap, IsAmong, IsName, IsStrictlySortedBy, List, Name, name_cmp}, Resolutions.{main}}
 
 -- `n` is another name of the unit `u`: its main name is `u`.
 pub record IsOtherName (s : HostViewMap) (u n : Name) : Type 0 where

@@ -1,11 +1,6 @@
 -- Adjacency lists that are built one by one.
-use Rattle.std.proofs.Common.{[], ◌++◌, ◌+◌, ◌<◌, ◌↔◌, ◌∙◌, ◌∷◌, ◌≡◌, ◌≤◌, ◌⊎◌, ap, arith, inl, inr, length, length-append, List, refl, subst, suc, sym, zero, ℕ}
-use Rattle.std.proofs.lemmas.Bool.{cases_eq, cases_lt}
-use Rattle.std.specs.Ordering.{nat_cmp}
-use Rattle.std.specs.declared.alloc.Global.{Global}
-use Rattle.std.specs.declared.vec.Vec.{Vec}
-use Rattle.index_rows.proofs.Prelude.{AllBelow-adjacency, AreAdjacencyOf, IsAmong, IsAmong-append_cases, IsAmong-append_left, IsAmong-append_right, neighbors, neighbors-past}
-use Rattle.std.specs.List.Sorted.{IsStrictlySortedBy}
+use Rattle.std.proofs.Common.{◌++◌, ◌+◌, ◌<◌, ◌↔◌, ◌∷◌, ◌≡◌, ◌≤◌, ◌⊎◌}
+use Rattle.index_rows.proofs.Prelude.{[], AllBelow-adjacency, ap, AreAdjacencyOf, arith, cases_eq, cases_lt, Global, inl, inr, IsAmong, IsAmong-append_cases, IsAmong-append_left, IsAmong-append_right, IsStrictlySortedBy, length, length-append, List, nat_cmp, neighbors, neighbors-past, refl, subst, suc, sym, Vec, zero, ℕ, ◌∙◌}
 
 neighbors-push_same : (adjacency : List (Vec ℕ Global)) (r : Vec ℕ Global) → neighbors (adjacency ++ r ∷ []) (length adjacency) ≡ r.items
 neighbors-push_same [] r = refl

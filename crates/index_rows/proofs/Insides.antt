@@ -1,13 +1,6 @@
 -- Edges of several kinds, kind by kind, and members among nodes, node by node.
-use Rattle.std.proofs.Common.{[], ◌++◌, ◌+◌, ◌<◌, ◌∙◌, ◌∷◌, ◌≡◌, ◌≤◌, ◌⊎◌, All, ap, append-nil, arith, Bool, cond, false, filter, get_or, inl, inr, length, List, map, MatchOption, min, None, Option, refl, Some, subst, suc, sym, take, true, zero, ℕ}
-use Rattle.std.proofs.lemmas.Bool.{cases_lt}
-use Rattle.std.proofs.lemmas.List.{take_more}
-use Rattle.std.proofs.lemmas.List.Concat.{flat_map-append}
-use Rattle.std.proofs.lemmas.List.Elements.{filter-append}
-use Rattle.std.specs.Ordering.{nat_cmp}
-use Rattle.std.specs.declared.alloc.Global.{Global}
-use Rattle.std.specs.declared.vec.Vec.{Vec}
-use Rattle.index_rows.proofs.Prelude.{All-neighbors, AreAdjacencyOf, AreSuccessorsOf, below_cmp, cmp_below, is_member, IsLeast, IsLeastOrNone, IsSpread, lesser_of, neighbors, successors_inside}
+use Rattle.std.proofs.Common.{◌++◌, ◌+◌, ◌<◌, ◌∷◌, ◌≡◌, ◌≤◌, ◌⊎◌}
+use Rattle.index_rows.proofs.Prelude.{[], All, All-neighbors, ap, append-nil, AreAdjacencyOf, AreSuccessorsOf, arith, below_cmp, Bool, cases_lt, cmp_below, cond, false, filter, filter-append, flat_map-append, get_or, Global, inl, inr, is_member, IsLeast, IsLeastOrNone, IsSpread, length, lesser_of, List, map, MatchOption, min, nat_cmp, neighbors, None, Option, refl, Some, subst, suc, successors_inside, sym, take, take_more, true, Vec, zero, ℕ, ◌∙◌}
 use Rattle.index_rows.proofs.Levels.{IsSpread-append}
 
 -- ---- members

@@ -1,16 +1,7 @@
 -- Distances, level by level.
-use Rattle.std.proofs.Common.{[], ◌++◌, ◌+◌, ◌<◌, ◌↔◌, ◌∙◌, ◌∷◌, ◌≡◌, ◌≤◌, ◌⊎◌, ap, append_assoc, arith, Bool, false, inl, inr, length, List, map, refl, replicate, subst, suc, sym, zero, ℕ}
-use Rattle.std.proofs.lemmas.Bool.{cases_lt}
-use Rattle.std.proofs.lemmas.Cmp.{tied_itself}
-use Rattle.std.proofs.lemmas.List.{length-replicate}
-use Rattle.std.specs.Cmp.{nat_cmp_total}
-use Rattle.std.specs.List.{AllByRecursion, flat_map}
-use Rattle.std.specs.Ordering.{nat_cmp, ordering_then}
-use Rattle.std.specs.declared.cmp.Ordering.{Ordering}
-use Rattle.std.specs.declared.cmp.Ordering.TheVariants.{Less}
-use Rattle.index_rows.proofs.Prelude.{among_mapped, below_cmp, distance_cmp, IsAmong, IsAmong-append_cases, IsAmong-append_left, IsAmong-append_right, IsChain, IsDistance, IsDistances, IsMember, IsMember-none, IsReached, IsSpread, Listed, mapped_from, Named, named_by, names_all, one_distance, reached_least, unset}
+use Rattle.std.proofs.Common.{◌++◌, ◌+◌, ◌<◌, ◌↔◌, ◌∷◌, ◌≡◌, ◌≤◌, ◌⊎◌}
+use Rattle.index_rows.proofs.Prelude.{[], AllByRecursion, among_mapped, ap, append_assoc, arith, below_cmp, Bool, cases_lt, distance_cmp, false, flat_map, inl, inr, IsAmong, IsAmong-append_cases, IsAmong-append_left, IsAmong-append_right, IsChain, IsDistance, IsDistances, IsMember, IsMember-none, IsReached, IsSpread, IsStrictlySortedBy, length, length-replicate, Less, List, Listed, map, mapped_from, Named, named_by, names_all, nat_cmp, nat_cmp_total, one_distance, Ordering, ordering_then, reached_least, refl, replicate, subst, suc, sym, tied_itself, unset, zero, ℕ, ◌∙◌}
 use Rattle.index_rows.proofs.Listing.{IsStrictlySortedBy-none, IsStrictlySortedBy-push}
-use Rattle.std.specs.List.Sorted.{IsStrictlySortedBy}
 
 -- one list of nodes after another
 pub IsSpread-append : (a b c : List Bool) (t u v xs ys : List ℕ) → IsSpread a b t u xs → IsSpread b c u v ys → IsSpread a c t v (xs ++ ys)

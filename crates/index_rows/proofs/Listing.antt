@@ -1,12 +1,6 @@
 -- The members of a set, listed in ascending order.
-use Rattle.std.proofs.Common.{[], ◌++◌, ◌+◌, ◌<◌, ◌↔◌, ◌∷◌, ◌≡◌, arith, inl, inr, List, refl, subst, sym, ℕ}
-use Rattle.std.proofs.lemmas.Bool.{cases_eq}
-use Rattle.std.specs.List.{AllByRecursion}
-use Rattle.std.specs.Ordering.{nat_cmp}
-use Rattle.std.specs.declared.cmp.Ordering.{Ordering}
-use Rattle.std.specs.declared.cmp.Ordering.TheVariants.{Less}
-use Rattle.index_rows.proofs.Prelude.{below_cmp, IsAmong, IsAmong-append_cases, IsAmong-append_left, IsAmong-append_right}
-use Rattle.std.specs.List.Sorted.{IsStrictlySortedBy}
+use Rattle.std.proofs.Common.{◌++◌, ◌+◌, ◌<◌, ◌↔◌, ◌∷◌, ◌≡◌}
+use Rattle.index_rows.proofs.Prelude.{[], AllByRecursion, arith, below_cmp, cases_eq, inl, inr, IsAmong, IsAmong-append_cases, IsAmong-append_left, IsAmong-append_right, IsStrictlySortedBy, Less, List, nat_cmp, Ordering, refl, subst, sym, ℕ}
 
 below_push : {X : Type 0} (R : X → X → Ordering) (y : X) (xs : List X) (x : X) → AllByRecursion (λ z. R y z ≡ Less) xs → R y x ≡ Less → AllByRecursion (λ z. R y z ≡ Less) (xs ++ x ∷ [])
 below_push R y [] x a l = (l, tt)

@@ -1,9 +1,6 @@
 -- Adjacency lists that are transposed, node by node.
-use Rattle.std.proofs.Common.{[], ◌++◌, ◌+◌, ◌<◌, ◌∙◌, ◌∷◌, ◌≡◌, ◌≤◌, ap, arith, inl, inr, length, length-set, List, refl, set, subst, suc, sym, zero, ℕ}
-use Rattle.std.proofs.lemmas.Bool.{cases_eq, cases_lt}
-use Rattle.std.specs.declared.alloc.Global.{Global}
-use Rattle.std.specs.declared.vec.Vec.{Vec}
-use Rattle.index_rows.proofs.Prelude.{AllBelow, AllBelow-adjacency, AreTransposed, AreTransposed-among, IsAmong, IsNoted, neighbors, neighbors-past, times, times-cons_other, times-cons_same, times-push_other, times-push_same}
+use Rattle.std.proofs.Common.{◌++◌, ◌+◌, ◌<◌, ◌∷◌, ◌≡◌, ◌≤◌}
+use Rattle.index_rows.proofs.Prelude.{[], AllBelow, AllBelow-adjacency, ap, AreTransposed, AreTransposed-among, arith, cases_eq, cases_lt, Global, inl, inr, IsAmong, IsNoted, length, length-set, List, neighbors, neighbors-past, refl, set, subst, suc, sym, times, times-cons_other, times-cons_same, times-push_other, times-push_same, Vec, zero, ℕ, ◌∙◌}
 
 neighbors-set_same : (adjacency : List (Vec ℕ Global)) (i : ℕ) (r : Vec ℕ Global) → i < length adjacency → neighbors (set adjacency i r) i ≡ r.items
 neighbors-set_same [] i r lt = absurd (omega arith)

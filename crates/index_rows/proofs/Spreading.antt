@@ -1,6 +1,6 @@
 -- Nodes that are added to a set and noted, one by one.
-use Rattle.std.proofs.Common.{[], ◌++◌, ◌+◌, ◌<◌, ◌∙◌, ◌∷◌, ◌≡◌, arith, Bool, inl, inr, length, length-append, length-set, List, refl, set, subst, sym, true, ℕ}
-use Rattle.index_rows.proofs.Prelude.{IsAmong-append_left, IsAmong-append_right, IsAmong-push_cases, IsMember, IsMember-set, IsMember-set_other, IsMember-set_same, IsSpread, unset-set}
+use Rattle.std.proofs.Common.{◌++◌, ◌+◌, ◌<◌, ◌∷◌, ◌≡◌}
+use Rattle.index_rows.proofs.Prelude.{[], arith, Bool, inl, inr, IsAmong-append_left, IsAmong-append_right, IsAmong-push_cases, IsMember, IsMember-set, IsMember-set_other, IsMember-set_same, IsSpread, length, length-append, length-set, List, refl, set, subst, sym, true, unset-set, ℕ, ◌∙◌}
 
 pub IsSpread-none : (s : List Bool) (t : List ℕ) → IsSpread s s t t []
 IsSpread-none s t = record {

@@ -1,7 +1,6 @@
 -- How far a closure has come.
-use Rattle.std.proofs.Common.{[], ◌++◌, ◌↔◌, ◌∙◌, ◌∷◌, ◌≡◌, ◌⊎◌, Bool, false, inl, inr, length, List, refl, replicate, subst, ℕ}
-use Rattle.std.proofs.lemmas.List.{length-replicate}
-use Rattle.index_rows.proofs.Prelude.{IsAmong, IsAmong-append_left, IsAmong-append_right, IsAmong-push_cases, IsMember, IsMember-none, IsReached, IsSpread, Listed, reached_closed, reached_least}
+use Rattle.std.proofs.Common.{◌++◌, ◌↔◌, ◌∷◌, ◌≡◌, ◌⊎◌}
+use Rattle.index_rows.proofs.Prelude.{[], Bool, false, inl, inr, IsAmong, IsAmong-append_left, IsAmong-append_right, IsAmong-push_cases, IsMember, IsMember-none, IsReached, IsSpread, length, length-replicate, List, Listed, reached_closed, reached_least, refl, replicate, subst, ℕ, ◌∙◌}
 
 -- all members are reached, and each member is either still to be done or all its successors are members
 pub record IsWork (count : ℕ) (leads : ℕ → ℕ → Type 0) (sources : List ℕ) (seen : List Bool) (todo : List ℕ) : Type 0 where

@@ -1,9 +1,7 @@
 -- Nodes as indices from 0: bit sets of nodes, and edges as adjacency lists.
 -- Source: this project's own.
-use Rattle.std.proofs.Common.{[], ◌<◌, ◌==◌, ◌∷◌, ◌≡◌, All, Bool, cond, false, IsTrue, length, List, suc, zero, ℕ}
-use Rattle.std.specs.Prelude.{slice_index_or}
-use Rattle.std.specs.declared.alloc.Global.{Global}
-use Rattle.std.specs.declared.vec.Vec.{Vec}
+use Rattle.std.proofs.Common.{◌<◌, ◌==◌, ◌∷◌, ◌≡◌}
+use Rattle.index_rows.specs.Prelude.{[], All, Bool, cond, false, Global, IsTrue, length, List, slice_index_or, suc, Vec, zero, ℕ}
 
 -- the members of a bit set: nodes past its last bit aren't in it
 abbrev pub IsMember : List Bool → ℕ → Type 0

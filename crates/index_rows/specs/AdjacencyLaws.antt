@@ -1,11 +1,7 @@
 -- Adjacency lists: what they hold, and how they are transposed.
-use Rattle.std.proofs.Common.{[], ◌++◌, ◌+◌, ◌<◌, ◌↔◌, ◌∙◌, ◌∷◌, ◌≡◌, ◌≤◌, ◌⊎◌, All, ap, arith, Bool, cond, eqb, false, get_or, inl, inr, length, List, refl, suc, sym, take, true, zero, ℕ}
-use Rattle.std.proofs.lemmas.Bool.{cases_eq, eq-eqb, ne_eqb}
-use Rattle.std.proofs.lemmas.List.Elements.{Contains-get_or}
-use Rattle.std.specs.declared.alloc.Global.{Global}
-use Rattle.std.specs.declared.vec.Vec.{Vec}
-use Rattle.index_rows.specs.Prelude.{among_from_contains, IsAmong}
-use Rattle.index_rows.specs.{Adjacency.AllBelow, Adjacency.AreTransposed, Adjacency.neighbors, Adjacency.times, ListLaws.All-among}
+use Rattle.std.proofs.Common.{◌++◌, ◌+◌, ◌<◌, ◌↔◌, ◌∷◌, ◌≡◌, ◌≤◌, ◌⊎◌}
+use Rattle.index_rows.specs.Prelude.{[], All, among_from_contains, ap, arith, Bool, cases_eq, cond, Contains-get_or, eq-eqb, eqb, false, get_or, Global, inl, inr, IsAmong, length, List, ne_eqb, refl, suc, sym, take, true, Vec, zero, ℕ, ◌∙◌}
+use Rattle.index_rows.specs.{Adjacency.{AllBelow, AreTransposed, neighbors, times}, ListLaws.{All-among}}
 
 -- the adjacency list that indexing reads
 pub neighbors-at : (adjacency : List (Vec ℕ Global)) (v : ℕ) (r : Vec ℕ Global) → v < length adjacency → r ≡ get_or adjacency v r → neighbors adjacency v ≡ r.items

@@ -1,7 +1,6 @@
 -- Bit sets to which nodes are added one by one.
-use Rattle.std.proofs.Common.{[], ◌+◌, ◌<◌, ◌∷◌, ◌≡◌, ◌⊎◌, ap, arith, Bool, false, get_or, inl, inr, length, List, refl, replicate, set, suc, true, zero, ℕ}
-use Rattle.std.proofs.lemmas.List.{get_or_default}
-use Rattle.index_rows.specs.Adjacency.{IsMember}
+use Rattle.std.proofs.Common.{◌+◌, ◌<◌, ◌∷◌, ◌≡◌, ◌⊎◌}
+use Rattle.index_rows.specs.{Adjacency.{IsMember}, Prelude.{[], ap, arith, Bool, false, get_or, get_or_default, inl, inr, length, List, refl, replicate, set, suc, true, zero, ℕ}}
 
 pub IsMember-within : (bits : List Bool) (v : ℕ) → IsMember bits v → v < length bits
 IsMember-within [] v m = cc

@@ -1,8 +1,7 @@
 -- Indices that follow the order of names: what holds of indices, said of names.
 -- Source: this project's own.
-use Rattle.std.proofs.Common.{◌<◌, ◌≡◌, ℕ}
-use Rattle.std.specs.declared.cmp.Ordering.{Ordering}
-use Rattle.std.specs.declared.cmp.Ordering.TheVariants.{Less}
+use Rattle.std.proofs.Common.{◌<◌, ◌≡◌}
+use Rattle.index_rows.specs.Prelude.{Less, Ordering, ℕ}
 
 module _ {N : Type 0} (count : ℕ) (name : ℕ → N) where
   -- the names of the indices below the count are strictly ascending

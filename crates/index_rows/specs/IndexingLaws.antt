@@ -1,14 +1,7 @@
 -- What is reached, closures and distances are carried from indices to names.
-use Rattle.std.proofs.Common.{[], ◌<◌, ◌↔◌, ◌∙◌, ◌∷◌, ◌≡◌, ◌⊎◌, ap, arith, inl, inr, List, map, refl, subst, suc, sym, zero, ℕ}
-use Rattle.std.proofs.lemmas.Cmp.{ranked, tied_itself}
-use Rattle.std.specs.Cmp.{IsTotalOrder, nat_cmp_is}
-use Rattle.std.specs.List.{AllByRecursion}
-use Rattle.std.specs.Ordering.{nat_cmp}
-use Rattle.std.specs.declared.cmp.Ordering.{Ordering}
-use Rattle.std.specs.declared.cmp.Ordering.TheVariants.{Equal, Greater, Less}
-use Rattle.index_rows.specs.Prelude.{IsAmong, IsChain, IsClosure, IsReached, Listed, turned}
+use Rattle.std.proofs.Common.{◌<◌, ◌↔◌, ◌∷◌, ◌≡◌, ◌⊎◌}
+use Rattle.index_rows.specs.Prelude.{[], AllByRecursion, ap, arith, Equal, Greater, inl, inr, IsAmong, IsChain, IsClosure, IsReached, IsStrictlySortedBy, IsTotalOrder, Less, List, Listed, map, nat_cmp, nat_cmp_is, Ordering, ranked, refl, subst, suc, sym, tied_itself, turned, zero, ℕ, ◌∙◌}
 use Rattle.index_rows.specs.Indexing.{AreNamedSuccessors, AreNames, IsIndexing}
-use Rattle.std.specs.List.Sorted.{IsStrictlySortedBy}
 
 -- the members of a mapped list are the images of the list's members
 pub among_mapped : {M N : Type 0} (f : M → N) (x : M) (xs : List M) → IsAmong x xs → IsAmong (f x) (map f xs)

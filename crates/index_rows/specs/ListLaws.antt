@@ -1,11 +1,6 @@
 -- Lists that grow at their end, and comparisons of numbers.
-use Rattle.std.proofs.Common.{[], ◌++◌, ◌<◌, ◌∷◌, ◌≡◌, ◌⊎◌, All, arith, inl, inr, length, List, refl, sym, ℕ}
-use Rattle.std.proofs.lemmas.Cmp.{ranked}
-use Rattle.std.proofs.lemmas.List.Elements.{All-contains}
-use Rattle.std.specs.Cmp.{nat_cmp_is}
-use Rattle.std.specs.Ordering.{nat_cmp}
-use Rattle.std.specs.declared.cmp.Ordering.TheVariants.{Less}
-use Rattle.index_rows.specs.Prelude.{contains_from_among, IsAmong, IsAmong-append_cases, IsAmong-append_right}
+use Rattle.std.proofs.Common.{◌++◌, ◌<◌, ◌∷◌, ◌≡◌, ◌⊎◌}
+use Rattle.index_rows.specs.Prelude.{[], All, All-contains, arith, contains_from_among, inl, inr, IsAmong, IsAmong-append_cases, IsAmong-append_right, length, Less, List, nat_cmp, nat_cmp_is, ranked, refl, sym, ℕ}
 
 pub IsAmong-push : {X : Type 0} (x : X) (xs : List X) → IsAmong x (xs ++ x ∷ [])
 IsAmong-push x xs = IsAmong-append_right x xs (x ∷ []) (inl refl)

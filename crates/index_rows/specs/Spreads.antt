@@ -1,10 +1,7 @@
 -- What code adds to bit sets and lists. Only private clauses cite these, and the clause of `lesser`.
-use Rattle.std.proofs.Common.{◌+◌, ◌≡◌, ◌⊎◌, Bool, length, List, MatchOption, min, None, Option, Some, ℕ}
-use Rattle.std.specs.Ordering.{nat_cmp}
-use Rattle.std.specs.declared.alloc.Global.{Global}
-use Rattle.std.specs.declared.vec.Vec.{Vec}
-use Rattle.index_rows.specs.Prelude.{IsAmong}
-use Rattle.index_rows.specs.{Adjacency.IsMember, Adjacency.neighbors as neighbors_of, Adjacency.times, BitSetLaws.unset, Least.IsLeast}
+use Rattle.std.proofs.Common.{◌+◌, ◌≡◌, ◌⊎◌}
+use Rattle.index_rows.specs.Prelude.{Bool, Global, IsAmong, length, List, MatchOption, min, nat_cmp, None, Option, Some, Vec, ℕ}
+use Rattle.index_rows.specs.{Adjacency.{IsMember, neighbors as neighbors_of, times}, BitSetLaws.{unset}, Least.{IsLeast}}
 
 -- the nodes of a list were added to the set, and those that weren't in it before were added to the noted ones
 pub record IsSpread (old new : List Bool) (before after nodes : List ℕ) : Type 0 where

@@ -1,16 +1,7 @@
 -- Edges of several kinds: where they lead.
-use Rattle.std.proofs.Common.{[], ◌++◌, ◌<◌, ◌||◌, ◌↔◌, ◌∙◌, ◌∷◌, ◌≡◌, ◌⊎◌, All, ap, append-nil, arith, Bool, cond, eqb, false, filter, inl, inr, length, List, refl, replicate, subst, suc, sym, true, zero, ℕ}
-use Rattle.std.proofs.lemmas.Bool.{cases_eq, cases_lt, eq-eqb, ne_eqb}
-use Rattle.std.proofs.lemmas.List.Concat.{flat_map-append}
-use Rattle.std.proofs.lemmas.List.Elements.{All-append, All-head, All-tail}
-use Rattle.std.specs.List.{AllByRecursion}
-use Rattle.std.specs.Ordering.{nat_cmp}
-use Rattle.std.specs.declared.alloc.Global.{Global}
-use Rattle.std.specs.declared.cmp.Ordering.TheVariants.{Less}
-use Rattle.std.specs.declared.vec.Vec.{Vec}
-use Rattle.index_rows.specs.Prelude.{IsAmong, IsAmong-append_cases, IsAmong-append_left, IsAmong-append_right}
-use Rattle.index_rows.specs.{Adjacency.AreAdjacencyOf, Adjacency.AreTransposed, Adjacency.IsMember, Adjacency.neighbors, Adjacency.times, AdjacencyLaws.All-neighbors, AdjacencyLaws.neighbors-below, AdjacencyLaws.neighbors-past, AdjacencyLaws.times-cons_other, AdjacencyLaws.times-cons_same, AdjacencyLaws.times-in, AdjacencyLaws.times_cases, ListLaws.cmp_below, Successors.AreOpposite, Successors.AreSuccessorsOf, Successors.is_member, Successors.LeadsInside, Successors.stands_in, Successors.successors_from, Successors.successors_inside}
-use Rattle.std.specs.List.Sorted.{IsStrictlySortedBy}
+use Rattle.std.proofs.Common.{◌++◌, ◌<◌, ◌||◌, ◌↔◌, ◌∷◌, ◌≡◌, ◌⊎◌}
+use Rattle.index_rows.specs.Prelude.{[], All, All-append, All-head, All-tail, AllByRecursion, ap, append-nil, arith, Bool, cases_eq, cases_lt, cond, eq-eqb, eqb, false, filter, flat_map-append, Global, inl, inr, IsAmong, IsAmong-append_cases, IsAmong-append_left, IsAmong-append_right, IsStrictlySortedBy, length, Less, List, nat_cmp, ne_eqb, refl, replicate, subst, suc, sym, true, Vec, zero, ℕ, ◌∙◌}
+use Rattle.index_rows.specs.{Adjacency.{AreAdjacencyOf, AreTransposed, IsMember, neighbors, times}, AdjacencyLaws.{All-neighbors, neighbors-below, neighbors-past, times-cons_other, times-cons_same, times-in, times_cases}, ListLaws.{cmp_below}, Successors.{AreOpposite, AreSuccessorsOf, is_member, LeadsInside, stands_in, successors_from, successors_inside}}
 
 -- a node whose adjacency list isn't empty is one of the n nodes
 pub neighbors-start : (n : ℕ) (adjacency : List (Vec ℕ Global)) (u v : ℕ) → AreAdjacencyOf n adjacency → IsAmong v (neighbors adjacency u) → u < n

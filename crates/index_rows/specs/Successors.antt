@@ -1,12 +1,7 @@
 -- Edges of one or more kinds between nodes: each kind has an adjacency list for each node.
 -- Source: this project's own.
-use Rattle.std.proofs.Common.{[], ◌==◌, ◌||◌, ◌∷◌, ◌≡◌, All, Bool, false, filter, List, ℕ}
-use Rattle.std.specs.List.{flat_map}
-use Rattle.std.specs.Prelude.{slice_index_or}
-use Rattle.std.specs.declared.alloc.Global.{Global}
-use Rattle.std.specs.declared.vec.Vec.{Vec}
-use Rattle.index_rows.specs.Prelude.{IsAmong}
-use Rattle.index_rows.specs.Adjacency.{AreAdjacencyOf, IsMember, neighbors}
+use Rattle.std.proofs.Common.{◌==◌, ◌||◌, ◌∷◌, ◌≡◌}
+use Rattle.index_rows.specs.{Adjacency.{AreAdjacencyOf, IsMember, neighbors}, Prelude.{[], All, Bool, false, filter, flat_map, Global, IsAmong, List, slice_index_or, Vec, ℕ}}
 
 -- the nodes to which an edge of some kind leads from this one
 abbrev pub successors_from : List (List (Vec ℕ Global)) → ℕ → List ℕ

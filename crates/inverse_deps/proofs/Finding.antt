@@ -1,11 +1,6 @@
 -- What a search among the names of a load finds.
-use Rattle.std.proofs.Common.{[], ◌<◌, ◌∙◌, ◌≡◌, ap, get_or, IsTrue, length, List, subst, sym, ℕ}
-use Rattle.std.proofs.lemmas.Option.{none-some}
-use Rattle.std.specs.Cmp.Lexicographic.{nat_list_cmp_total}
-use Rattle.std.specs.FinMap.Entries.{find, is_sorted}
-use Rattle.std.specs.Map.{keys_of}
-use Rattle.std.specs.Option.{option_and_then}
-use Rattle.inverse_deps.proofs.Prelude.{at_within, find_at, find_gap, IsAt, IsGap, IsIndexOf, IsUnitIn, key_found, LoadedUnit, LoadMap, Name, name_cmp, name_cmp-IsAntisymmetric, NameLoad, OfAlias, OfUnit, unit_in, unit_part}
+use Rattle.std.proofs.Common.{◌<◌, ◌≡◌}
+use Rattle.inverse_deps.proofs.Prelude.{[], ap, at_within, find, find_at, find_gap, get_or, is_sorted, IsAt, IsGap, IsIndexOf, IsTrue, IsUnitIn, key_found, keys_of, length, List, LoadedUnit, LoadMap, Name, name_cmp, name_cmp-IsAntisymmetric, NameLoad, nat_list_cmp_total, none-some, OfAlias, OfUnit, option_and_then, subst, sym, unit_in, unit_part, ℕ, ◌∙◌}
 
 module _ (load : LoadMap) (es : List (Name × NameLoad)) (same : es ≡ load.names) (name : Name) where
   part_at : (at : ℕ) (p : Name × NameLoad) → IsAt name_cmp name es at → unit_in load name ≡ unit_part (get_or es at p).1

@@ -1,11 +1,6 @@
 -- The edges of each unit, made of its own dependencies and of the reverse of those on it.
-use Rattle.std.proofs.Common.{[], ◌++◌, ◌+◌, ◌<◌, ◌↔◌, ◌∙◌, ◌∷◌, ◌≡◌, ◌⊎◌, All, ap, arith, get_or, get_or-set_other, get_or-set_same, inl, inr, IsTrue, length, length-set, List, map, refl, set, subst, sym, ℕ}
-use Rattle.std.proofs.lemmas.Bool.{cases_eq, cases_lt}
-use Rattle.std.proofs.lemmas.List.{get_or_past}
-use Rattle.std.proofs.lemmas.List.Elements.{All-contains, All-nil, Contains-get_or}
-use Rattle.std.specs.Cmp.Lexicographic.{nat_list_cmp_total}
-use Rattle.std.specs.FinMap.Entries.{is_sorted}
-use Rattle.inverse_deps.proofs.Prelude.{adjacency_named, among_from_contains, among_mapped, AreDependencyAdjacency, AreEdgesFrom, AreIndicesBy, AreLinked, AreLinks, AreLinksOf, AreNames, AreTransposedIn, contains_from_among, count_of, Dependency, DependsOn, DepKind, edges_join_units, HasKind, in_byte_order, inverse, inverse_inverse, IsAmong, IsAmong-append_left, IsAmong-append_right, IsAmong-push, IsAmong-push_cases, IsEdge, IsLinked, IsTransposed, IsUnitIn, load_indexing, LoadMap, mapped_from, Name, name_at, name_cmp, NameLoad, names_along, names_ascend, names_either, names_none, names_stay, OfAlias, same_at, transposed_named, unit_index}
+use Rattle.std.proofs.Common.{◌++◌, ◌+◌, ◌<◌, ◌↔◌, ◌∷◌, ◌≡◌, ◌⊎◌}
+use Rattle.inverse_deps.proofs.Prelude.{[], adjacency_named, All, All-contains, All-nil, among_from_contains, among_mapped, ap, AreDependencyAdjacency, AreEdgesFrom, AreIndicesBy, AreLinked, AreLinks, AreLinksOf, AreNames, AreTransposedIn, arith, cases_eq, cases_lt, Contains-get_or, contains_from_among, count_of, Dependency, DependsOn, DepKind, edges_join_units, get_or, get_or-set_other, get_or-set_same, get_or_past, HasKind, in_byte_order, inl, inr, inverse, inverse_inverse, is_sorted, IsAmong, IsAmong-append_left, IsAmong-append_right, IsAmong-push, IsAmong-push_cases, IsEdge, IsLinked, IsTransposed, IsTrue, IsUnitIn, length, length-set, List, load_indexing, LoadMap, map, mapped_from, Name, name_at, name_cmp, NameLoad, names_along, names_ascend, names_either, names_none, names_stay, nat_list_cmp_total, OfAlias, refl, same_at, set, subst, sym, transposed_named, unit_index, ℕ, ◌∙◌}
 
 -- what holds of each member of a list
 pub all_among : {X : Type 0} (P : X → Type 0) (xs : List X) → ((x : X) → IsAmong x xs → P x) → All P xs

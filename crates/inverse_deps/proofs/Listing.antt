@@ -1,6 +1,6 @@
 -- The indices of the dependencies of a kind, as far as dependencies were read.
-use Rattle.std.proofs.Common.{[], ◌++◌, ◌∙◌, ◌∷◌, ◌≡◌, ◌⊎◌, ap, inl, inr, List, subst, sym, ℕ}
-use Rattle.inverse_deps.proofs.Prelude.{AreIndicesBy, Before, Dependency, DepKind, HasKind, IsAmong, IsAmong-append_left, IsAmong-append_right, IsAmong-push, IsAmong-push_cases}
+use Rattle.std.proofs.Common.{◌++◌, ◌∷◌, ◌≡◌, ◌⊎◌}
+use Rattle.inverse_deps.proofs.Prelude.{[], ap, AreIndicesBy, Before, Dependency, DepKind, HasKind, inl, inr, IsAmong, IsAmong-append_left, IsAmong-append_right, IsAmong-push, IsAmong-push_cases, List, subst, sym, ℕ, ◌∙◌}
 
 -- the default dependency
 abbrev pub no_dependency : Dependency

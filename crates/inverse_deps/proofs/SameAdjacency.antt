@@ -1,13 +1,7 @@
 -- Loads that a test finds alike have the same names and the same dependencies by index.
-use Rattle.std.proofs.Common.{[], ◌++◌, ◌+◌, ◌<◌, ◌∙◌, ◌∷◌, ◌≡◌, ◌⊎◌, ap, arith, Bool, eqb, false, get_or, inl, inr, IsTrue, length, List, not, refl, subst, sym, take, true, ℕ}
-use Rattle.std.proofs.lemmas.Bool.{cases_eq, ne_eqb}
-use Rattle.std.proofs.lemmas.List.{take_more}
-use Rattle.std.specs.Cmp.Lexicographic.{pointwise}
-use Rattle.std.specs.FinMap.Entries.{is_sorted}
-use Rattle.std.specs.Map.{keys_of}
-use Rattle.std.specs.Ordering.{eq_by_cmp}
+use Rattle.std.proofs.Common.{◌++◌, ◌+◌, ◌<◌, ◌∷◌, ◌≡◌, ◌⊎◌}
 use denote.Enum.Bare.{same_true}
-use Rattle.inverse_deps.proofs.Prelude.{AreDependencyAdjacency, Dependency, DepKind, first_true, HaveSameAdjacency, key_at_place, keys_length, LoadMap, Name, name_cmp, name_eq-Decides, NameLoad, same_by, second_true}
+use Rattle.inverse_deps.proofs.Prelude.{[], ap, AreDependencyAdjacency, arith, Bool, cases_eq, Dependency, DepKind, eq_by_cmp, eqb, false, first_true, get_or, HaveSameAdjacency, inl, inr, is_sorted, IsTrue, key_at_place, keys_length, keys_of, length, List, LoadMap, Name, name_cmp, name_eq-Decides, NameLoad, ne_eqb, not, pointwise, refl, same_by, second_true, subst, sym, take, take_more, true, ℕ, ◌∙◌}
 use Rattle.setting_rules.specs.contracts.kinds.DepKind as kinds
 use Rattle.parallel_load.specs.contracts.loaded.DependencyPartialEq.TheImpl as dep_eq
 

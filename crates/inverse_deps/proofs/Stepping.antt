@@ -1,10 +1,6 @@
 -- Adjacency lists of dependencies and of edges.
-use Rattle.std.proofs.Common.{[], ◌<◌, ◌↔◌, ◌∙◌, ◌≡◌, ◌⊎◌, arith, get_or, IsTrue, length, List, subst, sym, ℕ}
-use Rattle.std.specs.Cmp.Lexicographic.{nat_list_cmp_total}
-use Rattle.std.specs.FinMap.Entries.{is_sorted}
-use Rattle.std.specs.declared.alloc.Global.{Global}
-use Rattle.std.specs.declared.vec.Vec.{Vec}
-use Rattle.inverse_deps.proofs.Prelude.{adjacency_named, AreAdjacencyOf, AreDependencyAdjacency, AreIndicesBy, AreNamedSuccessors, AreNames, count_of, Dependency, DependsOn, DepKind, HasKind, inverse, IsAmong, IsEdge, Listed, load_indexing, LoadMap, Name, name_at, name_cmp, Named, names_along, names_either, neighbors, neighbors-below, same_at, transposed_named, unit_index}
+use Rattle.std.proofs.Common.{◌<◌, ◌↔◌, ◌≡◌, ◌⊎◌}
+use Rattle.inverse_deps.proofs.Prelude.{[], adjacency_named, AreAdjacencyOf, AreDependencyAdjacency, AreIndicesBy, AreNamedSuccessors, AreNames, arith, count_of, Dependency, DependsOn, DepKind, get_or, Global, HasKind, inverse, is_sorted, IsAmong, IsEdge, IsTrue, length, List, Listed, load_indexing, LoadMap, Name, name_at, name_cmp, Named, names_along, names_either, nat_list_cmp_total, neighbors, neighbors-below, same_at, subst, sym, transposed_named, unit_index, Vec, ℕ, ◌∙◌}
 
 -- the indices of a list's dependencies are those of what its name depends on
 pub neighbors_named : (load : LoadMap) → IsTrue (is_sorted name_cmp load.names) → (dep : DepKind) (adjacency : List (List Dependency)) → AreDependencyAdjacency load.names adjacency → (index : ℕ) → index < length adjacency

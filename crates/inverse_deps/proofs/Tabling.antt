@@ -1,16 +1,7 @@
 -- Lists of edges, made of adjacency lists.
-use Rattle.std.proofs.Common.{[], ◌<◌, ◌∙◌, ◌∷◌, ◌≡◌, ap, arith, get_or, IsTrue, length, List, map, None, Option, refl, Some, subst, suc, sym, zero, ℕ}
-use Rattle.std.proofs.lemmas.List.{length-map}
-use Rattle.std.proofs.lemmas.Option.{none-some}
-use Rattle.std.specs.Cmp.Lexicographic.{nat_list_cmp_total}
-use Rattle.std.specs.FinMap.Entries.{find, is_sorted}
-use Rattle.std.specs.Map.{keys_of}
-use Rattle.std.specs.Ordering.{nat_cmp}
-use Rattle.std.specs.declared.alloc.Global.{Global}
-use Rattle.std.specs.declared.vec.Vec.{Vec}
+use Rattle.std.proofs.Common.{◌<◌, ◌∷◌, ◌≡◌}
 use denote.Enum.Declared.{tag_of}
-use Rattle.inverse_deps.proofs.Prelude.{adjacency_at, After, AreAdjacencyOf, AreEdges, AreEdgesFrom, AreKept, AreListsFrom, AreMade, AreNames, AreNamingAdjacency, AreNamingTables, AreTables, ascending_named, Before, BindsTo, BoundBy, ConflictedBy, Conflicts, ConsistsOf, count_of, DepKind, EdgeMap, edges_join_units, find_place, IsEdge, keys_length, kinds, list_at, Listed, listed_name, lists_from, load_indexing, LoadMap, members_named, Name, name_at, name_cmp, name_cmp-IsAntisymmetric, names_in, neighbors, OnFailure, OnFailureOf, PartOf, place, place_of_found, PropagatesReloadTo, ReloadPropagatedFrom, RequiredBy, Requires, Requisite, RequisiteOf, unit_index, WantedBy, Wants}
-use Rattle.std.specs.List.Sorted.{IsStrictlySortedBy}
+use Rattle.inverse_deps.proofs.Prelude.{[], adjacency_at, After, ap, AreAdjacencyOf, AreEdges, AreEdgesFrom, AreKept, AreListsFrom, AreMade, AreNames, AreNamingAdjacency, AreNamingTables, AreTables, arith, ascending_named, Before, BindsTo, BoundBy, ConflictedBy, Conflicts, ConsistsOf, count_of, DepKind, EdgeMap, edges_join_units, find, find_place, get_or, Global, is_sorted, IsEdge, IsStrictlySortedBy, IsTrue, keys_length, keys_of, kinds, length, length-map, List, list_at, Listed, listed_name, lists_from, load_indexing, LoadMap, map, members_named, Name, name_at, name_cmp, name_cmp-IsAntisymmetric, names_in, nat_cmp, nat_list_cmp_total, neighbors, None, none-some, OnFailure, OnFailureOf, Option, PartOf, place, place_of_found, PropagatesReloadTo, refl, ReloadPropagatedFrom, RequiredBy, Requires, Requisite, RequisiteOf, Some, subst, suc, sym, unit_index, Vec, WantedBy, Wants, zero, ℕ, ◌∙◌}
 use Rattle.setting_rules.specs.contracts.kinds.DepKind as kinds_of
 
 -- ---- kinds

@@ -1,10 +1,8 @@
 -- Loads with the same names and the same dependencies by index have the same edges.
 -- Source: this project's own.
-use Rattle.std.proofs.Common.{[], ◌<◌, ◌↔◌, ◌∙◌, ◌∷◌, ◌≡◌, ap, arith, get_or, inl, inr, IsTrue, length, List, refl, Some, subst, suc, sym, zero, ℕ}
-use Rattle.std.proofs.lemmas.Option.{none-some}
-use Rattle.inverse_deps.specs.Prelude.{AreDependenciesOf, AreDependencyAdjacency, AreNamedSuccessors, AreNames, Dependency, DepKind, HaveSameAdjacency, inverse, IsListed, lists_in, LoadedUnit, LoadMap, Name, name_cmp, NameLoad, none_there, OfAlias, OfUnit, unit_in, unit_part}
-use Rattle.inverse_deps.specs.{EdgeLaws.edges_go_over, Edges.DependsOn, Edges.HaveSameEdges, Edges.IsEdge, Edges.IsUnitIn, IndexLaws.counts_alike, IndexLaws.named_alike, IndexLaws.unit_at, IndexLaws.unit_index, Indices.count_of, Indices.name_at, Tables.HasKind}
-use Rattle.std.specs.FinMap.Entries.{is_sorted}
+use Rattle.std.{proofs.Common.{◌<◌, ◌↔◌, ◌∷◌, ◌≡◌}, specs.FinMap.Entries.{is_sorted}}
+use Rattle.inverse_deps.specs.Prelude.{[], ap, AreDependenciesOf, AreDependencyAdjacency, AreNamedSuccessors, AreNames, arith, Dependency, DepKind, get_or, HaveSameAdjacency, inl, inr, inverse, IsListed, IsTrue, length, List, lists_in, LoadedUnit, LoadMap, Name, name_cmp, NameLoad, none-some, none_there, OfAlias, OfUnit, refl, Some, subst, suc, sym, unit_in, unit_part, zero, ℕ, ◌∙◌}
+use Rattle.inverse_deps.specs.{EdgeLaws.{edges_go_over}, Edges.{DependsOn, HaveSameEdges, IsEdge, IsUnitIn}, IndexLaws.{counts_alike, named_alike, unit_at, unit_index}, Indices.{count_of, name_at}, Tables.{HasKind}}
 
 -- loads with the same adjacency lists have the same edges
 abbrev pub AdjacencyMakesTheEdges : Type 0

@@ -1,8 +1,7 @@
 -- Which names were asked for adds no edge: a load has the edges that it has for other names.
 -- Source: this project's own.
-use Rattle.std.proofs.Common.{◌↔◌, inl, inr, List, refl}
-use Rattle.inverse_deps.specs.Prelude.{asked_for, DepKind, inverse, LoadMap, Name}
-use Rattle.inverse_deps.specs.{EdgeLaws.edges_go_over, Edges.DependsOn, Edges.HaveSameEdges, Edges.IsEdge}
+use Rattle.std.proofs.Common.{◌↔◌}
+use Rattle.inverse_deps.specs.{EdgeLaws.{edges_go_over}, Edges.{DependsOn, HaveSameEdges, IsEdge}, Prelude.{asked_for, DepKind, inl, inr, inverse, List, LoadMap, Name, refl}}
 
 abbrev pub AskingMakesNoEdges : Type 0
 AskingMakesNoEdges = (load : LoadMap) (extra : List Name) → HaveSameEdges load (asked_for extra load)

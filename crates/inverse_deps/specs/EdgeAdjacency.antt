@@ -1,14 +1,7 @@
 -- Edges by index: names are indexed in byte order from 0.
 -- Source: this project's own.
-use Rattle.std.proofs.Common.{[], ◌<◌, ◌≡◌, length, List, map, ℕ}
-use Rattle.std.specs.List.Sorted.{IsStrictlySortedBy}
-use Rattle.std.specs.Map.{keys_of}
-use Rattle.std.specs.Ordering.{nat_cmp}
-use Rattle.std.specs.Prelude.{slice_index_or}
-use Rattle.std.specs.declared.alloc.Global.{Global}
-use Rattle.std.specs.declared.vec.Vec.{Vec}
-use Rattle.inverse_deps.specs.Prelude.{AreAdjacencyOf, DepKind, kinds, Name, neighbors}
-use Rattle.inverse_deps.specs.Edges.{EdgeMap, names_in, place}
+use Rattle.std.proofs.Common.{◌<◌, ◌≡◌}
+use Rattle.inverse_deps.specs.{Edges.{EdgeMap, names_in, place}, Prelude.{[], AreAdjacencyOf, DepKind, Global, IsStrictlySortedBy, keys_of, kinds, length, List, map, Name, nat_cmp, neighbors, slice_index_or, Vec, ℕ}}
 
 -- the name with this index
 abbrev pub listed_name : EdgeMap → ℕ → Name

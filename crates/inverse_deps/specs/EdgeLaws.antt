@@ -1,9 +1,6 @@
 -- Laws of edges: each edge has its inverse, edges join units, and a load has one list of its edges.
-use Rattle.std.proofs.Common.{[], ◌↔◌, ◌∙◌, ◌∷◌, ◌≡◌, ◌⊎◌, All, ap, inl, inr, List, map, refl, Some, subst, sym}
-use Rattle.std.proofs.lemmas.List.Elements.{All-head, All-tail, All-weaker}
-use Rattle.std.specs.Cmp.Lexicographic.{nat_list_cmp_total}
-use Rattle.std.specs.Map.{keys_of}
-use Rattle.inverse_deps.specs.Prelude.{After, Before, BindsTo, BoundBy, ConflictedBy, Conflicts, ConsistsOf, dependencies_are_loaded, dependencies_are_mains, DependencyList, DepKind, HostViewMap, inverse, IsDependency, IsListed, IsLoad, LoadedUnit, LoadMap, Name, name_cmp, one_ascending_list, OnFailure, OnFailureOf, PartOf, PropagatesReloadTo, ReloadPropagatedFrom, RequiredBy, Requires, Requisite, RequisiteOf, unit_in, WantedBy, Wants}
+use Rattle.std.proofs.Common.{◌↔◌, ◌∷◌, ◌≡◌, ◌⊎◌}
+use Rattle.inverse_deps.specs.Prelude.{[], After, All, All-head, All-tail, All-weaker, ap, Before, BindsTo, BoundBy, ConflictedBy, Conflicts, ConsistsOf, dependencies_are_loaded, dependencies_are_mains, DependencyList, DepKind, HostViewMap, inl, inr, inverse, IsDependency, IsListed, IsLoad, keys_of, List, LoadedUnit, LoadMap, map, Name, name_cmp, nat_list_cmp_total, one_ascending_list, OnFailure, OnFailureOf, PartOf, PropagatesReloadTo, refl, ReloadPropagatedFrom, RequiredBy, Requires, Requisite, RequisiteOf, Some, subst, sym, unit_in, WantedBy, Wants, ◌∙◌}
 use Rattle.inverse_deps.specs.Edges.{AreEdges, AreEdgesFrom, AreEdgesOf, DependsOn, EdgeMap, HaveSameEdges, IsEdge, IsUnitIn, names_in}
 
 -- Each edge has its inverse.

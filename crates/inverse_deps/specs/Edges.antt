@@ -1,11 +1,7 @@
 -- The dependencies between the units of a load, in both directions.
 -- Source: systemd.unit(5), "Mapping of unit properties to their inverses".
-use Rattle.std.proofs.Common.{[], ◌↔◌, ◌≡◌, ◌⊎◌, All, IsTrue, List, map, None, Option, Some, ℕ}
-use Rattle.std.specs.FinMap.{find, is_sorted}
-use Rattle.std.specs.List.Sorted.{IsStrictlySortedBy}
-use Rattle.std.specs.Map.{keys_of}
-use Rattle.std.specs.Prelude.{slice_index_or}
-use Rattle.inverse_deps.specs.Prelude.{After, Before, BindsTo, BoundBy, ConflictedBy, Conflicts, ConsistsOf, DependencyList, DepKind, inverse, IsAmong, IsListed, kinds, LoadedUnit, LoadMap, Name, name_cmp, OnFailure, OnFailureOf, PartOf, PropagatesReloadTo, ReloadPropagatedFrom, RequiredBy, Requires, Requisite, RequisiteOf, unit_in, WantedBy, Wants}
+use Rattle.std.proofs.Common.{◌↔◌, ◌≡◌, ◌⊎◌}
+use Rattle.inverse_deps.specs.Prelude.{[], After, All, Before, BindsTo, BoundBy, ConflictedBy, Conflicts, ConsistsOf, DependencyList, DepKind, find, inverse, is_sorted, IsAmong, IsListed, IsStrictlySortedBy, IsTrue, keys_of, kinds, List, LoadedUnit, LoadMap, map, Name, name_cmp, None, OnFailure, OnFailureOf, Option, PartOf, PropagatesReloadTo, ReloadPropagatedFrom, RequiredBy, Requires, Requisite, RequisiteOf, slice_index_or, Some, unit_in, WantedBy, Wants, ℕ}
 
 -- ---- edges
 

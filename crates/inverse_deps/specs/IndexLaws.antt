@@ -1,12 +1,7 @@
 -- Indices of names: they compare as the names do, each unit has one, and what is loaded for a name is at its index.
-use Rattle.std.proofs.Common.{[], ◌<◌, ◌∙◌, ◌≡◌, ap, get_or, IsTrue, length, List, None, Option, refl, Some, sym, ℕ}
-use Rattle.std.proofs.lemmas.Option.{none-some}
-use Rattle.std.specs.Cmp.Lexicographic.{nat_list_cmp_total}
-use Rattle.std.specs.Map.{keys_of}
-use Rattle.std.specs.Option.{option_and_then}
-use Rattle.inverse_deps.specs.Prelude.{find_place, IsIndexing, keys_ascend, keys_length, load_at, LoadMap, Name, name_cmp, name_cmp-IsAntisymmetric, NameLoad, place_of_found, unit_in, unit_part}
-use Rattle.inverse_deps.specs.{Edges.IsUnitIn, Indices.count_of, Indices.name_at}
-use Rattle.std.specs.FinMap.Entries.{is_sorted}
+use Rattle.std.{proofs.Common.{◌<◌, ◌≡◌}, specs.FinMap.Entries.{is_sorted}}
+use Rattle.inverse_deps.specs.Prelude.{[], ap, find_place, get_or, IsIndexing, IsTrue, keys_ascend, keys_length, keys_of, length, List, load_at, LoadMap, Name, name_cmp, name_cmp-IsAntisymmetric, NameLoad, nat_list_cmp_total, None, none-some, Option, option_and_then, place_of_found, refl, Some, sym, unit_in, unit_part, ℕ, ◌∙◌}
+use Rattle.inverse_deps.specs.{Edges.{IsUnitIn}, Indices.{count_of, name_at}}
 -- laws of positions that those of indices use
 pub use Rattle.parallel_load.specs.KeyLaws.{find_place, key_at_place, keys_length, place_of_found, sorted_by_keys}
 

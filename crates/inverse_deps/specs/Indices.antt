@@ -1,8 +1,7 @@
 -- The names of a load, indexed in byte order from 0.
 -- Source: this project's own.
-use Rattle.std.proofs.Common.{◌<◌, ◌≡◌, length, ℕ}
-use Rattle.inverse_deps.specs.Prelude.{LoadMap, Name, name_of}
-use Rattle.inverse_deps.specs.Edges.{IsUnitIn}
+use Rattle.std.proofs.Common.{◌<◌, ◌≡◌}
+use Rattle.inverse_deps.specs.{Edges.{IsUnitIn}, Prelude.{length, LoadMap, Name, name_of, ℕ}}
 
 -- how many names there are
 abbrev pub count_of : LoadMap → ℕ

@@ -1,9 +1,8 @@
 -- Loads with the same names and the same edges between them have the same links.
 -- Source: this project's own.
-use Rattle.std.proofs.Common.{[], ◌<◌, ◌↔◌, ◌∙◌, ◌≡◌, All, get_or, List, refl, subst, sym, ℕ}
-use Rattle.std.specs.Map.{keys_of}
-use Rattle.inverse_deps.specs.Prelude.{AreNames, asked_for, Dependency, DepKind, HaveSameAdjacency, LoadMap, Name}
-use Rattle.inverse_deps.specs.{AdjacencyLaws.edges_alike, AskedLaws.same_edges, Edges.IsEdge, IndexLaws.counts_alike, IndexLaws.named_alike, Indices.count_of, Indices.name_at, Links.AreLinks, Links.AreLinksOf, Links.HaveSameLinks, Tables.HasKind}
+use Rattle.std.proofs.Common.{◌<◌, ◌↔◌, ◌≡◌}
+use Rattle.inverse_deps.specs.Prelude.{[], All, AreNames, asked_for, Dependency, DepKind, get_or, HaveSameAdjacency, keys_of, List, LoadMap, Name, refl, subst, sym, ℕ, ◌∙◌}
+use Rattle.inverse_deps.specs.{AdjacencyLaws.{edges_alike}, AskedLaws.{same_edges}, Edges.{IsEdge}, IndexLaws.{counts_alike, named_alike}, Indices.{count_of, name_at}, Links.{AreLinks, AreLinksOf, HaveSameLinks}, Tables.{HasKind}}
 
 -- loads with the same adjacency lists have the same links
 abbrev pub AdjacencyMakesTheLinks : Type 0

@@ -1,12 +1,8 @@
 -- The dependencies of each unit and those on it, by index.
 -- Source: this project's own.
-use Rattle.std.proofs.Common.{[], ◌<◌, ◌↔◌, ◌≡◌, ◌⊎◌, All, length, List, map, ℕ}
-use Rattle.std.specs.List.Sorted.{IsStrictlySortedBy}
-use Rattle.std.specs.Prelude.{slice_index_or}
-use Rattle.std.specs.declared.alloc.Global.{Global}
-use Rattle.std.specs.declared.vec.Vec.{Vec}
-use Rattle.inverse_deps.specs.Prelude.{AreNames, Dependency, DepKind, inverse, IsAmong, LoadMap, Name, name_cmp}
-use Rattle.inverse_deps.specs.{Edges.IsEdge, Indices.count_of, Indices.name_at, Tables.HasKind}
+use Rattle.std.proofs.Common.{◌<◌, ◌↔◌, ◌≡◌, ◌⊎◌}
+use Rattle.inverse_deps.specs.Prelude.{[], All, AreNames, Dependency, DepKind, Global, inverse, IsAmong, IsStrictlySortedBy, length, List, LoadMap, map, Name, name_cmp, slice_index_or, Vec, ℕ}
+use Rattle.inverse_deps.specs.{Edges.{IsEdge}, Indices.{count_of, name_at}, Tables.{HasKind}}
 
 -- the rows as lists
 abbrev pub links_in : List (Vec Dependency Global) → List (List Dependency)

@@ -1,10 +1,6 @@
 -- Lists that are built one by one.
-use Rattle.std.proofs.Common.{[], ◌++◌, ◌+◌, ◌<◌, ◌∷◌, ◌≡◌, ◌≤◌, ◌⊎◌, ap, arith, get_or, inl, inr, length, length-append, List, refl, subst, suc, sym, zero, ℕ}
-use Rattle.std.proofs.lemmas.Bool.{cases_eq, cases_lt}
-use Rattle.std.proofs.lemmas.List.{get_or_push}
-use Rattle.std.specs.declared.alloc.Global.{Global}
-use Rattle.std.specs.declared.vec.Vec.{Vec}
-use Rattle.inverse_deps.specs.Prelude.{AllBelow-adjacency, AreAdjacencyOf, IsAmong, neighbors, neighbors-past}
+use Rattle.std.proofs.Common.{◌++◌, ◌+◌, ◌<◌, ◌∷◌, ◌≡◌, ◌≤◌, ◌⊎◌}
+use Rattle.inverse_deps.specs.Prelude.{[], AllBelow-adjacency, ap, AreAdjacencyOf, arith, cases_eq, cases_lt, get_or, get_or_push, Global, inl, inr, IsAmong, length, length-append, List, neighbors, neighbors-past, refl, subst, suc, sym, Vec, zero, ℕ}
 
 -- the first i were built, and each is as it should be
 pub record AreMade {X : Type 0} (P : ℕ → X → Type 0) (i : ℕ) (xs : List X) : Type 0 where

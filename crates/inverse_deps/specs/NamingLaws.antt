@@ -1,8 +1,6 @@
 -- Sets of indices and the sets of their names: unions, other descriptions, and reversed edges.
-use Rattle.std.proofs.Common.{◌++◌, ◌<◌, ◌↔◌, ◌≡◌, ◌⊎◌, inl, inr, List, refl, subst, sym, ℕ}
-use Rattle.std.specs.Cmp.{IsTotalOrder}
-use Rattle.std.specs.declared.cmp.Ordering.{Ordering}
-use Rattle.inverse_deps.specs.Prelude.{AreNamedSuccessors, AreNames, index_of, IsAmong, IsAmong-append_cases, IsAmong-append_left, IsAmong-append_right, IsIndexing, Listed}
+use Rattle.std.proofs.Common.{◌++◌, ◌<◌, ◌↔◌, ◌≡◌, ◌⊎◌}
+use Rattle.inverse_deps.specs.Prelude.{AreNamedSuccessors, AreNames, index_of, inl, inr, IsAmong, IsAmong-append_cases, IsAmong-append_left, IsAmong-append_right, IsIndexing, IsTotalOrder, List, Listed, Ordering, refl, subst, sym, ℕ}
 
 module _ {N : Type 0} (count : ℕ) (name : ℕ → N) where
   -- the same sets, described otherwise

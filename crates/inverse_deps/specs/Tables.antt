@@ -1,14 +1,8 @@
 -- Edges by index, kind by kind: words for private clauses.
 -- Source: this project's own.
-use Rattle.std.proofs.Common.{[], ◌↔◌, ◌≡◌, IsTrue, length, List, map, ℕ}
-use Rattle.std.specs.FinMap.{is_sorted}
-use Rattle.std.specs.List.Sorted.{IsStrictlySortedBy}
-use Rattle.std.specs.Ordering.{nat_cmp}
-use Rattle.std.specs.Prelude.{slice_index_or}
-use Rattle.std.specs.declared.alloc.Global.{Global}
-use Rattle.std.specs.declared.vec.Vec.{Vec}
-use Rattle.inverse_deps.specs.Prelude.{AreAdjacencyOf, AreNamedSuccessors, Dependency, DepKind, IsAmong, kinds, LoadMap, Name, name_cmp, Named, neighbors}
-use Rattle.inverse_deps.specs.{EdgeAdjacency.adjacency_at, EdgeAdjacency.AreAdjacencyByKinds, Edges.AreEdgesFrom, Edges.DependsOn, Edges.EdgeMap, Edges.IsEdge, Edges.place, Indices.count_of, Indices.name_at}
+use Rattle.std.proofs.Common.{◌↔◌, ◌≡◌}
+use Rattle.inverse_deps.specs.Prelude.{[], AreAdjacencyOf, AreNamedSuccessors, Dependency, DepKind, Global, is_sorted, IsAmong, IsStrictlySortedBy, IsTrue, kinds, length, List, LoadMap, map, Name, name_cmp, Named, nat_cmp, neighbors, slice_index_or, Vec, ℕ}
+use Rattle.inverse_deps.specs.{EdgeAdjacency.{adjacency_at, AreAdjacencyByKinds}, Edges.{AreEdgesFrom, DependsOn, EdgeMap, IsEdge, place}, Indices.{count_of, name_at}}
 
 -- adjacency lists of the dependencies of a kind, in a load whose names are in order
 pub record AreNamingAdjacency (load : LoadMap) (dep : DepKind) (adjacency : List (Vec ℕ Global)) : Type 0 where

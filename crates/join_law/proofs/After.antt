@@ -1,12 +1,6 @@
 -- Indices after the pairs that were passed, and a pass that joins copies.
-use Rattle.std.proofs.Common.{[], ◌++◌, ◌<◌, ◌∷◌, ◌≡◌, ap, arith, get_or, IsTrue, length, List, refl, set, suc, zero, ℕ}
-use Rattle.std.proofs.lemmas.Bool.{and_parts}
-use Rattle.std.specs.Cmp.{IsTotalOrder}
-use Rattle.std.specs.FinMap.Entries.{is_sorted}
-use Rattle.std.specs.List.{insert}
-use Rattle.std.specs.declared.cmp.Ordering.{Ordering}
-use Rattle.std.specs.declared.cmp.Ordering.TheVariants.{Less}
-use Rattle.join_law.proofs.Prelude.{AreBelow, below_at, IsAt, IsGap, turned}
+use Rattle.std.proofs.Common.{◌++◌, ◌<◌, ◌∷◌, ◌≡◌}
+use Rattle.join_law.proofs.Prelude.{[], and_parts, ap, AreBelow, arith, below_at, get_or, insert, is_sorted, IsAt, IsGap, IsTotalOrder, IsTrue, length, Less, List, Ordering, refl, set, suc, turned, zero, ℕ}
 
 pub set_after : {A : Type 0} (xs ys : List A) (x : A) → set (xs ++ ys) (length xs) x ≡ xs ++ set ys 0 x
 set_after [] ys x = refl

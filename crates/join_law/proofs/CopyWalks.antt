@@ -1,15 +1,7 @@
 -- A loop that joins copies of pairs, and a loop that compares pairs.
-use Rattle.std.proofs.Common.{[], ◌++◌, ◌+◌, ◌-◌, ◌<◌, ◌∙◌, ◌∷◌, ◌≡◌, ◌≤◌, ap, arith, cond, drop, false, get_or, IsTrue, length, List, None, Option, refl, Result, Some, subst, suc, sym, take, true, zero, ℕ}
-use Rattle.std.proofs.lemmas.Bool.{and_parts}
-use Rattle.std.proofs.lemmas.List.{length-drop, take-append-drop, take_more}
-use Rattle.std.specs.Cmp.{IsTotalOrder, tied_itself}
-use Rattle.std.specs.FinMap.Entries.{below_all, find, find_tied, is_sorted}
-use Rattle.std.specs.Ordering.{eq_by_cmp, is_eq}
-use Rattle.std.specs.Prelude.{IsErr}
-use Rattle.std.specs.declared.cmp.Ordering.{Ordering}
-use Rattle.std.specs.declared.cmp.Ordering.TheVariants.{Equal, Less}
-use Rattle.join_law.proofs.Prelude.{AllHeld, AreCopiesJoined, below_at, is_equal, is_less, IsBetween, IsHeld, IsJoin, IsMap, IsSinglePair, map_chain, map_itself, MapBelow, OptionBelow, turned}
-use Rattle.join_law.proofs.{Ends.below_end, Outcomes.not_ok, Outcomes.on_err, Outcomes.on_err_weaker, Outcomes.on_ok_weaker}
+use Rattle.std.proofs.Common.{◌++◌, ◌+◌, ◌-◌, ◌<◌, ◌∷◌, ◌≡◌, ◌≤◌}
+use Rattle.join_law.proofs.Prelude.{[], AllHeld, and_parts, ap, AreCopiesJoined, arith, below_all, below_at, cond, drop, eq_by_cmp, Equal, false, find, find_tied, get_or, is_eq, is_equal, is_less, is_sorted, IsBetween, IsErr, IsHeld, IsJoin, IsMap, IsSinglePair, IsTotalOrder, IsTrue, length, length-drop, Less, List, map_chain, map_itself, MapBelow, None, Option, OptionBelow, Ordering, refl, Result, Some, subst, suc, sym, take, take-append-drop, take_more, tied_itself, true, turned, zero, ℕ, ◌∙◌}
+use Rattle.join_law.proofs.{Ends.{below_end}, Outcomes.{not_ok, on_err, on_err_weaker, on_ok_weaker}}
 
 -- Equality of lists.
 

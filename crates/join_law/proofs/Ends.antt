@@ -1,14 +1,6 @@
 -- A map without its last pair, and a loop that joins pairs from the end.
-use Rattle.std.proofs.Common.{[], ◌&&◌, ◌++◌, ◌↔◌, ◌∙◌, ◌∷◌, ◌≡◌, ◌⊎◌, ap, append-nil, Bool, cond, false, inl, inr, IsTrue, List, None, Option, refl, Some, subst, sym, true}
-use Rattle.std.proofs.lemmas.Bool.{and_parts}
-use Rattle.std.specs.Cmp.{IsTotalOrder, tied_itself}
-use Rattle.std.specs.FinMap.Entries.{below_all, find, find-append, find_tied, is_sorted}
-use Rattle.std.specs.Option.{option_to_list}
-use Rattle.std.specs.Ordering.{eq_by_cmp, is_eq, is_lt, ordering_reverse}
-use Rattle.std.specs.Prelude.{IfSome}
-use Rattle.std.specs.declared.cmp.Ordering.{Ordering}
-use Rattle.std.specs.declared.cmp.Ordering.TheVariants.{Greater, Less}
-use Rattle.join_law.proofs.Prelude.{AllHeld, is_equal, is_less, IsHeld, IsJoin, IsLeast, IsMap, IsPartialJoin, IsSinglePair, map_chain, map_itself, MapBelow, OptionBelow}
+use Rattle.std.proofs.Common.{◌&&◌, ◌++◌, ◌↔◌, ◌∷◌, ◌≡◌, ◌⊎◌}
+use Rattle.join_law.proofs.Prelude.{[], AllHeld, and_parts, ap, append-nil, below_all, Bool, cond, eq_by_cmp, false, find, find-append, find_tied, Greater, IfSome, inl, inr, is_eq, is_equal, is_less, is_lt, is_sorted, IsHeld, IsJoin, IsLeast, IsMap, IsPartialJoin, IsSinglePair, IsTotalOrder, IsTrue, Less, List, map_chain, map_itself, MapBelow, None, Option, option_to_list, OptionBelow, Ordering, ordering_reverse, refl, Some, subst, sym, tied_itself, true, ◌∙◌}
 
 both : (a b : Bool) → IsTrue a → IsTrue b → IsTrue (a && b)
 both true b p q = q

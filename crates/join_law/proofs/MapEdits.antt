@@ -1,11 +1,6 @@
 -- The map after an edit of one pair.
-use Rattle.std.proofs.Common.{[], ◌↔◌, ◌∙◌, ◌∷◌, ◌≡◌, ap, Bool, cond, get_or, IsTrue, List, None, Option, refl, set, Some, subst, suc, sym, zero, ℕ}
-use Rattle.std.specs.Cmp.{IsTotalOrder, tied_itself}
-use Rattle.std.specs.FinMap.Entries.{find, put}
-use Rattle.std.specs.List.{insert}
-use Rattle.std.specs.Ordering.{is_eq}
-use Rattle.std.specs.declared.cmp.Ordering.{Ordering}
-use Rattle.join_law.proofs.Prelude.{AllHeld, below_at_key, between_at_key, bounds_at_key, entry_least, entry_not_least, find_at, find_gap, insert_is_put, is_map-put, IsAt, IsBetween, IsGap, IsJoin, IsLeast, IsMap, IsPartialJoin, join_at_key, map_itself, MapBelow, option_bounds, option_join, option_new, OptionBelow, OptionBounds, OptionJoin, set_is_put}
+use Rattle.std.proofs.Common.{◌↔◌, ◌∷◌, ◌≡◌}
+use Rattle.join_law.proofs.Prelude.{[], AllHeld, ap, below_at_key, between_at_key, Bool, bounds_at_key, cond, entry_least, entry_not_least, find, find_at, find_gap, get_or, insert, insert_is_put, is_eq, is_map-put, IsAt, IsBetween, IsGap, IsJoin, IsLeast, IsMap, IsPartialJoin, IsTotalOrder, IsTrue, join_at_key, List, map_itself, MapBelow, None, Option, option_bounds, option_join, option_new, OptionBelow, OptionBounds, OptionJoin, Ordering, put, refl, set, set_is_put, Some, subst, suc, sym, tied_itself, zero, ℕ, ◌∙◌}
 
 at_itself : {K V : Type 0} (R : K → K → Ordering) (o : IsTotalOrder R) (below : V → V → Type 0) (k : K) (v : V) (es : List (K × V)) → MapBelow R below ((k, v) ∷ []) es → OptionBelow below (Some v) (find R k es)
 at_itself R o below k v es h = subst (λ r. OptionBelow below (cond (is_eq r) (Some v) None) (find R k es)) (tied_itself o k) (h.at k)

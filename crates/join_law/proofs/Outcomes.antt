@@ -1,7 +1,5 @@
 -- Facts that hold whatever a call returns.
-use Rattle.std.proofs.Common.{Bool, Err, false, IfOk, Ok, OnErr, OnOk, Result, true}
-use Rattle.std.specs.Bool.{OnFalse, OnTrue}
-use Rattle.std.specs.Prelude.{IsErr}
+use Rattle.join_law.proofs.Prelude.{Bool, Err, false, IfOk, IsErr, Ok, OnErr, OnFalse, OnOk, OnTrue, Result, true}
 
 pub on_err : {T E P : Type 0} (r : Result T E) → P → OnErr r P
 on_err (Ok t) p = tt

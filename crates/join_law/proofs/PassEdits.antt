@@ -1,9 +1,7 @@
 -- The effect of one pair's edit on a map that a pass holds in two parts: the pairs already passed, and those still
 -- ahead.
-use Rattle.std.proofs.Common.{[], ◌++◌, ◌∙◌, ◌∷◌, ◌≡◌, get_or, length, List, set, subst, sym}
-use Rattle.std.specs.Cmp.{IsTotalOrder}
-use Rattle.std.specs.declared.cmp.Ordering.{Ordering}
-use Rattle.join_law.proofs.Prelude.{AreBelow, IsAt, IsBetween, IsGap, IsJoin, IsLeast, IsMap, IsPartialJoin, MapBelow}
+use Rattle.std.proofs.Common.{◌++◌, ◌∷◌, ◌≡◌}
+use Rattle.join_law.proofs.Prelude.{[], AreBelow, get_or, IsAt, IsBetween, IsGap, IsJoin, IsLeast, IsMap, IsPartialJoin, IsTotalOrder, length, List, MapBelow, Ordering, set, subst, sym, ◌∙◌}
 use Rattle.join_law.proofs.After.{at_after, gap_after, get_after, insert_after, set_after}
 use Rattle.join_law.proofs.MapEdits as whole
 

@@ -1,11 +1,6 @@
 -- A map without its first pair, and a loop that joins pairs from the start.
-use Rattle.std.proofs.Common.{[], ◌<◌, ◌↔◌, ◌∙◌, ◌∷◌, ◌≡◌, ap, arith, Bool, cond, false, inl, inr, IsTrue, length, List, None, Option, refl, Some, subst, sym, true}
-use Rattle.std.proofs.lemmas.Bool.{and_parts}
-use Rattle.std.specs.Cmp.{IsTotalOrder, tied_itself}
-use Rattle.std.specs.FinMap.Entries.{below_all, find, find_tied}
-use Rattle.std.specs.Ordering.{eq_by_cmp, is_eq}
-use Rattle.std.specs.declared.cmp.Ordering.{Ordering}
-use Rattle.join_law.proofs.Prelude.{is_equal, is_less, IsHeld, IsJoin, IsLeast, IsMap, IsPartialJoin, IsSinglePair, map_chain, map_itself, MapBelow, OptionBelow}
+use Rattle.std.proofs.Common.{◌<◌, ◌↔◌, ◌∷◌, ◌≡◌}
+use Rattle.join_law.proofs.Prelude.{[], and_parts, ap, arith, below_all, Bool, cond, eq_by_cmp, false, find, find_tied, inl, inr, is_eq, is_equal, is_less, IsHeld, IsJoin, IsLeast, IsMap, IsPartialJoin, IsSinglePair, IsTotalOrder, IsTrue, length, List, map_chain, map_itself, MapBelow, None, Option, OptionBelow, Ordering, refl, Some, subst, sym, tied_itself, true, ◌∙◌}
 use Rattle.join_law.proofs.Ends.{IsUnderWay, stopped_bounds}
 
 module _ {K V : Type 0} (R : K → K → Ordering) (o : IsTotalOrder R) (below : V → V → Type 0) where

@@ -1,10 +1,7 @@
 -- The order of entries is total, and the greater of two entries is their least upper bound.
-use Rattle.std.proofs.Common.{◌≡◌, ◌⊎◌, ap, cond, false, inl, inr, None, Option, refl, Some, true}
-use Rattle.std.specs.Cmp.{IsTotalOrder, on_total, then_total, tied_itself, upto}
-use Rattle.std.specs.Ordering.{is_gt, ordering_reverse}
-use Rattle.std.specs.declared.cmp.Ordering.{Ordering}
-use Rattle.std.specs.declared.cmp.Ordering.TheVariants.{Equal, Greater, Less}
-use Rattle.join_law.specs.{declared.versions.Entry.Entry, VersionOrder.entry_cmp, VersionOrder.IsBelow, VersionOrder.larger, VersionOrder.version_cmp, VersionOrderLaws.both_exact, VersionOrderLaws.version_cmp-IsAntisymmetric, VersionOrderLaws.version_cmp_total}
+use Rattle.std.proofs.Common.{◌≡◌, ◌⊎◌}
+use Rattle.join_law.specs.Prelude.{ap, cond, Equal, false, Greater, inl, inr, is_gt, IsTotalOrder, Less, None, on_total, Option, Ordering, ordering_reverse, refl, Some, then_total, tied_itself, true, upto}
+use Rattle.join_law.specs.{declared.versions.Entry.{Entry}, VersionOrder.{entry_cmp, IsBelow, larger, version_cmp}, VersionOrderLaws.{both_exact, version_cmp-IsAntisymmetric, version_cmp_total}}
 
 -- if neither of two compares as greater than the other, they tie
 tie : (a b : Ordering) → a ≡ ordering_reverse b → is_gt a ≡ false → is_gt b ≡ false → a ≡ Equal

@@ -1,10 +1,7 @@
 -- Maps of entries: which entry is at a key of a join, and of a value between a map and a join.
-use Rattle.std.proofs.Common.{◌↔◌, ◌≡◌, List, None, Option, Some}
-use Rattle.std.specs.Cmp.{IsTotalOrder}
-use Rattle.std.specs.FinMap.Entries.{find}
-use Rattle.std.specs.declared.cmp.Ordering.{Ordering}
-use Rattle.std.specs.declared.cmp.Ordering.TheVariants.{Equal}
-use Rattle.join_law.specs.{declared.versions.Entry.Entry, declared.versions.Versioned.TheVariants.At, declared.versions.Versioned.TheVariants.Never, declared.versions.Versioned.Versioned, EntryLaws.below_antisym, EntryLaws.below_refl, EntryLaws.larger-least, EntryLaws.larger-left, EntryLaws.larger-right, LevelLaws.between_at, LevelLaws.bounds_at, LevelLaws.join_at, LevelLaws.upper_of, MapLaws.map_itself, MapLaws.OptionBounds, MapLaws.OptionJoin, Maps.map_union, Maps.MapBelow, Maps.OptionBelow, Order.IsBetween, Order.IsJoin, UnionLaws.union_joins, VersionedLaws.max_joins, VersionedLaws.up_to_chain, VersionedLaws.up_to_itself, VersionOrder.IsBelow, VersionOrder.IsUpTo, VersionOrder.larger, VersionOrder.versioned_max, VersionOrder.written_at}
+use Rattle.std.proofs.Common.{◌↔◌, ◌≡◌}
+use Rattle.join_law.specs.Prelude.{Equal, find, IsTotalOrder, List, None, Option, Ordering, Some}
+use Rattle.join_law.specs.{declared.versions.{Entry.{Entry}, Versioned.{TheVariants.{At, Never}, Versioned}}, EntryLaws.{below_antisym, below_refl, larger-least, larger-left, larger-right}, LevelLaws.{between_at, bounds_at, join_at, upper_of}, MapLaws.{map_itself, OptionBounds, OptionJoin}, Maps.{map_union, MapBelow, OptionBelow}, Order.{IsBetween, IsJoin}, UnionLaws.{union_joins}, VersionedLaws.{max_joins, up_to_chain, up_to_itself}, VersionOrder.{IsBelow, IsUpTo, larger, versioned_max, written_at}}
 
 module _ {C : Type 0} (S : C → C → Ordering) where
   -- an optional entry as a `Versioned`

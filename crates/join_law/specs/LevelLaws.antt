@@ -1,12 +1,7 @@
 -- Two maps are joined by joining their values at each key, at every depth of maps of maps.
-use Rattle.std.proofs.Common.{[], ◌↔◌, ◌∙◌, ◌≡◌, ap, Bool, cond, false, List, None, not, Option, refl, Some, subst, sym, true}
-use Rattle.std.specs.Cmp.{alike_right, eq_by_cmp_equiv, IsTotalOrder, tied_itself}
-use Rattle.std.specs.FinMap.Entries.{find, find-put, find-where_key, find_tied, where_key}
-use Rattle.std.specs.Ordering.{eq_by_cmp, is_eq}
-use Rattle.std.specs.declared.cmp.Ordering.{Ordering}
-use Rattle.join_law.specs.Prelude.{is_equal}
-use Rattle.join_law.specs.{MapLaws.map_chain, MapLaws.map_itself, MapLaws.option_chain, MapLaws.OptionBounds, MapLaws.OptionJoin, Maps.is_none_or, Maps.map_union, Maps.MapBelow, Maps.OptionBelow, Maps.or_empty, Order.IsBetween, Order.IsJoin, UnionLaws.union_joins}
-use Rattle.std.specs.FinMap.Entries.{put}
+use Rattle.std.{proofs.Common.{◌↔◌, ◌≡◌}, specs.FinMap.Entries.{put}}
+use Rattle.join_law.specs.Prelude.{[], alike_right, ap, Bool, cond, eq_by_cmp, eq_by_cmp_equiv, false, find, find-put, find-where_key, find_tied, is_eq, is_equal, IsTotalOrder, List, None, not, Option, Ordering, refl, Some, subst, sym, tied_itself, true, where_key, ◌∙◌}
+use Rattle.join_law.specs.{MapLaws.{map_chain, map_itself, option_chain, OptionBounds, OptionJoin}, Maps.{is_none_or, map_union, MapBelow, OptionBelow, or_empty}, Order.{IsBetween, IsJoin}, UnionLaws.{union_joins}}
 
 -- a test of the value at a key, if the map itself may be absent
 pub is_none_or-within : {K V : Type 0} (R : K → K → Ordering) (k : K) (test : V → Bool) (m : Option (List (K × V))) → is_none_or (λ n. is_none_or test (find R k n)) m ≡ is_none_or test (find R k (or_empty m))

@@ -1,14 +1,7 @@
 -- The order of maps, and how an edit at one key changes a map.
-use Rattle.std.proofs.Common.{[], ◌↔◌, ◌∷◌, ◌≡◌, cond, false, List, None, Option, refl, Some, subst, sym, true}
-use Rattle.std.specs.Cmp.{IsTotalOrder, tied_itself}
-use Rattle.std.specs.FinMap.{put}
-use Rattle.std.specs.FinMap.Entries.{by_order, find-put, find_tied, is_sorted-put}
-use Rattle.std.specs.Ordering.{eq_by_cmp, is_eq}
-use Rattle.std.specs.declared.cmp.Ordering.{Ordering}
-use Rattle.std.specs.declared.cmp.Ordering.TheVariants.{Equal, Greater, Less}
-use Rattle.join_law.specs.Prelude.{from_T, is_equal, to_T}
-use Rattle.join_law.specs.{Maps.AllHeld, Maps.IsHeld, Maps.IsMap, Maps.MapBelow, Maps.OptionBelow, Order.IsJoin, Order.IsLeast}
-use Rattle.std.specs.FinMap.{find}
+use Rattle.std.{proofs.Common.{◌↔◌, ◌∷◌, ◌≡◌}, specs.FinMap.{find}}
+use Rattle.join_law.specs.Prelude.{[], by_order, cond, eq_by_cmp, Equal, false, find-put, find_tied, from_T, Greater, is_eq, is_equal, is_sorted-put, IsTotalOrder, Less, List, None, Option, Ordering, put, refl, Some, subst, sym, tied_itself, to_T, true}
+use Rattle.join_law.specs.{Maps.{AllHeld, IsHeld, IsMap, MapBelow, OptionBelow}, Order.{IsJoin, IsLeast}}
 
 module _ {V : Type 0} (below : V → V → Type 0) (itself : (x : V) → below x x) (chain : (x y z : V) → below x y → below y z → below x z) where
   pub option_itself : (x : Option V) → OptionBelow below x x

@@ -1,13 +1,7 @@
 -- Maps that are below each other are equal, and the bottom map is the empty map.
-use Rattle.std.proofs.Common.{[], ◌==◌, ◌↔◌, ◌∙◌, ◌∷◌, ◌≡◌, ap, arith, Bool, cond, eq-eqb, eqb-true, false, IsTrue, length, List, None, Option, refl, Some, subst, sym, true, ℕ}
-use Rattle.std.proofs.lemmas.Bool.{and_parts}
-use Rattle.std.specs.Cmp.{alike_right, IsTotalOrder, tied_back, tied_itself}
-use Rattle.std.specs.FinMap.Entries.{below_all, find}
-use Rattle.std.specs.Ordering.{eq_by_cmp, is_eq, ordering_reverse}
-use Rattle.std.specs.declared.cmp.Ordering.{Ordering}
-use Rattle.std.specs.declared.cmp.Ordering.TheVariants.{Equal, Greater, Less}
-use Rattle.join_law.specs.Prelude.{find_before, is_equal, is_less}
-use Rattle.join_law.specs.{Maps.IsMap, Maps.MapBelow, Maps.OptionBelow, Order.IsBelowBoth, Order.IsLeast}
+use Rattle.std.proofs.Common.{◌==◌, ◌↔◌, ◌∷◌, ◌≡◌}
+use Rattle.join_law.specs.Prelude.{[], alike_right, and_parts, ap, arith, below_all, Bool, cond, eq-eqb, eq_by_cmp, eqb-true, Equal, false, find, find_before, Greater, is_eq, is_equal, is_less, IsTotalOrder, IsTrue, length, Less, List, None, Option, Ordering, ordering_reverse, refl, Some, subst, sym, tied_back, tied_itself, true, ℕ, ◌∙◌}
+use Rattle.join_law.specs.{Maps.{IsMap, MapBelow, OptionBelow}, Order.{IsBelowBoth, IsLeast}}
 
 module _ {K V : Type 0} (R : K → K → Ordering) (below : V → V → Type 0) (o : IsTotalOrder R) (valid : V → Type 0) where
   find_head : (e : K × V) (es : List (K × V)) → find R e.0 (e ∷ es) ≡ Some e.1

@@ -1,9 +1,6 @@
 -- Maps as lists of pairs sorted by key, compared key by key.
-use Rattle.std.proofs.Common.{[], ◌∷◌, Bool, false, IsTrue, List, None, Option, Some, true}
-use Rattle.std.specs.FinMap.{is_sorted, put}
-use Rattle.std.specs.declared.cmp.Ordering.{Ordering}
-use Rattle.join_law.specs.Order.{IsLeast}
-use Rattle.std.specs.FinMap.{find}
+use Rattle.std.{proofs.Common.{◌∷◌}, specs.FinMap.{find}}
+use Rattle.join_law.specs.{Order.{IsLeast}, Prelude.{[], Bool, false, is_sorted, IsTrue, List, None, Option, Ordering, put, Some, true}}
 
 module _ {V : Type 0} (below : V → V → Type 0) where
   -- an absent value is below every value; only a bottom value is below an absent one

@@ -1,9 +1,7 @@
 -- The result of joining many pairs, after success and after failure.
 -- Source: this project's own.
-use Rattle.std.proofs.Common.{◌≡◌, Bool, List, OnErr, OnOk, Result}
-use Rattle.std.specs.Bool.{OnFalse, OnTrue}
-use Rattle.std.specs.declared.cmp.Ordering.{Ordering}
-use Rattle.join_law.specs.{Maps.IsMap, Maps.IsSinglePair, Maps.MapBelow, Order.IsBetween, Order.IsJoin, Order.IsPartialJoin}
+use Rattle.std.proofs.Common.{◌≡◌}
+use Rattle.join_law.specs.{Maps.{IsMap, IsSinglePair, MapBelow}, Order.{IsBetween, IsJoin, IsPartialJoin}, Prelude.{Bool, List, OnErr, OnFalse, OnOk, OnTrue, Ordering, Result}}
 
 module _ {K V : Type 0} (R : K → K → Ordering) (below : V → V → Type 0) (valid is_single : V → Type 0) where
   -- Copies are joined: all of them, or else the new state lies between; if a single pair failed, nothing changed.

@@ -1,11 +1,7 @@
 -- The join of two maps as a function: it is their least upper bound, and the join of two valid maps is valid.
-use Rattle.std.proofs.Common.{[], ◌∙◌, ◌∷◌, ◌≡◌, ap, cond, false, List, None, Option, refl, Some, subst, sym, true}
-use Rattle.std.specs.Cmp.{IsTotalOrder}
-use Rattle.std.specs.FinMap.Entries.{find, find-put, find_tied}
-use Rattle.std.specs.Ordering.{eq_by_cmp}
-use Rattle.std.specs.declared.cmp.Ordering.{Ordering}
-use Rattle.join_law.specs.Prelude.{is_equal}
-use Rattle.join_law.specs.{MapLaws.is_map-put, MapLaws.map_join, MapLaws.option_join, MapLaws.option_new, MapLaws.option_same, MapLaws.OptionJoin, Maps.AllHeld, Maps.IsHeld, Maps.IsMap, Maps.joined_value, Maps.map_union, Maps.MapBelow, Order.IsJoin}
+use Rattle.std.proofs.Common.{◌∷◌, ◌≡◌}
+use Rattle.join_law.specs.Prelude.{[], ap, cond, eq_by_cmp, false, find, find-put, find_tied, is_equal, IsTotalOrder, List, None, Option, Ordering, refl, Some, subst, sym, true, ◌∙◌}
+use Rattle.join_law.specs.{MapLaws.{is_map-put, map_join, option_join, option_new, option_same, OptionJoin}, Maps.{AllHeld, IsHeld, IsMap, joined_value, map_union, MapBelow}, Order.{IsJoin}}
 
 -- the join of two optional values
 abbrev pub option_union : {V : Type 0} → (V → V → V) → Option V → Option V → Option V

@@ -1,11 +1,9 @@
 -- The order of versions, entries and optional entries: by counter, then writer, then content.
 -- Source (last writer wins by timestamps): Shapiro, Preguica, Baquero, Zawirski 2011; breaking ties by content is this
 -- project's own.
-use Rattle.std.proofs.Common.{◌≡◌, Bool, false, if◌then◌else◌, None, not, Option, Some}
-use Rattle.std.specs.Ordering.{is_eq, is_gt, nat_cmp, ordering_then}
-use Rattle.std.specs.declared.cmp.Ordering.{Ordering}
-use Rattle.std.specs.declared.cmp.Ordering.TheVariants.{Equal, Greater, Less}
-use Rattle.join_law.specs.{declared.versions.Entry.Entry, declared.versions.Version.Version, declared.versions.Versioned.TheVariants.At, declared.versions.Versioned.TheVariants.Never, declared.versions.Versioned.Versioned}
+use Rattle.std.proofs.Common.{if◌then◌else◌, ◌≡◌}
+use Rattle.join_law.specs.Prelude.{Bool, Equal, false, Greater, is_eq, is_gt, Less, nat_cmp, None, not, Option, Ordering, ordering_then, Some}
+use Rattle.join_law.specs.declared.versions.{Entry.{Entry}, Version.{Version}, Versioned.{TheVariants.{At, Never}, Versioned}}
 
 -- by counter, then by writer
 abbrev pub version_cmp : Version → Version → Ordering

@@ -1,11 +1,7 @@
 -- The order of versions is total, and only equal versions tie.
-use Rattle.std.proofs.Common.{◌≡◌, refl}
-use Rattle.std.specs.Cmp.{IsTotalOrder, nat_cmp_total, on_total, then_total}
-use Rattle.std.specs.FinMap.{nat_cmp-IsAntisymmetric}
-use Rattle.std.specs.Ordering.{nat_cmp, ordering_then}
-use Rattle.std.specs.declared.cmp.Ordering.{Ordering}
-use Rattle.std.specs.declared.cmp.Ordering.TheVariants.{Equal, Greater, Less}
-use Rattle.join_law.specs.{declared.versions.Version.Version, VersionOrder.version_cmp}
+use Rattle.std.proofs.Common.{◌≡◌}
+use Rattle.join_law.specs.Prelude.{Equal, Greater, IsTotalOrder, Less, nat_cmp, nat_cmp-IsAntisymmetric, nat_cmp_total, on_total, Ordering, ordering_then, refl, then_total}
+use Rattle.join_law.specs.{declared.versions.Version.{Version}, VersionOrder.{version_cmp}}
 
 pub version_cmp_total : IsTotalOrder version_cmp
 version_cmp_total = then_total (on_total (λ v. v.counter) nat_cmp_total) (on_total (λ v. v.writer) nat_cmp_total)

@@ -1,10 +1,7 @@
 -- `Versioned` values are ordered like optional entries, and the greater of two is their least upper bound.
-use Rattle.std.proofs.Common.{◌≡◌, ap, cond, false, refl, Some, subst, sym, true}
-use Rattle.std.specs.Cmp.{IsTotalOrder}
-use Rattle.std.specs.Ordering.{is_gt}
-use Rattle.std.specs.declared.cmp.Ordering.{Ordering}
-use Rattle.std.specs.declared.cmp.Ordering.TheVariants.{Equal}
-use Rattle.join_law.specs.{declared.versions.Entry.Entry, declared.versions.Versioned.TheVariants.At, declared.versions.Versioned.TheVariants.Never, declared.versions.Versioned.Versioned, EntryLaws.below_antisym, EntryLaws.below_refl, EntryLaws.below_trans, EntryLaws.entry_cmp-IsAntisymmetric, EntryLaws.larger-least, EntryLaws.larger-left, EntryLaws.larger-right, Order.IsJoin, Order.IsLeast, VersionOrder.entry_cmp, VersionOrder.IsBelow, VersionOrder.IsUpTo, VersionOrder.larger, VersionOrder.versioned_cmp, VersionOrder.versioned_max, VersionOrder.written}
+use Rattle.std.proofs.Common.{◌≡◌}
+use Rattle.join_law.specs.Prelude.{ap, cond, Equal, false, is_gt, IsTotalOrder, Ordering, refl, Some, subst, sym, true}
+use Rattle.join_law.specs.{declared.versions.{Entry.{Entry}, Versioned.{TheVariants.{At, Never}, Versioned}}, EntryLaws.{below_antisym, below_refl, below_trans, entry_cmp-IsAntisymmetric, larger-least, larger-left, larger-right}, Order.{IsJoin, IsLeast}, VersionOrder.{entry_cmp, IsBelow, IsUpTo, larger, versioned_cmp, versioned_max, written}}
 
 -- an entry isn't bottom
 pub not_least : {C : Type 0} (R : C → C → Ordering) (x : Entry C) → ¬ IsLeast (IsUpTo R) (At x)

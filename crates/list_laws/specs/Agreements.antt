@@ -1,11 +1,7 @@
 -- Two functions that agree at one key and at every other key agree everywhere.
 -- Source: this project's own.
-use Rattle.std.proofs.Common.{◌∙◌, ◌≡◌, ◌≢◌, ap, refl, sym}
-use Rattle.std.proofs.lemmas.Cmp.{tied_itself}
-use Rattle.std.specs.Cmp.{IsTotalOrder}
-use Rattle.std.specs.FinMap.{IsAntisymmetric}
-use Rattle.std.specs.declared.cmp.Ordering.{Ordering}
-use Rattle.std.specs.declared.cmp.Ordering.TheVariants.{Equal, Greater, Less}
+use Rattle.std.proofs.Common.{◌≡◌, ◌≢◌}
+use Rattle.list_laws.specs.Prelude.{ap, Equal, Greater, IsAntisymmetric, IsTotalOrder, Less, Ordering, refl, sym, tied_itself, ◌∙◌}
 
 -- a comparison decides whether a key is the given one
 pub agree_everywhere : {K B : Type 0} (cmp : K → K → Ordering) (total : IsTotalOrder cmp) (antisymmetric : IsAntisymmetric cmp) (f g : K → B) (k : K) → f k ≡ g k → ((q : K) → q ≢ k → f q ≡ g q) → (q : K) → f q ≡ g q

@@ -1,15 +1,7 @@
 -- Two lists in strictly ascending order that have the same members are equal.
 -- Source: this project's own.
-use Rattle.std.proofs.Common.{[], ◌↔◌, ◌∙◌, ◌∷◌, ◌≡◌, ap, inl, inr, List, map, refl, subst, sym}
-use Rattle.std.proofs.lemmas.Bool.{true≢false}
-use Rattle.std.proofs.lemmas.Cmp.{tied_itself}
-use Rattle.std.proofs.lemmas.Map.Keys.{sorted_head, sorted_tail}
-use Rattle.std.specs.Cmp.{IsTotalOrder}
-use Rattle.std.specs.List.{AllByRecursion}
-use Rattle.std.specs.List.Sorted.{IsStrictlySortedBy}
-use Rattle.std.specs.Ordering.{is_lt}
-use Rattle.std.specs.declared.cmp.Ordering.{Ordering}
-use Rattle.std.specs.declared.cmp.Ordering.TheVariants.{Less}
+use Rattle.std.proofs.Common.{◌↔◌, ◌∷◌, ◌≡◌}
+use Rattle.list_laws.specs.Prelude.{[], AllByRecursion, ap, inl, inr, is_lt, IsStrictlySortedBy, IsTotalOrder, Less, List, map, Ordering, refl, sorted_head, sorted_tail, subst, sym, tied_itself, true≢false, ◌∙◌}
 use Rattle.list_laws.specs.Members.{IsAmong}
 
 -- ordered by a key of each member, under a total order

@@ -1,8 +1,7 @@
 -- A list of bytes split at an index.
 -- Source: this project's own.
-use Rattle.std.proofs.Common.{◌++◌, ◌+◌, ◌<◌, ◌∙◌, ◌∷◌, ◌≡◌, ◌≤◌, All, ap, arith, drop, get_or, length, List, sym, take, ℕ}
-use Rattle.std.proofs.lemmas.List.{drop_more, get_or-take, length-take-le, take-append-drop}
-use Rattle.std.proofs.lemmas.List.Elements.{All-from_get_or}
+use Rattle.std.proofs.Common.{◌++◌, ◌+◌, ◌<◌, ◌∷◌, ◌≡◌, ◌≤◌}
+use Rattle.list_laws.specs.Prelude.{All, All-from_get_or, ap, arith, drop, drop_more, get_or, get_or-take, length, length-take-le, List, sym, take, take-append-drop, ℕ, ◌∙◌}
 
 -- a property of every byte before `end` is a property of every element of the prefix
 pub All-take_before : (P : ℕ → Type 0) (bytes : List ℕ) (end : ℕ) → end ≤ length bytes → ((k : ℕ) → k < end → P (get_or bytes k 0)) → All P (take end bytes)

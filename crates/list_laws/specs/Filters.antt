@@ -1,6 +1,7 @@
 -- Filters with several tests.
 -- Source: this project's own.
-use Rattle.std.proofs.Common.{[], ◌∷◌, ◌≡◌, ap, Bool, cond, false, filter, List, refl, true}
+use Rattle.std.proofs.Common.{◌∷◌, ◌≡◌}
+use Rattle.list_laws.specs.Prelude.{[], ap, Bool, cond, false, filter, List, refl, true}
 
 -- two filters in a row are one filter with both tests
 pub filter_twice : {X : Type 0} (p q : X → Bool) (xs : List X) → filter p (filter q xs) ≡ filter (λ x. cond (q x) (p x) false) xs

@@ -1,8 +1,7 @@
 -- Laws of `first_said` (the first answer that a function gives along a list), by index.
 -- Source: this project's own.
-use Rattle.std.proofs.Common.{[], ◌<◌, ◌∙◌, ◌∷◌, ◌≡◌, ◌≤◌, ap, arith, drop, get_or, length, List, None, Option, refl, Some, suc, zero, ℕ}
-use Rattle.std.specs.Option.{option_or}
-use Rattle.list_laws.specs.FirstSaid.{first_said}
+use Rattle.std.proofs.Common.{◌<◌, ◌∷◌, ◌≡◌, ◌≤◌}
+use Rattle.list_laws.specs.{FirstSaid.{first_said}, Prelude.{[], ap, arith, drop, get_or, length, List, None, Option, option_or, refl, Some, suc, zero, ℕ, ◌∙◌}}
 
 -- both options hold the same value
 pub record BothSay {B : Type 0} (o p : Option B) : Type 0 where

@@ -1,9 +1,7 @@
 -- The first answer that a function gives along a list.
 -- Source: this project's own.
-use Rattle.std.proofs.Common.{[], ◌++◌, ◌+◌, ◌<◌, ◌∙◌, ◌∷◌, ◌≡◌, ap, arith, get_or, length, List, None, Option, refl, Some, suc, sym, take, zero, ℕ}
-use Rattle.std.proofs.lemmas.List.{take_more}
-use Rattle.std.proofs.lemmas.Option.{none-some}
-use Rattle.std.specs.Option.{option_or}
+use Rattle.std.proofs.Common.{◌++◌, ◌+◌, ◌<◌, ◌∷◌, ◌≡◌}
+use Rattle.list_laws.specs.Prelude.{[], ap, arith, get_or, length, List, None, none-some, Option, option_or, refl, Some, suc, sym, take, take_more, zero, ℕ, ◌∙◌}
 
 -- the first result that is not `None`
 abbrev pub first_said : {A B : Type 0} → (A → Option B) → List A → Option B

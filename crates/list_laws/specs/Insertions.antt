@@ -1,10 +1,6 @@
 -- The members of a sorted list of keys after an insertion.
-use Rattle.std.proofs.Common.{[], ◌∷◌, ◌≡◌, ◌⊎◌, inl, inr, List, refl, sym}
-use Rattle.std.specs.BTreeSet.{insert_key}
-use Rattle.std.specs.Ordering.{match_ordering}
-use Rattle.std.specs.declared.cmp.Ordering.{Ordering}
-use Rattle.std.specs.declared.cmp.Ordering.TheVariants.{Equal, Greater, Less}
-use Rattle.list_laws.specs.Members.{IsAmong}
+use Rattle.std.proofs.Common.{◌∷◌, ◌≡◌, ◌⊎◌}
+use Rattle.list_laws.specs.{Members.{IsAmong}, Prelude.{[], Equal, Greater, inl, inr, insert_key, Less, List, match_ordering, Ordering, refl, sym}}
 
 module _ {N : Type 0} (order : N → N → Ordering) where
   -- every old member is still a member

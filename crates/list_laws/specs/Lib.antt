@@ -1,3 +1,4 @@
+pub mod Prelude
 pub mod Agreements
 pub mod Cuts
 pub mod Filters

@@ -1,14 +1,8 @@
 -- The lines of a text, described by how a text is built from lines. A line ends at a line feed; one carriage return
 -- directly before the line feed is dropped. The last line needs no line feed, and a carriage return at its end is kept.
 -- Source: this project's own.
-use Rattle.std.proofs.Common.{[], ◌++◌, ◌+◌, ◌-◌, ◌<◌, ◌==◌, ◌∙◌, ◌∷◌, ◌≡◌, ◌≢◌, add-zero, All, ap, append_assoc, arith, drop, get_or, length, length-append, List, refl, suc, take, zero, ℕ}
-use Rattle.std.proofs.lemmas.Bool.{cond-false, cond-true, eq-eqb, ne_eqb}
-use Rattle.std.proofs.lemmas.List.{get_or_push, take_at}
-use Rattle.std.proofs.lemmas.List.Elements.{All-from_get_or, All-push, All-weaker}
-use Rattle.std.proofs.lemmas.List.Prefix.{end_from_reads}
-use Rattle.std.proofs.lemmas.List.Splits.{length-slice_split, slice_split_at, slice_split_none}
-use Rattle.std.specs.List.{AllByRecursion, flat_map, slice_split}
-use Rattle.std.specs.Str.Lines.{lines, lines_of_parts, strip_carriage_return}
+use Rattle.std.proofs.Common.{◌++◌, ◌+◌, ◌-◌, ◌<◌, ◌==◌, ◌∷◌, ◌≡◌, ◌≢◌}
+use Rattle.list_laws.specs.Prelude.{[], add-zero, All, All-from_get_or, All-push, All-weaker, AllByRecursion, ap, append_assoc, arith, cond-false, cond-true, drop, end_from_reads, eq-eqb, flat_map, get_or, get_or_push, length, length-append, length-slice_split, lines, lines_of_parts, List, ne_eqb, refl, slice_split, slice_split_at, slice_split_none, strip_carriage_return, suc, take, take_at, zero, ℕ, ◌∙◌}
 use Rattle.list_laws.specs.Cuts.{All-take_before, cut_around}
 
 -- the line contains no line feed

@@ -1,8 +1,7 @@
 -- Membership in a list.
 -- Source: this project's own.
-use Rattle.std.proofs.Common.{[], ◌++◌, ◌∷◌, ◌≡◌, ◌⊎◌, arith, inl, inr, List, subst}
-use Rattle.std.proofs.lemmas.List.Elements.{Contains-append_cases, Contains-append_left, Contains-append_right, Contains-push, Contains-push_cases}
-use Rattle.std.specs.List.{Contains}
+use Rattle.std.proofs.Common.{◌++◌, ◌∷◌, ◌≡◌, ◌⊎◌}
+use Rattle.list_laws.specs.Prelude.{[], arith, Contains, Contains-append_cases, Contains-append_left, Contains-append_right, Contains-push, Contains-push_cases, inl, inr, List, subst}
 
 -- the empty list has no members
 pub none_there : {X C : Type 0} (x : X) → Contains [] x → C

@@ -1,10 +1,7 @@
 -- Results of comparisons.
 -- Source: this project's own.
-use Rattle.std.proofs.Common.{◌∙◌, ◌≡◌, ◌≢◌, ap, false, IsTrue, refl, true}
-use Rattle.std.specs.Cmp.{IsTotalOrder}
-use Rattle.std.specs.Ordering.{is_eq, is_lt, ordering_reverse}
-use Rattle.std.specs.declared.cmp.Ordering.{Ordering}
-use Rattle.std.specs.declared.cmp.Ordering.TheVariants.{Equal, Greater, Less}
+use Rattle.std.proofs.Common.{◌≡◌, ◌≢◌}
+use Rattle.list_laws.specs.Prelude.{ap, Equal, false, Greater, is_eq, is_lt, IsTotalOrder, IsTrue, Less, Ordering, ordering_reverse, refl, true, ◌∙◌}
 
 pub is_less : (r : Ordering) → IsTrue (is_lt r) → r ≡ Less
 is_less Less h = refl

@@ -1,13 +1,7 @@
 -- Pairs sorted by key, compared with one key: the facts that a binary search rests on.
 -- Source: this project's own.
-use Rattle.std.proofs.Common.{[], ◌<◌, ◌∙◌, ◌∷◌, ◌≡◌, ◌≤◌, ap, arith, get_or, IsTrue, length, List, refl, suc, sym, zero, ℕ}
-use Rattle.std.proofs.lemmas.Bool.{and_parts}
-use Rattle.std.specs.Cmp.{IsTotalOrder}
-use Rattle.std.specs.FinMap.Entries.{below_all, is_sorted}
-use Rattle.std.specs.List.Sorted.{IsNonDecreasingBy}
-use Rattle.std.specs.Ordering.{ordering_index, ordering_reverse}
-use Rattle.std.specs.declared.cmp.Ordering.{Ordering}
-use Rattle.std.specs.declared.cmp.Ordering.TheVariants.{Equal, Greater, Less}
+use Rattle.std.proofs.Common.{◌<◌, ◌∷◌, ◌≡◌, ◌≤◌}
+use Rattle.list_laws.specs.Prelude.{[], and_parts, ap, arith, below_all, Equal, get_or, Greater, is_sorted, IsNonDecreasingBy, IsTotalOrder, IsTrue, length, Less, List, Ordering, ordering_index, ordering_reverse, refl, suc, sym, zero, ℕ, ◌∙◌}
 use Rattle.list_laws.specs.Orderings.{is_less, turned}
 
 -- a key below all pairs is below each of them

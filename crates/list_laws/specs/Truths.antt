@@ -1,6 +1,7 @@
 -- Conversions between the two ways in which facts state that a test holds.
 -- Source: this project's own.
-use Rattle.std.proofs.Common.{◌&&◌, Bool, false, IsTrue, refl, subst, sym, T, true}
+use Rattle.std.proofs.Common.{◌&&◌}
+use Rattle.list_laws.specs.Prelude.{Bool, false, IsTrue, refl, subst, sym, T, true}
 
 pub to_T : (b : Bool) → IsTrue b → T b
 to_T b h = subst T (sym h) tt

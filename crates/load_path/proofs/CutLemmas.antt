@@ -1,12 +1,6 @@
 -- How bytes are split after a directory and at their first slash.
-use Rattle.std.proofs.Common.{[], ◌++◌, ◌+◌, ◌∙◌, ◌∷◌, ◌≡◌, ◌≢◌, ◌≤◌, ap, arith, Bor, drop, Err, is_some, length, List, MatchOption, None, Option, position, refl, Some, sym, take, true, ℕ, ⊎_elim}
-use Rattle.std.proofs.lemmas.Bool.{cases_Bool, cond-false, cond-true, ltb-false, ltb-true}
-use Rattle.std.proofs.lemmas.List.{append_cancel_left}
-use Rattle.std.proofs.lemmas.List.Splits.{slice_split-cons_no, slice_split-cons_yes, slice_split_first, slice_split_none}
-use Rattle.std.proofs.lemmas.List.Sums.{fails_before_first}
-use Rattle.std.specs.List.{onto_first, position_or_len, slice_split}
-use Rattle.std.specs.Option.{option_copied, option_map_or}
-use Rattle.load_path.proofs.Prelude.{below_at, below_directory, below_none, Depth, is_slash, path_below}
+use Rattle.std.proofs.Common.{◌++◌, ◌+◌, ◌∷◌, ◌≡◌, ◌≢◌, ◌≤◌}
+use Rattle.load_path.proofs.Prelude.{[], ap, append_cancel_left, arith, below_at, below_directory, below_none, Bor, cases_Bool, cond-false, cond-true, Depth, drop, Err, fails_before_first, is_slash, is_some, length, List, ltb-false, ltb-true, MatchOption, None, onto_first, Option, option_copied, option_map_or, path_below, position, position_or_len, refl, slice_split, slice_split-cons_no, slice_split-cons_yes, slice_split_first, slice_split_none, Some, sym, take, true, ℕ, ⊎_elim, ◌∙◌}
 
 -- the bytes after a directory, and then after a slash
 pub after_slash : (directory text after : List ℕ) (r : Option (Bor (List ℕ))) → text ≡ directory ++ after

@@ -1,12 +1,6 @@
 -- Laws of paths: their order is total and exact, and a path can be encoded as its parts.
-use Rattle.std.proofs.Common.{◌≡◌, List, refl, ℕ}
-use Rattle.std.specs.Cmp.{IsTotalOrder, nat_cmp_total, on_total, then_total}
-use Rattle.std.specs.Cmp.Lexicographic.{nat_list_cmp_total, slice_cmp}
-use Rattle.std.specs.Coded.{code_by, Coded, coded_list, coded_ℕ, coded×}
-use Rattle.std.specs.FinMap.{nat_cmp-IsAntisymmetric, slice_cmp-IsAntisymmetric}
-use Rattle.std.specs.Ordering.{nat_cmp}
-use Rattle.std.specs.declared.cmp.Ordering.TheVariants.{Equal}
-use Rattle.load_path.specs.Prelude.{tied_parts}
+use Rattle.std.proofs.Common.{◌≡◌}
+use Rattle.load_path.specs.Prelude.{code_by, Coded, coded_list, coded_ℕ, coded×, Equal, IsTotalOrder, List, nat_cmp, nat_cmp-IsAntisymmetric, nat_cmp_total, nat_list_cmp_total, on_total, refl, slice_cmp, slice_cmp-IsAntisymmetric, then_total, tied_parts, ℕ}
 use Rattle.load_path.specs.Paths.{path_cmp, PathParts}
 
 pub path_cmp_total : IsTotalOrder path_cmp

@@ -1,15 +1,9 @@
 -- Paths of the unit load path, their texts and their order.
 -- Source (directories and their order): systemd.unit(5), "Unit File Load Path", four of its directories. Limits, faults
 -- and the order of paths are this project's own.
-use Rattle.std.proofs.Common.{[], ◌&&◌, ◌++◌, ◌+◌, ◌<◌, ◌==◌, ◌||◌, ◌∷◌, ◌≡◌, Bool, codes, drop, Err, if◌then◌else◌, IsTrue, length, List, nat_le, nat_lt, None, not, Ok, Option, Result, slice_get, Some, unwrap_or, ℕ}
-use Rattle.std.specs.Cmp.Lexicographic.{slice_cmp}
-use Rattle.std.specs.List.{list_all, slice_split, starts_with}
-use Rattle.std.specs.Option.{option_map_or}
-use Rattle.std.specs.Ordering.{nat_cmp, ordering_then}
-use Rattle.std.specs.Prelude.{nat_eq}
-use Rattle.std.specs.Str.{bytes_eq}
-use Rattle.std.specs.declared.cmp.Ordering.{Ordering}
-use Rattle.load_path.specs.{declared.paths.PathFault.PathFault, declared.paths.PathFault.TheVariants.Component, declared.paths.PathFault.TheVariants.Depth, declared.paths.PathFault.TheVariants.Directory}
+use Rattle.std.proofs.Common.{if◌then◌else◌, ◌&&◌, ◌++◌, ◌+◌, ◌<◌, ◌==◌, ◌||◌, ◌∷◌, ◌≡◌}
+use Rattle.load_path.specs.Prelude.{[], Bool, bytes_eq, codes, drop, Err, IsTrue, length, List, list_all, nat_cmp, nat_eq, nat_le, nat_lt, None, not, Ok, Option, option_map_or, Ordering, ordering_then, Result, slice_cmp, slice_get, slice_split, Some, starts_with, unwrap_or, ℕ}
+use Rattle.load_path.specs.declared.paths.PathFault.{PathFault, TheVariants.{Component, Depth, Directory}}
 
 -- the rank of the directory, the folder (empty if the path has only one component), and the name
 pub record PathParts : Type 0 where

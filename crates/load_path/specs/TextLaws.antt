@@ -1,13 +1,6 @@
 -- Laws of the texts of paths: where a text is split, and that paths and texts determine each other.
-use Rattle.std.proofs.Common.{[], ◌&&◌, ◌++◌, ◌+◌, ◌<◌, ◌||◌, ◌∙◌, ◌∷◌, ◌≡◌, ◌≢◌, ap, append_assoc, arith, drop, false, if◌then◌else◌, length, List, nat_le, nat_lt, None, not, Ok, Option, refl, slice_get, Some, subst, suc, sym, true, unwrap_or, zero, ℕ, ⊎_elim}
-use Rattle.std.proofs.lemmas.Bool.{and_from, and_parts, both_ways, cases_Bool, cond-false, cond-true, lt-ltb, not-true, or_cases, or_right}
-use Rattle.std.proofs.lemmas.Bool.Decides.{Decides-eqb}
-use Rattle.std.proofs.lemmas.List.{drop_at, length_push}
-use Rattle.std.proofs.lemmas.List.Splits.{join_with_byte-slice_split, slice_split-cons_no}
-use Rattle.std.proofs.lemmas.Slice.Eq.{starts_is}
-use Rattle.std.specs.List.{join_with_byte, list_all, onto_first, slice_split, starts_with}
-use Rattle.std.specs.Option.{option_map_or}
-use Rattle.std.specs.Prelude.{nat_eq}
+use Rattle.std.proofs.Common.{if◌then◌else◌, ◌&&◌, ◌++◌, ◌+◌, ◌<◌, ◌||◌, ◌∷◌, ◌≡◌, ◌≢◌}
+use Rattle.load_path.specs.Prelude.{[], and_from, and_parts, ap, append_assoc, arith, both_ways, cases_Bool, cond-false, cond-true, Decides-eqb, drop, drop_at, false, join_with_byte, join_with_byte-slice_split, length, length_push, List, list_all, lt-ltb, nat_eq, nat_le, nat_lt, None, not, not-true, Ok, onto_first, Option, option_map_or, or_cases, or_right, refl, slice_get, slice_split, slice_split-cons_no, Some, starts_is, starts_with, subst, suc, sym, true, unwrap_or, zero, ℕ, ⊎_elim, ◌∙◌}
 use Rattle.load_path.specs.Paths.{AreTheirTexts, below_directory, directories, directory_of, is_component, is_component_byte, is_slash, IsPath, located, located_from, path_below, path_of, path_within, PathParts, text_of}
 
 -- the text after a directory and a slash

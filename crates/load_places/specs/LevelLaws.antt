@@ -1,11 +1,7 @@
 -- Laws of levels: lesser ones come first, and which places have the lesser ones.
-use Rattle.std.proofs.Common.{◌+◌, ◌<◌, ◌↔◌, ◌∙◌, ◌≡◌, ◌≤◌, ◌⊎◌, ap, arith, Bool, cond, drop, false, get_or, inl, inr, IsSome, List, None, Option, refl, Some, subst, suc, sym, true, zero, ℕ}
-use Rattle.std.proofs.lemmas.Option.{same_Some}
-use Rattle.std.proofs.lemmas.Slice.Eq.{bytes_eq-Decides}
-use Rattle.std.specs.Option.{option_or}
-use Rattle.std.specs.Str.{bytes_eq}
-use Rattle.load_places.specs.Prelude.{all_undefined, both_decide, BothSay, first_is, first_said, none_says, place_decides, said_from}
-use Rattle.load_places.specs.{declared.places.Scope.Scope, declared.places.Scope.TheVariants.Fleet, declared.places.Scope.TheVariants.Host, Levels.first_level, Levels.IsLevel, Levels.level_for, Levels.level_in, Levels.levels, Levels.Viewer, Places.PlaceParts}
+use Rattle.std.proofs.Common.{◌+◌, ◌<◌, ◌↔◌, ◌≡◌, ◌≤◌, ◌⊎◌}
+use Rattle.load_places.specs.Prelude.{all_undefined, ap, arith, Bool, both_decide, BothSay, bytes_eq, bytes_eq-Decides, cond, drop, false, first_is, first_said, get_or, inl, inr, IsSome, List, None, none_says, Option, option_or, place_decides, refl, said_from, same_Some, Some, subst, suc, sym, true, zero, ℕ, ◌∙◌}
+use Rattle.load_places.specs.{declared.places.Scope.{Scope, TheVariants.{Fleet, Host}}, Levels.{first_level, IsLevel, level_for, level_in, levels, Viewer}, Places.{PlaceParts}}
 
 -- each level stands at its own place in the list
 abbrev pub LevelsAreNumbered : Type 0

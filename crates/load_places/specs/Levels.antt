@@ -1,10 +1,8 @@
 -- The levels of places, and the first level that says something.
 -- Source: systemd.unit(5), "Unit File Load Path"; the word level, and that a host's directory comes before the fleet's
 -- of the same rank, is this project's own.
-use Rattle.std.proofs.Common.{[], ◌+◌, ◌<◌, ◌∷◌, if◌then◌else◌, List, None, Option, Some, ℕ}
-use Rattle.std.specs.Str.{bytes_eq}
-use Rattle.load_places.specs.Prelude.{first_said}
-use Rattle.load_places.specs.{declared.places.Scope.Scope, declared.places.Scope.TheVariants.Fleet, declared.places.Scope.TheVariants.Host, Places.PlaceParts}
+use Rattle.std.proofs.Common.{if◌then◌else◌, ◌+◌, ◌<◌, ◌∷◌}
+use Rattle.load_places.specs.{declared.places.Scope.{Scope, TheVariants.{Fleet, Host}}, Places.{PlaceParts}, Prelude.{[], bytes_eq, first_said, List, None, Option, Some, ℕ}}
 
 -- The levels: for each rank a host's own directory, and then the fleet's. Each level overrides those after it.
 abbrev pub levels : List ℕ

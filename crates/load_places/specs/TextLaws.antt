@@ -1,14 +1,8 @@
 -- Each place and its text give each other; of a text that is no place, what is wrong with its host is told first.
-use Rattle.std.proofs.Common.{[], ◌++◌, ◌+◌, ◌<◌, ◌==◌, ◌∙◌, ◌∷◌, ◌≡◌, ◌≢◌, ◌⊎◌, add-one, ap, append_assoc, arith, Bool, drop, Err, false, inl, inr, is_err, IsTrue, length, List, nat_lt, None, Ok, Option, position, refl, Result, Some, subst, suc, sym, take, true, zero, ℕ, ⊎_elim}
-use Rattle.std.proofs.Math.Seq.{drop-append-add, take-append_seam}
-use Rattle.std.proofs.lemmas.Bool.{and_parts, cases_Bool, cond-false, cond-true, eqb-true, or_parts}
-use Rattle.std.proofs.lemmas.Bool.Decides.{nat_tests}
-use Rattle.std.proofs.lemmas.Iterator.Adapters.{position_from-zero}
-use Rattle.std.specs.List.{list_all, list_any, position_from}
-use Rattle.std.specs.Prelude.{IsErr}
-use Rattle.load_places.specs.Prelude.{are_their_texts, IsPath, path_of, PathFault, PathParts}
-use Rattle.load_places.specs.{declared.places.Scope.Scope, declared.places.Scope.TheVariants.Fleet, declared.places.Scope.TheVariants.Host, declared.texts.PlaceFault.TheVariants.HostName, Hosts.host_of, Hosts.is_host, Hosts.is_host_byte, Places.PlaceParts, Texts.AreTheirTexts, Texts.fault_of_path, Texts.host_end, Texts.in_scope_of, Texts.is_colon, Texts.IsScope, Texts.of_host, Texts.place_cut, Texts.place_of, Texts.place_text}
+use Rattle.std.proofs.Common.{◌++◌, ◌+◌, ◌<◌, ◌==◌, ◌∷◌, ◌≡◌, ◌≢◌, ◌⊎◌}
 use Rattle.load_path.specs.Paths.{text_of}
+use Rattle.load_places.specs.Prelude.{[], add-one, and_parts, ap, append_assoc, are_their_texts, arith, Bool, cases_Bool, cond-false, cond-true, drop, drop-append-add, eqb-true, Err, false, inl, inr, is_err, IsErr, IsPath, IsTrue, length, List, list_all, list_any, nat_lt, nat_tests, None, Ok, Option, or_parts, path_of, PathFault, PathParts, position, position_from, position_from-zero, refl, Result, Some, subst, suc, sym, take, take-append_seam, true, zero, ℕ, ⊎_elim, ◌∙◌}
+use Rattle.load_places.specs.{declared.{places.Scope.{Scope, TheVariants.{Fleet, Host}}, texts.PlaceFault.TheVariants.{HostName}}, Hosts.{host_of, is_host, is_host_byte}, Places.{PlaceParts}, Texts.{AreTheirTexts, fault_of_path, host_end, in_scope_of, is_colon, IsScope, of_host, place_cut, place_of, place_text}}
 
 -- what stands before the first colon of a text that doesn't begin with a slash
 pub record IsBeforeColon (prefix : List ℕ) : Type 0 where

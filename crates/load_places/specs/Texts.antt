@@ -1,8 +1,8 @@
 -- Texts of places.
 -- Source: this project's own.
-use Rattle.std.proofs.Common.{[], ◌++◌, ◌+◌, ◌==◌, ◌∷◌, ◌≡◌, Bool, drop, Err, if◌then◌else◌, IsTrue, List, None, Ok, Option, position, Result, Some, take, ℕ}
-use Rattle.load_places.specs.Prelude.{IsPath, path_of, PathFault, PathParts, text_of}
-use Rattle.load_places.specs.{declared.hosts.HostFault.HostFault, declared.places.Scope.Scope, declared.places.Scope.TheVariants.Fleet, declared.places.Scope.TheVariants.Host, declared.texts.PlaceFault.PlaceFault, declared.texts.PlaceFault.TheVariants.Component, declared.texts.PlaceFault.TheVariants.Depth, declared.texts.PlaceFault.TheVariants.Directory, declared.texts.PlaceFault.TheVariants.HostName, declared.texts.PlaceFault.TheVariants.Memory, Hosts.host_of, Hosts.is_host, Places.PlaceParts}
+use Rattle.std.proofs.Common.{if◌then◌else◌, ◌++◌, ◌+◌, ◌==◌, ◌∷◌, ◌≡◌}
+use Rattle.load_places.specs.Prelude.{[], Bool, drop, Err, IsPath, IsTrue, List, None, Ok, Option, path_of, PathFault, PathParts, position, Result, Some, take, text_of, ℕ}
+use Rattle.load_places.specs.{declared.{hosts.HostFault.{HostFault}, places.Scope.{Scope, TheVariants.{Fleet, Host}}, texts.PlaceFault.{PlaceFault, TheVariants.{Component, Depth, Directory, HostName, Memory}}}, Hosts.{host_of, is_host}, Places.{PlaceParts}}
 use Rattle.load_path.specs.declared.paths.PathFault.TheVariants as path
 use Rattle.load_places.specs.declared.hosts.HostFault.TheVariants as host
 

@@ -1,22 +1,6 @@
 -- What a tree holds once the pairs of a list were made a tree and appended to it.
-use Rattle.std.proofs.Common.{[], ◌||◌, ◌∙◌, ◌∷◌, ◌≡◌, ◌⊎◌, All, ap, Bool, cond, false, get_or, inl, inr, is_some, List, None, Option, refl, Some, subst, sym, true}
-use Rattle.std.proofs.lemmas.Bool.{true≢false}
-use Rattle.std.proofs.lemmas.Cmp.{eq_by_cmp_equiv}
-use Rattle.std.proofs.lemmas.List.Elements.{All-head, All-tail, All-weaker}
-use Rattle.std.proofs.lemmas.Map.Entries.{lookup_from_place}
-use Rattle.std.proofs.lemmas.Map.Keys.{IsDistinct-from_sorted}
-use Rattle.std.proofs.lemmas.Map.Made.{IfSome-update_all, is_some-lookup, is_some-update_all}
-use Rattle.std.proofs.lemmas.Option.{slice_get-get_or}
-use Rattle.std.specs.BTreeMap.{is_at}
-use Rattle.std.specs.Cmp.{IsTotalOrder}
-use Rattle.std.specs.List.{list_any}
-use Rattle.std.specs.List.Sorted.{IsStrictlySortedBy}
-use Rattle.std.specs.Map.{keys_of, lookup, update_all}
-use Rattle.std.specs.Ordering.{eq_by_cmp}
-use Rattle.std.specs.Prelude.{IfSome}
-use Rattle.std.specs.declared.cmp.Ordering.{Ordering}
-use Rattle.std.specs.declared.cmp.Ordering.TheVariants.{Equal}
-use Rattle.name_closure.proofs.Prelude.{AreJoined, AreLoaded, is_equal, IsAmong}
+use Rattle.std.proofs.Common.{◌||◌, ◌∷◌, ◌≡◌, ◌⊎◌}
+use Rattle.name_closure.proofs.Prelude.{[], All, All-head, All-tail, All-weaker, ap, AreJoined, AreLoaded, Bool, cond, eq_by_cmp, eq_by_cmp_equiv, Equal, false, get_or, IfSome, IfSome-update_all, inl, inr, is_at, is_equal, is_some, is_some-lookup, is_some-update_all, IsAmong, IsDistinct-from_sorted, IsStrictlySortedBy, IsTotalOrder, keys_of, List, list_any, lookup, lookup_from_place, None, Option, Ordering, refl, slice_get-get_or, Some, subst, sym, true, true≢false, update_all, ◌∙◌}
 use Rattle.name_closure.proofs.News.{found_by, found_there}
 
 or_cases : (a b : Bool) → (a || b) ≡ true → (a ≡ true) ⊎ (b ≡ true)

@@ -1,14 +1,6 @@
 -- A key is inserted among keys in order; the keys of two lists are united.
-use Rattle.std.proofs.Common.{[], ◌+◌, ◌∙◌, ◌∷◌, ◌≡◌, All, ap, arith, inl, inr, length, List, refl, subst, suc, sym}
-use Rattle.std.proofs.lemmas.List.Elements.{All-head}
-use Rattle.std.specs.BTreeSet.{insert_key}
-use Rattle.std.specs.Cmp.{IsTotalOrder}
-use Rattle.std.specs.List.{AllByRecursion}
-use Rattle.std.specs.Ordering.{match_ordering, ordering_reverse}
-use Rattle.std.specs.declared.cmp.Ordering.{Ordering}
-use Rattle.std.specs.declared.cmp.Ordering.TheVariants.{Equal, Greater, Less}
-use Rattle.name_closure.proofs.Prelude.{AreJoined, IsAmong, not_in_tail, put_kept, put_sound, put_there}
-use Rattle.std.specs.List.Sorted.{IsStrictlySortedBy}
+use Rattle.std.proofs.Common.{◌+◌, ◌∷◌, ◌≡◌}
+use Rattle.name_closure.proofs.Prelude.{[], All, All-head, AllByRecursion, ap, AreJoined, arith, Equal, Greater, inl, inr, insert_key, IsAmong, IsStrictlySortedBy, IsTotalOrder, length, Less, List, match_ordering, not_in_tail, Ordering, ordering_reverse, put_kept, put_sound, put_there, refl, subst, suc, sym, ◌∙◌}
 
 module _ {N : Type 0} (order : N → N → Ordering) where
   module _ (exact : (x y : N) → order x y ≡ Equal → x ≡ y) where

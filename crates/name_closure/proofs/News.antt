@@ -1,18 +1,6 @@
 -- Nodes without those that are found, sorted, without repeats.
-use Rattle.std.proofs.Common.{[], ◌||◌, ◌↔◌, ◌∙◌, ◌∷◌, ◌≡◌, ◌≤◌, ◌⊎◌, ap, arith, Bool, cond, false, filter, inl, inr, length, List, not, refl, subst, sym, true}
-use Rattle.std.proofs.lemmas.Bool.{true≢false}
-use Rattle.std.proofs.lemmas.Cmp.{tied_itself}
-use Rattle.std.proofs.lemmas.List.Kept.{Contains-dedup, Contains-from_dedup, IsStrictlySortedBy-dedup}
-use Rattle.std.proofs.lemmas.List.Sorted.{Contains-permutation, IsPermutation-sym}
-use Rattle.std.specs.BTreeMap.{is_at}
-use Rattle.std.specs.Cmp.{IsEquivalence, IsTotalOrder}
-use Rattle.std.specs.List.{dedup, list_any}
-use Rattle.std.specs.Ordering.{is_eq}
-use Rattle.std.specs.Prelude.{IsPermutation, IsSorted}
-use Rattle.std.specs.declared.cmp.Ordering.{Ordering}
-use Rattle.std.specs.declared.cmp.Ordering.TheVariants.{Equal}
-use Rattle.name_closure.proofs.Prelude.{among_from_contains, AreNew, contains_from_among, is_equal, IsAmong}
-use Rattle.std.specs.List.Sorted.{IsStrictlySortedBy}
+use Rattle.std.proofs.Common.{◌||◌, ◌↔◌, ◌∷◌, ◌≡◌, ◌≤◌, ◌⊎◌}
+use Rattle.name_closure.proofs.Prelude.{[], among_from_contains, ap, AreNew, arith, Bool, cond, Contains-dedup, Contains-from_dedup, Contains-permutation, contains_from_among, dedup, Equal, false, filter, inl, inr, is_at, is_eq, is_equal, IsAmong, IsEquivalence, IsPermutation, IsPermutation-sym, IsSorted, IsStrictlySortedBy, IsStrictlySortedBy-dedup, IsTotalOrder, length, List, list_any, not, Ordering, refl, subst, sym, tied_itself, true, true≢false, ◌∙◌}
 
 -- a list of at most one node is strictly ascending
 pub few_ascend : {N : Type 0} (order : N → N → Ordering) (nodes : List N) → length nodes ≤ 1 → IsStrictlySortedBy order nodes

@@ -1,10 +1,6 @@
 -- The nodes that a round names and that aren't its own.
-use Rattle.std.proofs.Common.{[], ◌++◌, ◌+◌, ◌<◌, ◌↔◌, ◌∙◌, ◌∷◌, ◌≡◌, ◌⊎◌, ap, append-nil, arith, get_or, inl, inr, length, List, subst, suc, sym, take, zero, ℕ}
-use Rattle.std.proofs.lemmas.Grind.{flat_map-append}
-use Rattle.std.proofs.lemmas.List.{take_more}
-use Rattle.std.specs.List.{flat_map}
-use Rattle.std.specs.Map.{keys_of}
-use Rattle.name_closure.proofs.Prelude.{AreApart, AreOthers, IsAmong, IsAmong-append_cases, IsAmong-append_left, IsAmong-append_right}
+use Rattle.std.proofs.Common.{◌++◌, ◌+◌, ◌<◌, ◌↔◌, ◌∷◌, ◌≡◌, ◌⊎◌}
+use Rattle.name_closure.proofs.Prelude.{[], ap, append-nil, AreApart, AreOthers, arith, flat_map, flat_map-append, get_or, inl, inr, IsAmong, IsAmong-append_cases, IsAmong-append_left, IsAmong-append_right, keys_of, length, List, subst, suc, sym, take, take_more, zero, ℕ, ◌∙◌}
 
 module _ {N U : Type 0} where
   -- the key of a pair is among the keys

@@ -1,14 +1,6 @@
 -- What the rounds of a closure keep true.
-use Rattle.std.proofs.Common.{[], ◌+◌, ◌<◌, ◌∷◌, ◌≡◌, ◌⊎◌, All, ap, arith, inl, inr, length, List, refl, subst, sym}
-use Rattle.std.proofs.lemmas.List.Elements.{All-cons, All-head, All-nil, All-tail}
-use Rattle.std.proofs.lemmas.Map.Entries.{length-keys_of}
-use Rattle.std.specs.Cmp.{IsTotalOrder}
-use Rattle.std.specs.List.{flat_map}
-use Rattle.std.specs.List.Sorted.{IsStrictlySortedBy}
-use Rattle.std.specs.Map.{keys_of}
-use Rattle.std.specs.declared.cmp.Ordering.{Ordering}
-use Rattle.std.specs.declared.cmp.Ordering.TheVariants.{Equal}
-use Rattle.name_closure.proofs.Prelude.{AreJoined, AreLoaded, AreLoads, AreNew, AreOthers, HasOver, IsAmong, IsClosed, IsClosure, IsReached, leads_by_one, LeadsByLoad, Listed, named_by, names_all, one_ascending_list, reached_closed, reached_least}
+use Rattle.std.proofs.Common.{◌+◌, ◌<◌, ◌∷◌, ◌≡◌, ◌⊎◌}
+use Rattle.name_closure.proofs.Prelude.{[], All, All-cons, All-head, All-nil, All-tail, ap, AreJoined, AreLoaded, AreLoads, AreNew, AreOthers, arith, Equal, flat_map, HasOver, inl, inr, IsAmong, IsClosed, IsClosure, IsReached, IsStrictlySortedBy, IsTotalOrder, keys_of, leads_by_one, LeadsByLoad, length, length-keys_of, List, Listed, named_by, names_all, one_ascending_list, Ordering, reached_closed, reached_least, refl, subst, sym}
 use Rattle.name_closure.proofs.Insertions.{length-together, together, together_ascends, together_joins}
 
 module _ {X : Type 0} (P : X → Type 0) where

@@ -1,17 +1,6 @@
 -- A search among pairs with ascending keys misses none of them.
-use Rattle.std.proofs.Common.{[], ◌<◌, ◌∙◌, ◌∷◌, ◌≡◌, ◌⊎◌, ap, arith, Err, get_or, inl, inr, IsTrue, length, List, refl, suc, sym, ℕ}
-use Rattle.std.proofs.lemmas.Bool.{and_from, cases_lt}
-use Rattle.std.proofs.lemmas.Cmp.{tied_itself}
-use Rattle.std.specs.Cmp.{IsTotalOrder}
-use Rattle.std.specs.FinMap.Entries.{below_all, is_sorted}
-use Rattle.std.specs.List.{AllByRecursion}
-use Rattle.std.specs.List.Sorted.{IsBinarySearchResult}
-use Rattle.std.specs.Map.{keys_of}
-use Rattle.std.specs.Ordering.{is_lt}
-use Rattle.std.specs.declared.cmp.Ordering.{Ordering}
-use Rattle.std.specs.declared.cmp.Ordering.TheVariants.{Equal, Greater, Less}
-use Rattle.name_closure.proofs.Prelude.{comparisons_ascend, IsAmong}
-use Rattle.std.specs.List.Sorted.{IsStrictlySortedBy}
+use Rattle.std.proofs.Common.{◌<◌, ◌∷◌, ◌≡◌, ◌⊎◌}
+use Rattle.name_closure.proofs.Prelude.{[], AllByRecursion, and_from, ap, arith, below_all, cases_lt, comparisons_ascend, Equal, Err, get_or, Greater, inl, inr, is_lt, is_sorted, IsAmong, IsBinarySearchResult, IsStrictlySortedBy, IsTotalOrder, IsTrue, keys_of, length, Less, List, Ordering, refl, suc, sym, tied_itself, ℕ, ◌∙◌}
 
 module _ {N U : Type 0} (cmp : N → N → Ordering) where
   below_keys : (x : N) (es : List (N × U)) → AllByRecursion (λ y. cmp x y ≡ Less) (keys_of es) → IsTrue (below_all cmp x es)

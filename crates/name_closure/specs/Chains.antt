@@ -2,11 +2,8 @@
 -- Source: Cormen, Leiserson, Rivest, Stein, Introduction to Algorithms, chapter "Elementary graph algorithms"
 -- (reachability, shortest-path distance). That a closure is given by a list, and an excess over a limit by a list of
 -- that many members, is this project's own.
-use Rattle.std.proofs.Common.{◌<◌, ◌↔◌, ◌≤◌, length, List, suc, zero, ℕ}
-use Rattle.std.specs.List.Sorted.{IsStrictlySortedBy}
-use Rattle.std.specs.Ordering.{nat_cmp, ordering_then}
-use Rattle.std.specs.declared.cmp.Ordering.{Ordering}
-use Rattle.name_closure.specs.Prelude.{IsAmong}
+use Rattle.std.proofs.Common.{◌<◌, ◌↔◌, ◌≤◌}
+use Rattle.name_closure.specs.Prelude.{IsAmong, IsStrictlySortedBy, length, List, nat_cmp, Ordering, ordering_then, suc, zero, ℕ}
 
 module _ {N : Type 0} (starts : N → Type 0) (leads : N → N → Type 0) where
   -- a chain of this many edges leads from a source to the node

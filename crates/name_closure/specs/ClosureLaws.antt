@@ -1,9 +1,6 @@
 -- A closure has its sources, is closed under the edges, and is the least such set; there is one list of it.
-use Rattle.std.proofs.Common.{◌≡◌, List, suc, zero, ℕ}
-use Rattle.std.specs.Cmp.{IsTotalOrder}
-use Rattle.std.specs.declared.cmp.Ordering.{Ordering}
-use Rattle.name_closure.specs.Prelude.{IsAmong, one_ascending_list}
-use Rattle.name_closure.specs.Chains.{IsChain, IsClosure, IsReached}
+use Rattle.std.proofs.Common.{◌≡◌}
+use Rattle.name_closure.specs.{Chains.{IsChain, IsClosure, IsReached}, Prelude.{IsAmong, IsTotalOrder, List, one_ascending_list, Ordering, suc, zero, ℕ}}
 
 -- the set has the sources, and each node to which an edge leads from one of its members
 pub record IsClosed {N : Type 0} (starts : N → Type 0) (leads : N → N → Type 0) (set : N → Type 0) : Type 0 where

@@ -1,9 +1,7 @@
 -- Distances: a node has one at most; each is one more than that of a predecessor; a reached node has one where chains
 -- can be tested.
-use Rattle.std.proofs.Common.{◌<◌, ◌↔◌, ◌≡◌, ◌≤◌, ◌⊎◌, ap, arith, inl, inr, List, refl, subst, suc, zero, ℕ}
-use Rattle.std.specs.Cmp.{IsTotalOrder, nat_cmp_total, on_total, then_total}
-use Rattle.std.specs.declared.cmp.Ordering.{Ordering}
-use Rattle.name_closure.specs.Prelude.{one_ascending_list}
+use Rattle.std.proofs.Common.{◌<◌, ◌↔◌, ◌≡◌, ◌≤◌, ◌⊎◌}
+use Rattle.name_closure.specs.Prelude.{ap, arith, inl, inr, IsTotalOrder, List, nat_cmp_total, on_total, one_ascending_list, Ordering, refl, subst, suc, then_total, zero, ℕ}
 use Rattle.name_closure.specs.Chains.{distance_cmp, IsChain, IsDistance, IsDistances, IsReached}
 
 -- the fact holds, or it can't hold

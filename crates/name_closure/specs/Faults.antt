@@ -1,6 +1,6 @@
 -- What an error of a closure says.
 -- Source: this project's own.
-use Rattle.name_closure.specs.{declared.loads.ClosureFault.ClosureFault, declared.loads.ClosureFault.TheVariants.Memory, declared.loads.ClosureFault.TheVariants.TooMany}
+use Rattle.name_closure.specs.declared.loads.ClosureFault.{ClosureFault, TheVariants.{Memory, TooMany}}
 
 -- if the error is `TooMany`, the fact holds
 abbrev pub OnTooMany : ClosureFault → Type 0 → Type 0

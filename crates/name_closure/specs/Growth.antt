@@ -1,9 +1,7 @@
 -- What a round adds to the nodes that are found, and which nodes are the next round's. Only private clauses cite these.
 -- Source: this project's own.
-use Rattle.std.proofs.Common.{◌↔◌, ◌⊎◌, List}
-use Rattle.std.specs.List.Sorted.{IsStrictlySortedBy}
-use Rattle.std.specs.declared.cmp.Ordering.{Ordering}
-use Rattle.name_closure.specs.Prelude.{IsAmong}
+use Rattle.std.proofs.Common.{◌↔◌, ◌⊎◌}
+use Rattle.name_closure.specs.Prelude.{IsAmong, IsStrictlySortedBy, List, Ordering}
 
 module _ {N : Type 0} where
   -- `all` has the nodes of both lists, and no others

@@ -1,14 +1,7 @@
 -- A strictly ascending list is no longer than any list that has all its members. So more nodes than a limit are reached
 -- exactly where the closure's list is longer than the limit.
-use Rattle.std.proofs.Common.{[], ◌<◌, ◌↔◌, ◌∙◌, ◌∷◌, ◌≡◌, ◌≤◌, ap, arith, inl, inr, length, List, refl, subst, suc, sym, ℕ}
-use Rattle.std.proofs.lemmas.Cmp.{tied_itself}
-use Rattle.std.proofs.lemmas.Map.Keys.{sorted_head, sorted_tail}
-use Rattle.std.specs.Cmp.{IsTotalOrder}
-use Rattle.std.specs.List.{AllByRecursion}
-use Rattle.std.specs.List.Sorted.{IsStrictlySortedBy}
-use Rattle.std.specs.declared.cmp.Ordering.{Ordering}
-use Rattle.std.specs.declared.cmp.Ordering.TheVariants.{Less}
-use Rattle.name_closure.specs.Prelude.{IsAmong}
+use Rattle.std.proofs.Common.{◌<◌, ◌↔◌, ◌∷◌, ◌≡◌, ◌≤◌}
+use Rattle.name_closure.specs.Prelude.{[], AllByRecursion, ap, arith, inl, inr, IsAmong, IsStrictlySortedBy, IsTotalOrder, length, Less, List, Ordering, refl, sorted_head, sorted_tail, subst, suc, sym, tied_itself, ℕ, ◌∙◌}
 use Rattle.name_closure.specs.Chains.{HasOver, IsClosure}
 
 module _ {N : Type 0} where

@@ -1,13 +1,8 @@
 -- Edges and sources that are given by lists: whether a chain leads to a node can be tested, so every reached node has a
 -- distance.
-use Rattle.std.proofs.Common.{[], ◌∙◌, ◌∷◌, ◌≡◌, ap, inl, inr, List, refl, subst, suc, sym, zero, ℕ}
-use Rattle.std.proofs.lemmas.Cmp.{tied_itself}
-use Rattle.std.specs.Cmp.{IsTotalOrder}
-use Rattle.std.specs.List.{flat_map}
-use Rattle.std.specs.declared.cmp.Ordering.{Ordering}
-use Rattle.std.specs.declared.cmp.Ordering.TheVariants.{Equal, Greater, Less}
-use Rattle.name_closure.specs.Prelude.{IsAmong, IsAmong-append_cases, IsAmong-append_left, IsAmong-append_right}
-use Rattle.name_closure.specs.{Chains.IsChain, Chains.IsReached, DistanceLaws.HasDistance, DistanceLaws.IsDecided, DistanceLaws.some_distance}
+use Rattle.std.proofs.Common.{◌∷◌, ◌≡◌}
+use Rattle.name_closure.specs.Prelude.{[], ap, Equal, flat_map, Greater, inl, inr, IsAmong, IsAmong-append_cases, IsAmong-append_left, IsAmong-append_right, IsTotalOrder, Less, List, Ordering, refl, subst, suc, sym, tied_itself, zero, ℕ, ◌∙◌}
+use Rattle.name_closure.specs.{Chains.{IsChain, IsReached}, DistanceLaws.{HasDistance, IsDecided, some_distance}}
 
 -- the node is a member of the list
 abbrev pub Listed : {N : Type 0} → List N → N → Type 0

@@ -1,10 +1,8 @@
 -- What is loaded for nodes, and the edges to the nodes that are named there. What is loaded for a node is an arbitrary
 -- relation.
 -- Source: this project's own.
-use Rattle.std.proofs.Common.{◌≡◌, ◌⊎◌, All, List}
-use Rattle.std.specs.List.{flat_map}
-use Rattle.std.specs.Map.{keys_of}
-use Rattle.name_closure.specs.Prelude.{IsAmong}
+use Rattle.std.proofs.Common.{◌≡◌, ◌⊎◌}
+use Rattle.name_closure.specs.Prelude.{All, flat_map, IsAmong, keys_of, List}
 
 module _ {N U : Type 0} (is_loaded : N → U → Type 0) where
   -- the second node is named in something that is loaded for the first

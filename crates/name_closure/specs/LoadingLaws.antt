@@ -1,9 +1,6 @@
 -- Loads are put together, with what they name; and there is one load where at most one thing is loaded for each node.
-use Rattle.std.proofs.Common.{[], ◌++◌, ◌↔◌, ◌∙◌, ◌∷◌, ◌≡◌, ◌⊎◌, ap, inl, inr, List, refl, subst}
-use Rattle.std.proofs.lemmas.List.{map-append}
-use Rattle.std.proofs.lemmas.List.Elements.{All-append, All-cons, All-head, All-nil, All-tail}
-use Rattle.std.specs.Map.{keys_of}
-use Rattle.name_closure.specs.Prelude.{IsAmong, IsAmong-append_cases, IsAmong-append_left, IsAmong-append_right}
+use Rattle.std.proofs.Common.{◌++◌, ◌↔◌, ◌∷◌, ◌≡◌, ◌⊎◌}
+use Rattle.name_closure.specs.Prelude.{[], All-append, All-cons, All-head, All-nil, All-tail, ap, inl, inr, IsAmong, IsAmong-append_cases, IsAmong-append_left, IsAmong-append_right, keys_of, List, map-append, refl, subst, ◌∙◌}
 use Rattle.name_closure.specs.Loading.{AreLoaded, AreLoads, AreOthers, LeadsByLoad}
 
 module _ {N U : Type 0} (is_loaded : N → U → Type 0) where

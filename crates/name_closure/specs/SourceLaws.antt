@@ -1,8 +1,7 @@
 -- How the reached nodes depend on the sources and the edges: only on which they are. Sources can be united, and reached
 -- nodes lead to reached nodes.
-use Rattle.std.proofs.Common.{◌↔◌, ◌⊎◌, inl, inr, List, suc, zero, ℕ}
-use Rattle.std.specs.declared.cmp.Ordering.{Ordering}
-use Rattle.name_closure.specs.{Chains.IsChain, Chains.IsClosure, Chains.IsDistance, Chains.IsReached, ClosureLaws.reached_closed, ClosureLaws.reached_least}
+use Rattle.std.proofs.Common.{◌↔◌, ◌⊎◌}
+use Rattle.name_closure.specs.{Chains.{IsChain, IsClosure, IsDistance, IsReached}, ClosureLaws.{reached_closed, reached_least}, Prelude.{inl, inr, List, Ordering, suc, zero, ℕ}}
 
 -- the same nodes are in both sets
 abbrev pub AreSameNodes : {N : Type 0} → (N → Type 0) → (N → Type 0) → Type 0

@@ -1,11 +1,9 @@
 -- How a closure grows when edges are added: what was reached stays reached if no edge is lost, and the new closure is
 -- the old one and what is reached beyond it.
 -- Source: this project's own.
-use Rattle.std.proofs.Common.{◌↔◌, ◌≡◌, ◌⊎◌, Bool, false, inl, inr, IsTrue, List, refl, suc, true, zero, ℕ}
-use Rattle.std.specs.List.Sorted.{IsStrictlySortedBy}
-use Rattle.std.specs.declared.cmp.Ordering.{Ordering}
-use Rattle.name_closure.specs.Prelude.{IsAmong}
-use Rattle.name_closure.specs.{Chains.IsChain, Chains.IsClosure, Chains.IsReached, ClosureLaws.reached_closed, ClosureLaws.reached_least}
+use Rattle.std.proofs.Common.{◌↔◌, ◌≡◌, ◌⊎◌}
+use Rattle.name_closure.specs.Prelude.{Bool, false, inl, inr, IsAmong, IsStrictlySortedBy, IsTrue, List, Ordering, refl, suc, true, zero, ℕ}
+use Rattle.name_closure.specs.{Chains.{IsChain, IsClosure, IsReached}, ClosureLaws.{reached_closed, reached_least}}
 
 module _ {N : Type 0} (starts : N → Type 0) (old new : N → N → Type 0) where
   -- each old edge from a reached node is still there, or ends at a node that is reached anyway, as a source is

@@ -1,10 +1,9 @@
 -- The atomic exchange that adds an event preserves the log's invariant.
+use Rattle.std.proofs.Common.{◌++◌, ◌+◌, ◌<◌, ◌==◌, ◌∷◌, ◌≡◌, ◌≤◌}
 use Rattle.logbook.specs.Pages.{Cell, cell, Goes, keeps, Moves, no_nib, step}
-use Rattle.std.proofs.Common.{[], ◌++◌, ◌+◌, ◌<◌, ◌==◌, ◌∷◌, ◌≡◌, ◌≤◌, ap, append-nil, arith, Bool, false, inl, length, List, None, refl, subst, sym, true, ℕ}
-use Rattle.std.proofs.lemmas.Bool.Decides.{nat_tests}
 use mathlib.Core.List.{IsPrefix}
 use prog.Atomic.{either}
-use Rattle.node_histories.proofs.Prelude.{Adds, all_edits, HistoryEvent, IsKept, IsLegal, IsNext, legal_filled, legal_own, legal_snoc, opening_of, prefix_length, prefix_whole, Replicated, takes_in, takes_in-snoc}
+use Rattle.node_histories.proofs.Prelude.{[], Adds, all_edits, ap, append-nil, arith, Bool, false, HistoryEvent, inl, IsKept, IsLegal, IsNext, legal_filled, legal_own, legal_snoc, length, List, nat_tests, None, opening_of, prefix_length, prefix_whole, refl, Replicated, subst, sym, takes_in, takes_in-snoc, true, ℕ}
 
 abbrev pub shown : List HistoryEvent → List HistoryEvent
 shown log = []

@@ -1,6 +1,6 @@
 -- Requests: events that are to come next.
-use Rattle.std.proofs.Common.{[], ◌++◌, ◌+◌, ◌∙◌, ◌∷◌, ◌≡◌, ap, List, refl, subst, sym, ℕ}
-use Rattle.node_histories.proofs.Prelude.{Absorbed, all_edits, counter_of, Edit, Edited, EntryMap, high_of, high_of-store_of, HistoryEvent, IsLegal, IsNext, join, legal_filled, next_edit, next_version, opening_of, opening_of-snoc, replica_of, Replicated, store_of, store_of-absorbed, store_of-edited, TurnNow, Version, with_edit}
+use Rattle.std.proofs.Common.{◌++◌, ◌+◌, ◌∷◌, ◌≡◌}
+use Rattle.node_histories.proofs.Prelude.{[], Absorbed, all_edits, ap, counter_of, Edit, Edited, EntryMap, high_of, high_of-store_of, HistoryEvent, IsLegal, IsNext, join, legal_filled, List, next_edit, next_version, opening_of, opening_of-snoc, refl, replica_of, Replicated, store_of, store_of-absorbed, store_of-edited, subst, sym, TurnNow, Version, with_edit, ℕ, ◌∙◌}
 
 -- the edit of a request may come next, if its version is the next one of the replica that the history gives
 pub turn_next : (t : TurnNow) (h : List HistoryEvent) (seat : ℕ) (e : Edit) (o : Replicated) → t.seen ≡ h → t.ask ≡ Edited seat e → opening_of h ≡ o → e.version ≡ next_version (replica_of h)

@@ -1,9 +1,8 @@
 -- The invariant of the log that has a history, and what its steps return.
 -- Source: this project's own.
+use Rattle.std.proofs.Common.{◌++◌, ◌==◌, ◌∷◌, ◌≡◌}
 use Rattle.logbook.specs.Pages.{Book, Cell, Named, Step, View}
-use Rattle.std.proofs.Common.{[], ◌++◌, ◌==◌, ◌∷◌, ◌≡◌, List, true, ℕ}
-use Rattle.std.specs.Prelude.{MatchBool}
-use Rattle.node_histories.specs.{declared.events.HistoryEvent.HistoryEvent, Histories.IsLegal, Histories.opening_of, Histories.takes_in}
+use Rattle.node_histories.specs.{declared.events.HistoryEvent.{HistoryEvent}, Histories.{IsLegal, opening_of, takes_in}, Prelude.{[], List, MatchBool, true, ℕ}}
 
 -- the first word is the number of takes of the history, which is valid; a log has two words, of which the second stays
 -- 0

@@ -1,9 +1,8 @@
 -- Codes, by which proofs distinguish histories, and by which facts about them have one proof.
 -- Source: this project's own.
-use Rattle.std.proofs.Common.{[], ◌++◌, ◌∷◌, ◌≡◌, List, refl, ℕ}
-use Rattle.std.specs.Coded.{code_by, Coded, Coded-set, coded_list, coded_ℕ, coded×, le_prop, Unit-prop, ×_prop}
-use Rattle.node_histories.specs.Prelude.{coded_entry, coded_place, coded_replicated, Edit, edits_of, EntryMap, Replicated}
-use Rattle.node_histories.specs.{Books.TurnNow, declared.events.HistoryEvent.HistoryEvent, declared.events.HistoryEvent.TheVariants.Absorbed, declared.events.HistoryEvent.TheVariants.Edited, declared.events.HistoryEvent.TheVariants.Opening, Histories.edits_in, Histories.IsLegal, Histories.IsLegalAfter, Histories.IsNext}
+use Rattle.std.proofs.Common.{◌++◌, ◌∷◌, ◌≡◌}
+use Rattle.node_histories.specs.Prelude.{[], code_by, Coded, Coded-set, coded_entry, coded_list, coded_place, coded_replicated, coded_ℕ, coded×, Edit, edits_of, EntryMap, le_prop, List, refl, Replicated, Unit-prop, ×_prop, ℕ}
+use Rattle.node_histories.specs.{Books.{TurnNow}, declared.events.HistoryEvent.{HistoryEvent, TheVariants.{Absorbed, Edited, Opening}}, Histories.{edits_in, IsLegal, IsLegalAfter, IsNext}}
 use Rattle.std.specs.FinMap as finmap
 use Rattle.node_histories.specs.contracts.events.HistoryEvent as event
 

@@ -1,11 +1,10 @@
 -- Histories of a node: what it opened over, and then its takes.
 -- Source: this project's own, after the updates of Shapiro, Preguica, Baquero, Zawirski 2011; counters after Lamport
 -- 1978.
-use Rattle.std.proofs.Common.{[], ◌++◌, ◌-◌, ◌<◌, ◌==◌, ◌∷◌, ◌≡◌, Bool, false, length, List, ℕ}
-use Rattle.std.specs.Prelude.{count_by}
+use Rattle.std.proofs.Common.{◌++◌, ◌-◌, ◌<◌, ◌==◌, ◌∷◌, ◌≡◌}
 use mathlib.Core.List.{IsPrefix}
-use Rattle.node_histories.specs.Prelude.{changed_places, Edit, edits_of, EntryMap, high_among, IsAmong, Replicated, sum_of}
-use Rattle.node_histories.specs.{declared.events.HistoryEvent.HistoryEvent, declared.events.HistoryEvent.TheVariants.Absorbed, declared.events.HistoryEvent.TheVariants.Edited, declared.events.HistoryEvent.TheVariants.Opening}
+use Rattle.node_histories.specs.Prelude.{[], Bool, changed_places, count_by, Edit, edits_of, EntryMap, false, high_among, IsAmong, length, List, Replicated, sum_of, ℕ}
+use Rattle.node_histories.specs.declared.events.HistoryEvent.{HistoryEvent, TheVariants.{Absorbed, Edited, Opening}}
 use Rattle.std.specs.FinMap as finmap
 
 -- the edits that an event brings

@@ -1,10 +1,9 @@
 -- A history with one more event, and what a valid history says of each of its edits.
 -- Source: this project's own.
-use Rattle.std.proofs.Common.{[], ◌++◌, ◌+◌, ◌<◌, ◌∙◌, ◌∷◌, ◌≡◌, ◌≢◌, ◌≤◌, ap, append-nil, append_assoc, arith, cond, length, length-append, List, refl, subst, sym, ℕ}
-use Rattle.std.proofs.lemmas.List.Sums.{count_by-le-length, sum_by-append}
+use Rattle.std.proofs.Common.{◌++◌, ◌+◌, ◌<◌, ◌∷◌, ◌≡◌, ◌≢◌, ◌≤◌}
 use mathlib.Core.List.{IsPrefix}
-use Rattle.node_histories.specs.Prelude.{counter_among, Edit, edits_of, EntryMap, high_of, high_of-sum_of, IsAmong, join, next_version, Replicated, sum_of, sum_of-append, sum_of-edits_of, sum_of-push, sum_of-same_edits, with_edit}
-use Rattle.node_histories.specs.{declared.events.HistoryEvent.HistoryEvent, declared.events.HistoryEvent.TheVariants.Absorbed, declared.events.HistoryEvent.TheVariants.Edited, declared.events.HistoryEvent.TheVariants.Opening, Histories.all_edits, Histories.counter_of, Histories.edits_in, Histories.is_take_of, Histories.IsAbove, Histories.IsLegal, Histories.IsLegalAfter, Histories.IsNext, Histories.opening_of, Histories.replica_of, Histories.store_of, Histories.takes_in, Histories.takes_of}
+use Rattle.node_histories.specs.Prelude.{[], ap, append-nil, append_assoc, arith, cond, count_by-le-length, counter_among, Edit, edits_of, EntryMap, high_of, high_of-sum_of, IsAmong, join, length, length-append, List, next_version, refl, Replicated, subst, sum_by-append, sum_of, sum_of-append, sum_of-edits_of, sum_of-push, sum_of-same_edits, sym, with_edit, ℕ, ◌∙◌}
+use Rattle.node_histories.specs.{declared.events.HistoryEvent.{HistoryEvent, TheVariants.{Absorbed, Edited, Opening}}, Histories.{all_edits, counter_of, edits_in, is_take_of, IsAbove, IsLegal, IsLegalAfter, IsNext, opening_of, replica_of, store_of, takes_in, takes_of}}
 
 pub all_edits_snoc : (h : List HistoryEvent) (x : HistoryEvent) → all_edits (h ++ x ∷ []) ≡ all_edits h ++ edits_in x
 all_edits_snoc [] x = append-nil (edits_in x)

@@ -1,10 +1,8 @@
 -- In the execution of a history node 0 takes the edits of the history, and holds their sum.
 -- Source: this project's own.
-use Rattle.std.proofs.Common.{[], ◌++◌, ◌==◌, ◌∙◌, ◌∷◌, ◌≡◌, ap, append-nil, append_assoc, arith, Bool, cond, false, filter, length, length-append, List, None, refl, replicate, slice_get, Some, subst, suc, sym, true, zero, ℕ}
-use Rattle.std.proofs.lemmas.Bool.{ne_eqb}
-use Rattle.std.specs.Option.{option_map}
-use Rattle.node_histories.specs.Prelude.{after, Ask, Asked, asked_by, at_places, blank, changed_at, Cut, cut, cut_for, digest_of, Edit, edits_of, edits_with, EntryMap, EventWorld, get-digest_of, get-sum_of, Give, given_to, happens, is_newer, is_wanted, join, Node, Piece, Put, slice_get_last, sum_of, sum_of-append, sum_of-edits_of, taken}
-use Rattle.node_histories.specs.{declared.events.HistoryEvent.HistoryEvent, declared.events.HistoryEvent.TheVariants.Absorbed, declared.events.HistoryEvent.TheVariants.Edited, declared.events.HistoryEvent.TheVariants.Opening, Histories.all_edits, Histories.store_of, HistoryWorlds.brings, HistoryWorlds.double, HistoryWorlds.nodes_of, HistoryWorlds.puts_at, HistoryWorlds.stores_in, HistoryWorlds.world_from, HistoryWorlds.world_of}
+use Rattle.std.proofs.Common.{◌++◌, ◌==◌, ◌∷◌, ◌≡◌}
+use Rattle.node_histories.specs.Prelude.{[], after, ap, append-nil, append_assoc, arith, Ask, Asked, asked_by, at_places, blank, Bool, changed_at, cond, Cut, cut, cut_for, digest_of, Edit, edits_of, edits_with, EntryMap, EventWorld, false, filter, get-digest_of, get-sum_of, Give, given_to, happens, is_newer, is_wanted, join, length, length-append, List, ne_eqb, Node, None, option_map, Piece, Put, refl, replicate, slice_get, slice_get_last, Some, subst, suc, sum_of, sum_of-append, sum_of-edits_of, sym, taken, true, zero, ℕ, ◌∙◌}
+use Rattle.node_histories.specs.{declared.events.HistoryEvent.{HistoryEvent, TheVariants.{Absorbed, Edited, Opening}}, Histories.{all_edits, store_of}, HistoryWorlds.{brings, double, nodes_of, puts_at, stores_in, world_from, world_of}}
 use Rattle.std.specs.FinMap as finmap
 use Rattle.world_law.specs.declared.events.Event as world_events
 

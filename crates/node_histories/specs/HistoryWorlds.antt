@@ -1,8 +1,7 @@
 -- The execution of a history: node 0 does its takes; nodes of its own do all else that is needed.
 -- Source: this project's own, over worlds after Shapiro, Preguica, Baquero, Zawirski 2011.
-use Rattle.std.proofs.Common.{[], ◌++◌, ◌∷◌, List, None, suc, zero, ℕ}
-use Rattle.node_histories.specs.Prelude.{Ask, Cut, Edit, edits_of, EntryMap, Give, Put}
-use Rattle.node_histories.specs.{declared.events.HistoryEvent.HistoryEvent, declared.events.HistoryEvent.TheVariants.Absorbed, declared.events.HistoryEvent.TheVariants.Edited, declared.events.HistoryEvent.TheVariants.Opening}
+use Rattle.std.proofs.Common.{◌++◌, ◌∷◌}
+use Rattle.node_histories.specs.{declared.events.HistoryEvent.{HistoryEvent, TheVariants.{Absorbed, Edited, Opening}}, Prelude.{[], Ask, Cut, Edit, edits_of, EntryMap, Give, List, None, Put, suc, zero, ℕ}}
 use Rattle.world_law.specs.declared.events.Event as world_events
 
 -- twice a number

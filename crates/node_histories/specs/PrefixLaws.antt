@@ -1,7 +1,8 @@
 -- Prefixes of one list.
 -- Source: this project's own.
-use Rattle.std.proofs.Common.{[], ◌++◌, ◌∙◌, ◌∷◌, ◌≡◌, ◌≤◌, ap, append_assoc, arith, length, length-append, List, refl, sym}
+use Rattle.std.proofs.Common.{◌++◌, ◌∷◌, ◌≡◌, ◌≤◌}
 use mathlib.Core.List.{IsPrefix}
+use Rattle.node_histories.specs.Prelude.{[], ap, append_assoc, arith, length, length-append, List, refl, sym, ◌∙◌}
 
 -- each list is a prefix of itself
 pub prefix_self : {A : Type 0} (xs : List A) → IsPrefix xs xs

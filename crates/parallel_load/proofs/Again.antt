@@ -1,10 +1,7 @@
 -- A load whose affected units were read again, where each unit names what it named before.
-use Rattle.std.proofs.Common.{[], ◌<◌, ◌∙◌, ◌∷◌, ◌≡◌, ◌≤◌, ◌⊎◌, All, ap, get_or, inl, inr, length, List, map, refl, subst, suc, sym, ℕ}
-use Rattle.std.proofs.lemmas.List.Elements.{All-cons, All-head, All-nil, All-tail}
-use Rattle.std.specs.List.{flat_map}
-use Rattle.std.specs.Map.{keys_of}
-use Rattle.parallel_load.proofs.Prelude.{AreIndexed, AreLoaded, AreLoadsAgain, AreNamedAlone, AreNames, AreNormalized, AreOwnLinkTargets, AreReadOrLeft, AreRows, AreUniverse, Dependency, DependencyList, DepKind, EntryMap, HasParts, host_view_of, HostViewMap, IsAmong, IsBefore, IsFound, IsKept, IsListed, IsLoad, IsLoadAgain, IsLoadAlone, IsMainIndex, IsMissed, IsNormalizedRow, IsOwnUnit, IsTooLarge, IsUnit, KeepsItsNames, KeepsLinkTargets, keys_length, list_indices, load_indices, LoadedUnit, LoadMap, main, main_name, mains_decide, Name, name_indices, name_lists, name_loads, NameLoad, Normalized, normalized_name, OfAlias, OfUnit, one_viewer, PlaceParts, row_alone, same_names_keep_the_universe, sorted_from, Viewer, with_lists, with_loads, words_keep_visible_names}
-use Rattle.parallel_load.proofs.{Indexing.is_ready, Indexing.IsReady, Indexing.row_normalized, Keeping.get_among, Normalizing.load_is, Normalizing.not_too_large, Normalizing.whole_found, Staying.one_stays, Staying.same_leads, Staying.same_mains, Staying.same_words, Staying.words_stay}
+use Rattle.std.proofs.Common.{◌<◌, ◌∷◌, ◌≡◌, ◌≤◌, ◌⊎◌}
+use Rattle.parallel_load.proofs.Prelude.{[], All, All-cons, All-head, All-nil, All-tail, ap, AreIndexed, AreLoaded, AreLoadsAgain, AreNamedAlone, AreNames, AreNormalized, AreOwnLinkTargets, AreReadOrLeft, AreRows, AreUniverse, Dependency, DependencyList, DepKind, EntryMap, flat_map, get_or, HasParts, host_view_of, HostViewMap, inl, inr, IsAmong, IsBefore, IsFound, IsKept, IsListed, IsLoad, IsLoadAgain, IsLoadAlone, IsMainIndex, IsMissed, IsNormalizedRow, IsOwnUnit, IsTooLarge, IsUnit, KeepsItsNames, KeepsLinkTargets, keys_length, keys_of, length, List, list_indices, load_indices, LoadedUnit, LoadMap, main, main_name, mains_decide, map, Name, name_indices, name_lists, name_loads, NameLoad, Normalized, normalized_name, OfAlias, OfUnit, one_viewer, PlaceParts, refl, row_alone, same_names_keep_the_universe, sorted_from, subst, suc, sym, Viewer, with_lists, with_loads, words_keep_visible_names, ℕ, ◌∙◌}
+use Rattle.parallel_load.proofs.{Indexing.{is_ready, IsReady, row_normalized}, Keeping.{get_among}, Normalizing.{load_is, not_too_large, whole_found}, Staying.{one_stays, same_leads, same_mains, same_words, words_stay}}
 
 -- ---- rows
 

@@ -1,10 +1,7 @@
 -- Each component of a unit's footprint begins as one of its names does.
-use Rattle.std.proofs.Common.{[], ◌++◌, ◌∙◌, ◌∷◌, ◌≡◌, ◌⊎◌, All, ap, append_assoc, codes, drop, false, get_or, inl, inr, List, map, None, Option, refl, Some, subst, sym, true, ℕ}
-use Rattle.std.proofs.lemmas.Bool.{or_left, or_parts, or_right, true≢false}
-use Rattle.std.proofs.lemmas.Option.{none-some, same_Some}
-use Rattle.std.specs.List.{flat_map, list_any}
-use Rattle.parallel_load.proofs.Prelude.{all_among, among_firsts, among_flat_map, among_map, Automount, BeginsWith, contains_from_among, cuts, cuts_are_dashed_prefixes, Device, dirs_with, ending, ends_somewhere, EndsInDash, folders, folders_are_names, folders_of, footprint, HasNoStop, Instance, instance, is_dot, is_empty, is_stop, IsAmong, IsAmong-append_cases, IsDashedPrefix, IsName, IsOfNoType, IsSearchPrefixOf, Kind, listed, made_of_name, Mount, Name, name_dirs, name_with, names_are_their_parts, Path, Plain, prefix, prefixes_may_be_cut, Requires, Scope, Service, Shape, shape, Slice, Socket, suffix, suffix_is_word, Swap, Template, template_at, template_name, template_of, Timer, type_dirs, types_of, unit_folders, Wants, with_prefix, with_template, word}
+use Rattle.std.proofs.Common.{◌++◌, ◌∷◌, ◌≡◌, ◌⊎◌}
 use Rattle.unit_name.specs.declared.kinds.Kind.TheVariants.{Target}
+use Rattle.parallel_load.proofs.Prelude.{[], All, all_among, among_firsts, among_flat_map, among_map, ap, append_assoc, Automount, BeginsWith, codes, contains_from_among, cuts, cuts_are_dashed_prefixes, Device, dirs_with, drop, ending, ends_somewhere, EndsInDash, false, flat_map, folders, folders_are_names, folders_of, footprint, get_or, HasNoStop, inl, inr, Instance, instance, is_dot, is_empty, is_stop, IsAmong, IsAmong-append_cases, IsDashedPrefix, IsName, IsOfNoType, IsSearchPrefixOf, Kind, List, list_any, listed, made_of_name, map, Mount, Name, name_dirs, name_with, names_are_their_parts, None, none-some, Option, or_left, or_parts, or_right, Path, Plain, prefix, prefixes_may_be_cut, refl, Requires, same_Some, Scope, Service, Shape, shape, Slice, Socket, Some, subst, suffix, suffix_is_word, Swap, sym, Template, template_at, template_name, template_of, Timer, true, true≢false, type_dirs, types_of, unit_folders, Wants, with_prefix, with_template, word, ℕ, ◌∙◌}
 
 -- The part is some bytes and a stop after them. The name begins with these bytes and the stop, or with the bytes alone,
 -- which then end in a dash.

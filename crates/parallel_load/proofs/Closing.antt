@@ -1,7 +1,6 @@
 -- What was found from the sources is the universe.
-use Rattle.std.proofs.Common.{◌↔◌, ◌∙◌, ◌≡◌, ◌⊎◌, inl, inr, List, refl, subst, sym}
-use Rattle.std.specs.Map.{keys_of}
-use Rattle.parallel_load.proofs.Prelude.{all_among, among_flat_map, among_from_contains, among_map, AreLoaded, AreUniverse, contains_from_among, DependencyList, DepKind, flat_map_among, HasOver, HostViewMap, IsAmong, IsClosure, IsListed, IsLoadAlone, IsSource, IsTooLarge, LeadsByLoad, LeadsTo, Listed, lists_have_what_is_named, more_reached, Name, name_cmp, named_in, NameLoad, names_in_lists, OfAlias, OfUnit, reached_closed, reached_least}
+use Rattle.std.proofs.Common.{◌↔◌, ◌≡◌, ◌⊎◌}
+use Rattle.parallel_load.proofs.Prelude.{all_among, among_flat_map, among_from_contains, among_map, AreLoaded, AreUniverse, contains_from_among, DependencyList, DepKind, flat_map_among, HasOver, HostViewMap, inl, inr, IsAmong, IsClosure, IsListed, IsLoadAlone, IsSource, IsTooLarge, keys_of, LeadsByLoad, LeadsTo, List, Listed, lists_have_what_is_named, more_reached, Name, name_cmp, named_in, NameLoad, names_in_lists, OfAlias, OfUnit, reached_closed, reached_least, refl, subst, sym, ◌∙◌}
 
 -- a name in one of the lists is listed for a kind
 listed : (lists : List DependencyList) (m : Name) → IsAmong m (names_in_lists lists) → (dep : DepKind) × IsListed lists dep m

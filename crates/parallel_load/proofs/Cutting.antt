@@ -1,10 +1,6 @@
 -- Where the first components of paths are cut: at their first stop.
-use Rattle.std.proofs.Common.{[], ◌++◌, ◌+◌, ◌-◌, ◌<◌, ◌∙◌, ◌∷◌, ◌≡◌, ◌≢◌, ◌≤◌, ◌⊎◌, ap, arith, Bool, cond, drop, false, get_or, inl, inr, length, List, None, not, position, refl, Some, subst, suc, sym, take, true, zero, ℕ, ⊎_elim}
-use Rattle.std.proofs.lemmas.Bool.{cases_Bool, cond-false, cond-true, ltb-false, ltb-true, or_from}
-use Rattle.std.proofs.lemmas.List.{take_all, take_more}
-use Rattle.std.proofs.lemmas.List.Sums.{passes_at_first, split_at_first}
-use Rattle.std.specs.List.{list_any, position_or_len}
-use Rattle.parallel_load.proofs.Prelude.{EndsInDash, HasNoStop, is_stop, IsSearchPrefixOf}
+use Rattle.std.proofs.Common.{◌++◌, ◌+◌, ◌-◌, ◌<◌, ◌∷◌, ◌≡◌, ◌≢◌, ◌≤◌, ◌⊎◌}
+use Rattle.parallel_load.proofs.Prelude.{[], ap, arith, Bool, cases_Bool, cond, cond-false, cond-true, drop, EndsInDash, false, get_or, HasNoStop, inl, inr, is_stop, IsSearchPrefixOf, length, List, list_any, ltb-false, ltb-true, None, not, or_from, passes_at_first, position, position_or_len, refl, Some, split_at_first, subst, suc, sym, take, take_all, take_more, true, zero, ℕ, ⊎_elim, ◌∙◌}
 
 -- no stop is before the first one
 none_before : (xs : List ℕ) → HasNoStop (take (position_or_len is_stop xs) xs)

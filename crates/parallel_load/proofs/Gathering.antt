@@ -1,13 +1,6 @@
 -- How the link targets of names are collected.
-use Rattle.std.proofs.Common.{[], ◌++◌, ◌+◌, ◌↔◌, ◌∙◌, ◌∷◌, ◌≡◌, All, ap, append_assoc, arith, Bool, cond, drop, false, List, map, None, Option, refl, Some, subst, suc, sym, true, ℕ}
-use Rattle.std.proofs.Math.Seq.{drop-cons}
-use Rattle.std.proofs.lemmas.List.{map-append}
-use Rattle.std.proofs.lemmas.List.Elements.{All-cons, All-nil}
-use Rattle.std.proofs.lemmas.Option.{none-some, same_Some}
-use Rattle.std.specs.List.{cons_option}
-use Rattle.std.specs.List.Sorted.{IsStrictlySortedBy}
-use Rattle.std.specs.Map.{keys_of}
-use Rattle.parallel_load.proofs.Prelude.{AreOwnLinkTargets, End, ended_part, HasOwnLinkTargets, HostViewMap, is_null, IsAmong, IsLevel, IsOwnLinkAt, IsShown, level_is, levels, Link, link_targets, Name, name_cmp, NamedWords, Nothing, own_path, OwnLink, Target, target_at, target_in, targets_in, with_own_link_targets, words_of}
+use Rattle.std.proofs.Common.{◌++◌, ◌+◌, ◌↔◌, ◌∷◌, ◌≡◌}
+use Rattle.parallel_load.proofs.Prelude.{[], All, All-cons, All-nil, ap, append_assoc, AreOwnLinkTargets, arith, Bool, cond, cons_option, drop, drop-cons, End, ended_part, false, HasOwnLinkTargets, HostViewMap, is_null, IsAmong, IsLevel, IsOwnLinkAt, IsShown, IsStrictlySortedBy, keys_of, level_is, levels, Link, link_targets, List, map, map-append, Name, name_cmp, NamedWords, None, none-some, Nothing, Option, own_path, OwnLink, refl, same_Some, Some, subst, suc, sym, Target, target_at, target_in, targets_in, true, with_own_link_targets, words_of, ℕ, ◌∙◌}
 
 -- a link to /dev/null ends as a file does
 end_is_end : (o : Option Target) (ts : List Target) → words_of (cons_option o ts) ≡ words_of (cons_option (ended_part o) ts)

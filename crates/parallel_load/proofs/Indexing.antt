@@ -1,15 +1,6 @@
 -- The indices of main names, and the dependencies by them.
-use Rattle.std.proofs.Common.{[], ◌++◌, ◌<◌, ◌∙◌, ◌∷◌, ◌≡◌, ◌≤◌, All, ap, arith, Bool, Err, false, get_or, IfOk, if◌then◌else◌, inl, inr, IsTrue, length, List, map, None, Ok, Option, refl, Result, Some, subst, suc, sym, true, zero, ℕ}
-use Rattle.std.proofs.lemmas.List.Elements.{All-cons, All-nil}
-use Rattle.std.proofs.lemmas.Option.{none-some, same_Some}
-use Rattle.std.specs.Cmp.Lexicographic.{nat_list_cmp_total}
-use Rattle.std.specs.FinMap.{nat_cmp-IsAntisymmetric, slice_cmp-IsAntisymmetric}
-use Rattle.std.specs.FinMap.Entries.{find}
-use Rattle.std.specs.List.{Contains}
-use Rattle.std.specs.Map.{keys_of}
-use Rattle.std.specs.Option.{option_and_then}
-use Rattle.parallel_load.proofs.Prelude.{alias_in, among_filter_map, among_find, among_flat_map, among_from_contains, among_map, AreDependenciesOf, AreDependencyAdjacency, AreIndexed, AreNormalized, at_within, contains_from_among, Dependency, dependency_of, DependencyList, DepKind, find_among, find_at, find_gap, flat_map_among, HasIndex, is_same, IsAmong, IsAt, IsDependencyOf, IsGap, IsIndex, IsKept, IsListed, IsMainIndex, IsNormalizedLoad, IsNormalizedRow, IsUnitAmong, IsWhole, key_at, key_at_place, key_found, keys_length, list_indices, list_normalized, lists_in, load_indices, load_normalized, LoadedUnit, LoadMap, main_name, map_among, Name, name_cmp, name_indices, name_lists, name_loads, name_of, NamedWords, NameLoad, names_in_lists, names_stay, none_there, Normalized, normalized_name, OfAlias, OfUnit, other_index, other_indices, sorted_by_keys, unit_normalized, unit_part, unless_unit, Viewer}
-use Rattle.std.specs.FinMap.Entries.{is_sorted}
+use Rattle.std.{proofs.Common.{if◌then◌else◌, ◌++◌, ◌<◌, ◌∷◌, ◌≡◌, ◌≤◌}, specs.FinMap.Entries.{is_sorted}}
+use Rattle.parallel_load.proofs.Prelude.{[], alias_in, All, All-cons, All-nil, among_filter_map, among_find, among_flat_map, among_from_contains, among_map, ap, AreDependenciesOf, AreDependencyAdjacency, AreIndexed, AreNormalized, arith, at_within, Bool, Contains, contains_from_among, Dependency, dependency_of, DependencyList, DepKind, Err, false, find, find_among, find_at, find_gap, flat_map_among, get_or, HasIndex, IfOk, inl, inr, is_same, IsAmong, IsAt, IsDependencyOf, IsGap, IsIndex, IsKept, IsListed, IsMainIndex, IsNormalizedLoad, IsNormalizedRow, IsTrue, IsUnitAmong, IsWhole, key_at, key_at_place, key_found, keys_length, keys_of, length, List, list_indices, list_normalized, lists_in, load_indices, load_normalized, LoadedUnit, LoadMap, main_name, map, map_among, Name, name_cmp, name_indices, name_lists, name_loads, name_of, NamedWords, NameLoad, names_in_lists, names_stay, nat_cmp-IsAntisymmetric, nat_list_cmp_total, None, none-some, none_there, Normalized, normalized_name, OfAlias, OfUnit, Ok, Option, option_and_then, other_index, other_indices, refl, Result, same_Some, slice_cmp-IsAntisymmetric, Some, sorted_by_keys, subst, suc, sym, true, unit_normalized, unit_part, unless_unit, Viewer, zero, ℕ, ◌∙◌}
 
 -- ---- names with the indices of their main names
 

@@ -1,14 +1,7 @@
 -- Facts about each element of a list, and lists that are compared.
-use Rattle.std.proofs.Common.{[], ◌++◌, ◌+◌, ◌<◌, ◌||◌, ◌↔◌, ◌∙◌, ◌∷◌, ◌≡◌, All, ap, arith, Bool, false, get_or, inl, inr, length, List, refl, subst, suc, sym, take, true, zero, ℕ}
-use Rattle.std.proofs.lemmas.List.{take_more}
-use Rattle.std.proofs.lemmas.List.Elements.{All-append, All-cons, All-nil}
-use Rattle.std.specs.Cmp.Lexicographic.{pointwise}
-use Rattle.std.specs.List.{dedup, list_any}
-use Rattle.std.specs.List.Sorted.{IsStrictlySortedBy}
-use Rattle.std.specs.Ordering.{eq_by_cmp}
-use Rattle.std.specs.Prelude.{IsPermutation, IsSorted}
+use Rattle.std.proofs.Common.{◌++◌, ◌+◌, ◌<◌, ◌||◌, ◌↔◌, ◌∷◌, ◌≡◌}
 use denote.Enum.Bare.{same_true}
-use Rattle.parallel_load.proofs.Prelude.{among_from_contains, contains_from_among, DependencyList, DepKind, first_true, in_byte_order, IsAmong, Name, name_cmp, name_eq-Decides, names_ascend, names_stay, same_by, second_true, sorted_is}
+use Rattle.parallel_load.proofs.Prelude.{[], All, All-append, All-cons, All-nil, among_from_contains, ap, arith, Bool, contains_from_among, dedup, DependencyList, DepKind, eq_by_cmp, false, first_true, get_or, in_byte_order, inl, inr, IsAmong, IsPermutation, IsSorted, IsStrictlySortedBy, length, List, list_any, Name, name_cmp, name_eq-Decides, names_ascend, names_stay, pointwise, refl, same_by, second_true, sorted_is, subst, suc, sym, take, take_more, true, zero, ℕ, ◌∙◌}
 use Rattle.setting_rules.specs.contracts.dependency_lists.DependencyListPartialEq.TheImpl as list_eq
 use Rattle.setting_rules.specs.contracts.kinds.DepKind as kinds
 

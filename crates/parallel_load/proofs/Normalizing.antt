@@ -1,16 +1,7 @@
 -- What was found, after names are replaced by main names, is the load.
-use Rattle.std.proofs.Common.{[], ◌↔◌, ◌∙◌, ◌∷◌, ◌≡◌, ◌≤◌, ap, Bool, cond, Err, false, filter, get_or, IfErr, if◌then◌else◌, inl, inr, IsTrue, length, List, map, None, not, Ok, Option, refl, Result, Some, subst, sym, true, ℕ}
-use Rattle.std.proofs.lemmas.List.{length-map}
-use Rattle.std.proofs.lemmas.List.Elements.{All-cons, All-head, All-nil, All-tail}
-use Rattle.std.specs.Cmp.Lexicographic.{nat_list_cmp_total}
-use Rattle.std.specs.FinMap.Entries.{find}
-use Rattle.std.specs.List.{cons_option}
-use Rattle.std.specs.Map.{keys_of}
-use Rattle.std.specs.Option.{option_and_then}
-use Rattle.std.specs.Result.{IsErrAnd}
-use Rattle.parallel_load.proofs.Prelude.{all_among, among_map, AreIndexed, AreLoaded, AreNamedAlone, AreNormalized, AreOwnLinkTargets, AreUniverse, by_mains, ClosureFault, DependencyList, flat_map_among, HasOver, HostViewMap, in_byte_order, is_same, IsAmong, IsClosure, IsFound, IsLoad, IsLoadAlone, IsNamedAlone, IsNameLoad, IsNormalizedLoad, IsSource, IsTooLarge, IsWhole, key_at, LeadsByLoad, LeadsTo, list_by_mains, list_normalized, Listed, lists_in, load_normalized, LoadedUnit, LoadFault, LoadMap, main, main_name, mains_are_their_own, map_among, Memory, Name, name_cmp, name_lists, name_loads, named_in, NamedWords, NameLoad, names_in_lists, normalized_name, not_over, OfAlias, OfUnit, OnTooMany, other_indices, other_mains, reached_closed, refusal_by_workers, refusal_of, sorted_from, TooMany, unit_normalized, unless_unit, Viewer, viewer_of, WorkersFault}
-use Rattle.parallel_load.proofs.{Closing.step_leads, Closing.too_large, Closing.universe_is, Indexing.indexed_keys, Indexing.normalized_keys, Indexing.place_of}
-use Rattle.std.specs.FinMap.Entries.{is_sorted}
+use Rattle.std.{proofs.Common.{if◌then◌else◌, ◌↔◌, ◌∷◌, ◌≡◌, ◌≤◌}, specs.FinMap.Entries.{is_sorted}}
+use Rattle.parallel_load.proofs.Prelude.{[], All-cons, All-head, All-nil, All-tail, all_among, among_map, ap, AreIndexed, AreLoaded, AreNamedAlone, AreNormalized, AreOwnLinkTargets, AreUniverse, Bool, by_mains, ClosureFault, cond, cons_option, DependencyList, Err, false, filter, find, flat_map_among, get_or, HasOver, HostViewMap, IfErr, in_byte_order, inl, inr, is_same, IsAmong, IsClosure, IsErrAnd, IsFound, IsLoad, IsLoadAlone, IsNamedAlone, IsNameLoad, IsNormalizedLoad, IsSource, IsTooLarge, IsTrue, IsWhole, key_at, keys_of, LeadsByLoad, LeadsTo, length, length-map, List, list_by_mains, list_normalized, Listed, lists_in, load_normalized, LoadedUnit, LoadFault, LoadMap, main, main_name, mains_are_their_own, map, map_among, Memory, Name, name_cmp, name_lists, name_loads, named_in, NamedWords, NameLoad, names_in_lists, nat_list_cmp_total, None, normalized_name, not, not_over, OfAlias, OfUnit, Ok, OnTooMany, Option, option_and_then, other_indices, other_mains, reached_closed, refl, refusal_by_workers, refusal_of, Result, Some, sorted_from, subst, sym, TooMany, true, unit_normalized, unless_unit, Viewer, viewer_of, WorkersFault, ℕ, ◌∙◌}
+use Rattle.parallel_load.proofs.{Closing.{step_leads, too_large, universe_is}, Indexing.{indexed_keys, normalized_keys, place_of}}
 use Rattle.name_closure.specs.Faults as one_thread
 use Rattle.worker_rounds.specs.declared.faults.RoundFault.TheVariants as there
 use Rattle.worker_rounds.specs.Refusals as by_workers

@@ -1,9 +1,6 @@
 -- The results for the parts of a list, put together.
-use Rattle.std.proofs.Common.{[], ◌++◌, ◌<◌, ◌∙◌, ◌∷◌, ◌≡◌, ap, arith, get_or, IfOk, length, List, map, Ok, refl, Result, suc, sym, ℕ}
-use Rattle.std.proofs.lemmas.List.{length-map, map-append}
-use Rattle.std.specs.Global.{Vec}
-use Rattle.std.specs.List.{flat_map}
-use Rattle.parallel_load.proofs.Prelude.{IsJoined}
+use Rattle.std.proofs.Common.{◌++◌, ◌<◌, ◌∷◌, ◌≡◌}
+use Rattle.parallel_load.proofs.Prelude.{[], ap, arith, flat_map, get_or, IfOk, IsJoined, length, length-map, List, map, map-append, Ok, refl, Result, suc, sym, Vec, ℕ, ◌∙◌}
 
 module _ {X Y P E : Type 0} (f : X → Y) (nodes_of : P → List X) where
   maps_are : (pieces : List P) (lists : List (Vec Y)) → length lists ≡ length pieces

@@ -1,12 +1,6 @@
 -- The names at which something is visible, level by level, and those of them that are sources.
-use Rattle.std.proofs.Common.{[], ◌&&◌, ◌++◌, ◌+◌, ◌<◌, ◌↔◌, ◌∙◌, ◌∷◌, ◌≡◌, ◌≢◌, ◌≤◌, ◌⊎◌, ap, arith, Bool, eq-eqb, false, filter, if◌then◌else◌, inl, inr, is_some, IsSome, IsTrue, List, None, not, Option, refl, Some, subst, suc, sym, T, true, zero, ℕ}
-use Rattle.std.proofs.lemmas.Bool.{and_from, and_parts, eqb-true}
-use Rattle.std.proofs.lemmas.Option.{none-some, same_Some}
-use Rattle.std.specs.List.{filter_map}
-use Rattle.std.specs.Map.{keys_of}
-use Rattle.std.specs.Option.{option_and_then}
-use Rattle.std.specs.Str.{bytes_eq}
-use Rattle.parallel_load.proofs.Prelude.{among_filter, among_filter_map, among_find, among_map, AreSourcesBy, Entry, filter_among, filter_map_among, find_among, HostViewMap, Instance, is_in, is_name, is_template, IsAmong, IsAmong-append_cases, IsAmong-append_left, IsAmong-append_right, IsName, IsShown, IsSource, IsVisibleName, map_among, Name, NamedWords, own_path, path_cmp, path_cmp-IsAntisymmetric, path_cmp_total, PathParts, Plain, shape, shown, shown_name, shown_names, Target, Template, UnitShape, view, viewed_at, whole_name}
+use Rattle.std.proofs.Common.{if◌then◌else◌, ◌&&◌, ◌++◌, ◌+◌, ◌<◌, ◌↔◌, ◌∷◌, ◌≡◌, ◌≢◌, ◌≤◌, ◌⊎◌}
+use Rattle.parallel_load.proofs.Prelude.{[], among_filter, among_filter_map, among_find, among_map, and_from, and_parts, ap, AreSourcesBy, arith, Bool, bytes_eq, Entry, eq-eqb, eqb-true, false, filter, filter_among, filter_map, filter_map_among, find_among, HostViewMap, inl, inr, Instance, is_in, is_name, is_some, is_template, IsAmong, IsAmong-append_cases, IsAmong-append_left, IsAmong-append_right, IsName, IsShown, IsSome, IsSource, IsTrue, IsVisibleName, keys_of, List, map_among, Name, NamedWords, None, none-some, not, Option, option_and_then, own_path, path_cmp, path_cmp-IsAntisymmetric, path_cmp_total, PathParts, Plain, refl, same_Some, shape, shown, shown_name, shown_names, Some, subst, suc, sym, T, Target, Template, true, UnitShape, view, viewed_at, whole_name, zero, ℕ, ◌∙◌}
 use Rattle.std.specs.FinMap as finmap
 
 -- ---- what is visible of names

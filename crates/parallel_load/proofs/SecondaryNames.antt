@@ -1,11 +1,6 @@
 -- The list of secondary names is complete, and stays so where units are read again.
-use Rattle.std.proofs.Common.{[], ◌++◌, ◌+◌, ◌<◌, ◌∙◌, ◌∷◌, ◌≡◌, ◌≤◌, ◌⊎◌, All, ap, arith, get_or, inl, inr, length, List, refl, subst, sym, take, ℕ}
-use Rattle.std.proofs.lemmas.Bool.{cases_lt}
-use Rattle.std.proofs.lemmas.List.{take_all, take_more}
-use Rattle.std.proofs.lemmas.List.Elements.{All-append, All-cons, All-nil}
-use Rattle.std.proofs.lemmas.List.Sorted.{Contains-permutation, IsPermutation-sym}
-use Rattle.std.specs.Prelude.{IsPermutation}
-use Rattle.parallel_load.proofs.Prelude.{AddsNames, all_among, among_from_contains, AreReadOrLeft, AreSecondaryNames, contains_from_among, DependencyList, HasSecondaryNames, HasThese, HostViewMap, IsAmong, IsAmong-append_cases, IsAmong-append_left, IsAmong-append_right, IsName, IsOwnUnit, IsReadOrLeft, LoadedUnit, Name, NameLoad, OfAlias, OfUnit, one_list_of_names, unit_normalized}
+use Rattle.std.proofs.Common.{◌++◌, ◌+◌, ◌<◌, ◌∷◌, ◌≡◌, ◌≤◌, ◌⊎◌}
+use Rattle.parallel_load.proofs.Prelude.{[], AddsNames, All, All-append, All-cons, All-nil, all_among, among_from_contains, ap, AreReadOrLeft, AreSecondaryNames, arith, cases_lt, Contains-permutation, contains_from_among, DependencyList, get_or, HasSecondaryNames, HasThese, HostViewMap, inl, inr, IsAmong, IsAmong-append_cases, IsAmong-append_left, IsAmong-append_right, IsName, IsOwnUnit, IsPermutation, IsPermutation-sym, IsReadOrLeft, length, List, LoadedUnit, Name, NameLoad, OfAlias, OfUnit, one_list_of_names, refl, subst, sym, take, take_all, take_more, unit_normalized, ℕ, ◌∙◌}
 use Rattle.parallel_load.proofs.Keeping.{any_at, get_among}
 
 -- ---- one unit's

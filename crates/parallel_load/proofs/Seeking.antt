@@ -1,10 +1,7 @@
 -- The units that have a part in their footprint are found among the names with its prefix.
-use Rattle.std.proofs.Common.{[], ◌++◌, ◌+◌, ◌<◌, ◌∙◌, ◌∷◌, ◌≡◌, ◌≤◌, ◌⊎◌, ap, append-nil, arith, get_or, inl, inr, length, List, refl, subst, sym, take, ℕ}
-use Rattle.std.proofs.lemmas.Bool.{cases_lt}
-use Rattle.std.proofs.lemmas.List.{take_more}
-use Rattle.std.proofs.lemmas.List.Elements.{All-append, All-cons, All-nil}
-use Rattle.parallel_load.proofs.Prelude.{AreAffected, AreAffectedBy, AreNoted, AreOwnersNoted, AreSecondaryNames, AreWithin, BeginsWith, EndsWith, GrowsWithin, HasNoStop, IsAmong, IsAmong-append_cases, IsAmong-append_left, IsAmong-append_right, IsInFootprint, IsNoted, IsOfNoType, IsOfType, IsSearchPrefixOf, Name, NameLoad}
-use Rattle.parallel_load.proofs.{Begins.names_begin, Begins.stopless, Keeping.any_at, Keeping.place_among, TypeParts.names_of_type}
+use Rattle.std.proofs.Common.{◌++◌, ◌+◌, ◌<◌, ◌∷◌, ◌≡◌, ◌≤◌, ◌⊎◌}
+use Rattle.parallel_load.proofs.Prelude.{[], All-append, All-cons, All-nil, ap, append-nil, AreAffected, AreAffectedBy, AreNoted, AreOwnersNoted, AreSecondaryNames, AreWithin, arith, BeginsWith, cases_lt, EndsWith, get_or, GrowsWithin, HasNoStop, inl, inr, IsAmong, IsAmong-append_cases, IsAmong-append_left, IsAmong-append_right, IsInFootprint, IsNoted, IsOfNoType, IsOfType, IsSearchPrefixOf, length, List, Name, NameLoad, refl, subst, sym, take, take_more, ℕ, ◌∙◌}
+use Rattle.parallel_load.proofs.{Begins.{names_begin, stopless}, Keeping.{any_at, place_among}, TypeParts.{names_of_type}}
 
 -- ---- indices that are added
 

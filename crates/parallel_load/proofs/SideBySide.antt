@@ -1,19 +1,6 @@
 -- Names in byte order that begin alike are adjacent.
-use Rattle.std.proofs.Common.{[], ◌++◌, ◌+◌, ◌<◌, ◌||◌, ◌∙◌, ◌∷◌, ◌≡◌, ◌≢◌, ◌≤◌, ◌⊎◌, ap, arith, Bool, drop, false, get_or, inl, inr, IsTrue, length, List, refl, subst, suc, sym, true, zero, ℕ}
-use Rattle.std.proofs.lemmas.Bool.{cases_lt, or_cases, or_left, or_parts, or_right, true≢false}
-use Rattle.std.proofs.lemmas.Bool.Decides.{Decides-eqb}
-use Rattle.std.proofs.lemmas.Cmp.{tied_itself}
-use Rattle.std.proofs.lemmas.Slice.Eq.{starts_is}
-use Rattle.std.specs.Cmp.{nat_cmp_total}
-use Rattle.std.specs.Cmp.Lexicographic.{nat_list_cmp_total}
-use Rattle.std.specs.FinMap.{is_sorted, nat_cmp-IsAntisymmetric, slice_cmp-IsAntisymmetric}
-use Rattle.std.specs.List.Sorted.{IsPartitionedBy, IsPartitionPoint}
-use Rattle.std.specs.Map.{keys_of}
-use Rattle.std.specs.Ordering.{is_lt, nat_cmp, ordering_then}
-use Rattle.std.specs.Prelude.{IsSorted}
-use Rattle.std.specs.declared.cmp.Ordering.{Ordering}
-use Rattle.std.specs.declared.cmp.Ordering.TheVariants.{Equal, Greater, Less}
-use Rattle.parallel_load.proofs.Prelude.{AreWithin, begins_so, BeginsWith, is_less, IsNonDecreasing, key_at_place, keys_ascend, Name, name_cmp, turned}
+use Rattle.std.proofs.Common.{◌++◌, ◌+◌, ◌<◌, ◌||◌, ◌∷◌, ◌≡◌, ◌≢◌, ◌≤◌, ◌⊎◌}
+use Rattle.parallel_load.proofs.Prelude.{[], ap, AreWithin, arith, begins_so, BeginsWith, Bool, cases_lt, Decides-eqb, drop, Equal, false, get_or, Greater, inl, inr, is_less, is_lt, is_sorted, IsNonDecreasing, IsPartitionedBy, IsPartitionPoint, IsSorted, IsTrue, key_at_place, keys_ascend, keys_of, length, Less, List, Name, name_cmp, nat_cmp, nat_cmp-IsAntisymmetric, nat_cmp_total, nat_list_cmp_total, or_cases, or_left, or_parts, or_right, Ordering, ordering_then, refl, slice_cmp-IsAntisymmetric, starts_is, subst, suc, sym, tied_itself, true, true≢false, turned, zero, ℕ, ◌∙◌}
 
 -- ---- names
 

@@ -1,16 +1,6 @@
 -- What stays of a load where some places changed.
-use Rattle.std.proofs.Common.{[], ◌++◌, ◌+◌, ◌<◌, ◌↔◌, ◌∙◌, ◌∷◌, ◌≡◌, ◌≤◌, ◌⊎◌, All, ap, arith, Bool, Bor, false, get_or, inl, inr, is_some, IsTrue, length, List, None, Option, refl, Some, subst, suc, sym, take, true, zero, ℕ}
-use Rattle.std.proofs.lemmas.Bool.{cases_lt}
-use Rattle.std.proofs.lemmas.List.{map-append, take_all, take_more}
-use Rattle.std.proofs.lemmas.List.Elements.{All-append, All-cons, All-head, All-nil, All-tail, All-weaker}
-use Rattle.std.proofs.lemmas.Map.Keys.{below_from_sorted}
-use Rattle.std.specs.FinMap.{is_sorted, nat_cmp-IsAntisymmetric, slice_cmp-IsAntisymmetric}
-use Rattle.std.specs.List.Sorted.{IsStrictlySortedBy}
-use Rattle.std.specs.Map.{keys_of}
-use Rattle.std.specs.Option.{option_copied}
-use Rattle.std.specs.Ordering.{nat_cmp}
-use Rattle.std.specs.Prelude.{IfSome}
-use Rattle.parallel_load.proofs.Prelude.{AddsParts, all_among, alone, AreAffected, AreNamedAlone, AreOwnLinkTargets, AreSourcesBy, AreStill, DependencyList, EntryMap, find_among, find_at, footprint, HasParts, host_view_of, HostViewMap, IsAliasOf, IsAmong, IsAmong-append_left, IsAmong-append_right, IsAt, IsBefore, IsHeldOn, IsLoadAlone, IsMissed, IsNamedAlone, IsSource, IsStill, KeepsLinkTargets, leads_decide_mains, level_for, link_targets_decide, LoadedUnit, LoadMap, main, Name, name_cmp, NamedWords, NameLoad, OfAlias, OfUnit, PlaceParts, SameLeads, SameWords, sorted_by_keys, store_footprints_decide, StoresAgreeIn, touched_words_decide, Viewer, visible_at, with_lists, within, words_again, words_are}
+use Rattle.std.proofs.Common.{◌++◌, ◌+◌, ◌<◌, ◌↔◌, ◌∷◌, ◌≡◌, ◌≤◌, ◌⊎◌}
+use Rattle.parallel_load.proofs.Prelude.{[], AddsParts, All, All-append, All-cons, All-head, All-nil, All-tail, All-weaker, all_among, alone, ap, AreAffected, AreNamedAlone, AreOwnLinkTargets, AreSourcesBy, AreStill, arith, below_from_sorted, Bool, Bor, cases_lt, DependencyList, EntryMap, false, find_among, find_at, footprint, get_or, HasParts, host_view_of, HostViewMap, IfSome, inl, inr, is_some, is_sorted, IsAliasOf, IsAmong, IsAmong-append_left, IsAmong-append_right, IsAt, IsBefore, IsHeldOn, IsLoadAlone, IsMissed, IsNamedAlone, IsSource, IsStill, IsStrictlySortedBy, IsTrue, KeepsLinkTargets, keys_of, leads_decide_mains, length, level_for, link_targets_decide, List, LoadedUnit, LoadMap, main, map-append, Name, name_cmp, NamedWords, NameLoad, nat_cmp, nat_cmp-IsAntisymmetric, None, OfAlias, OfUnit, Option, option_copied, PlaceParts, refl, SameLeads, SameWords, slice_cmp-IsAntisymmetric, Some, sorted_by_keys, store_footprints_decide, StoresAgreeIn, subst, suc, sym, take, take_all, take_more, touched_words_decide, true, Viewer, visible_at, with_lists, within, words_again, words_are, zero, ℕ, ◌∙◌}
 use Rattle.parallel_load.proofs.Keeping.{all_more, any_at, place_among}
 
 -- what is named by the name with an index

@@ -1,9 +1,6 @@
 -- Lists that are made element by element.
-use Rattle.std.proofs.Common.{[], ◌++◌, ◌+◌, ◌<◌, ◌∙◌, ◌∷◌, ◌≡◌, ap, append-nil, append_assoc, get_or, length, List, map, None, Option, refl, Some, sym, take, ℕ}
-use Rattle.std.proofs.lemmas.List.{map-append, take_more}
-use Rattle.std.proofs.lemmas.List.Elements.{filter_map-append}
-use Rattle.std.specs.List.{cons_option, filter_map}
-use Rattle.parallel_load.proofs.Prelude.{Dependency, dependency_of, DepKind, key_at, Name, other_index, other_indices, other_mains}
+use Rattle.std.proofs.Common.{◌++◌, ◌+◌, ◌<◌, ◌∷◌, ◌≡◌}
+use Rattle.parallel_load.proofs.Prelude.{[], ap, append-nil, append_assoc, cons_option, Dependency, dependency_of, DepKind, filter_map, filter_map-append, get_or, key_at, length, List, map, map-append, Name, None, Option, other_index, other_indices, other_mains, refl, Some, sym, take, take_more, ℕ, ◌∙◌}
 
 module _ {X Y : Type 0} (f : X → Option Y) (l : List X) (i : ℕ) (d x : X) (within : i < length l) (is : x ≡ get_or l i d) where
   one_more : filter_map f (take i l) ++ cons_option (f x) [] ≡ filter_map f (take (i + 1) l)

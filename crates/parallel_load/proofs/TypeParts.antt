@@ -1,11 +1,8 @@
 -- A type's drop-in folder is only in the footprints of units that have a name of the type.
-use Rattle.std.proofs.Common.{[], ◌++◌, ◌∙◌, ◌∷◌, ◌≡◌, ◌⊎◌, All, ap, append_assoc, arith, codes, inl, inr, List, map, refl, Some, subst, sym, true, ℕ}
-use Rattle.std.proofs.lemmas.Bool.{or_left, or_right, true≢false}
-use Rattle.std.proofs.lemmas.List.{append_cancel_right}
-use Rattle.std.specs.List.{list_any}
-use Rattle.parallel_load.proofs.Prelude.{all_among, among_firsts, among_map, Automount, Device, dirs_with, ending, EndsWith, folders, folders_are_names, folders_keep_types, footprint, Instance, instance, is_dot, IsAmong, IsAmong-append_cases, IsName, IsOfType, Kind, made_of_name, Mount, Name, name_dirs, name_with, names_are_their_parts, Path, Plain, prefix, Requires, Scope, Service, Shape, shape, Slice, Socket, suffix, suffix_is_word, Swap, Template, template_at, template_name, template_of, Timer, type_dirs, types_of, unit_folders, Wants, with_template, word}
-use Rattle.parallel_load.proofs.Begins.{listed_is}
+use Rattle.std.proofs.Common.{◌++◌, ◌∷◌, ◌≡◌, ◌⊎◌}
 use Rattle.unit_name.specs.declared.kinds.Kind.TheVariants.{Target}
+use Rattle.parallel_load.proofs.Prelude.{[], All, all_among, among_firsts, among_map, ap, append_assoc, append_cancel_right, arith, Automount, codes, Device, dirs_with, ending, EndsWith, folders, folders_are_names, folders_keep_types, footprint, inl, inr, Instance, instance, is_dot, IsAmong, IsAmong-append_cases, IsName, IsOfType, Kind, List, list_any, made_of_name, map, Mount, Name, name_dirs, name_with, names_are_their_parts, or_left, or_right, Path, Plain, prefix, refl, Requires, Scope, Service, Shape, shape, Slice, Socket, Some, subst, suffix, suffix_is_word, Swap, sym, Template, template_at, template_name, template_of, Timer, true, true≢false, type_dirs, types_of, unit_folders, Wants, with_template, word, ℕ, ◌∙◌}
+use Rattle.parallel_load.proofs.Begins.{listed_is}
 
 -- ---- last bytes
 

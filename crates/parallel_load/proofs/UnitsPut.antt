@@ -1,13 +1,7 @@
 -- Names, in which some units replace others.
-use Rattle.std.proofs.Common.{[], ◌++◌, ◌<◌, ◌∙◌, ◌∷◌, ◌≡◌, ◌≢◌, ◌⊎◌, All, ap, arith, Bool, false, get_or, inl, inr, length, List, not, refl, set, Some, subst, suc, sym, true, zero, ℕ}
-use Rattle.std.proofs.lemmas.Bool.{cases_eq}
-use Rattle.std.proofs.lemmas.List.Elements.{All-head, All-tail}
-use Rattle.std.specs.Iterator.{Yields}
-use Rattle.std.specs.Map.{keys_of}
-use Rattle.std.specs.Vec.Iter.{into_iter_items, into_iter_steps}
-use Rattle.std.specs.declared.vec.IntoIter.{IntoIter}
-use Rattle.parallel_load.proofs.Prelude.{AreAffected, AreLoadsAgain, AreReadOrLeft, AreSecondaryNames, AreUnitsOf, DependencyList, EntryMap, HasParts, host_view_of, HostViewMap, IsAmong, IsAmong-append_cases, IsBefore, IsKept, IsLoadAgain, IsReadAgain, IsReadOrLeft, KeepsLinkTargets, LoadMap, Name, NameLoad, patched_load, Patches, PlaceParts, put_load, with_loads}
-use Rattle.parallel_load.proofs.{Again.few_is, Again.kept_again, Again.load_again, Again.one_each, Again.owns, Keeping.any_at, SecondaryNames.second_again, Staying.missed_unless}
+use Rattle.std.proofs.Common.{◌++◌, ◌<◌, ◌∷◌, ◌≡◌, ◌≢◌, ◌⊎◌}
+use Rattle.parallel_load.proofs.Prelude.{[], All, All-head, All-tail, ap, AreAffected, AreLoadsAgain, AreReadOrLeft, AreSecondaryNames, AreUnitsOf, arith, Bool, cases_eq, DependencyList, EntryMap, false, get_or, HasParts, host_view_of, HostViewMap, inl, inr, into_iter_items, into_iter_steps, IntoIter, IsAmong, IsAmong-append_cases, IsBefore, IsKept, IsLoadAgain, IsReadAgain, IsReadOrLeft, KeepsLinkTargets, keys_of, length, List, LoadMap, Name, NameLoad, not, patched_load, Patches, PlaceParts, put_load, refl, set, Some, subst, suc, sym, true, with_loads, Yields, zero, ℕ, ◌∙◌}
+use Rattle.parallel_load.proofs.{Again.{few_is, kept_again, load_again, one_each, owns}, Keeping.{any_at}, SecondaryNames.{second_again}, Staying.{missed_unless}}
 
 -- ---- what is put
 

@@ -1,9 +1,7 @@
 -- Affected units: those whose footprint has the first component of a changed path. Definitions for private clauses.
 -- Source: this project's own.
-use Rattle.std.proofs.Common.{◌<◌, ◌≡◌, ◌≤◌, All, length, List, ℕ}
-use Rattle.std.specs.Prelude.{slice_index_or}
-use Rattle.parallel_load.specs.Prelude.{footprint, IsAmong, LoadedUnit, Name}
-use Rattle.parallel_load.specs.{declared.loaded.NameLoad.NameLoad, declared.loaded.NameLoad.TheVariants.Unit as OfUnit, SearchPrefixes.EndsWith}
+use Rattle.std.proofs.Common.{◌<◌, ◌≡◌, ◌≤◌}
+use Rattle.parallel_load.specs.{declared.loaded.NameLoad.{NameLoad, TheVariants.{Unit as OfUnit}}, Prelude.{All, footprint, IsAmong, length, List, LoadedUnit, Name, slice_index_or, ℕ}, SearchPrefixes.{EndsWith}}
 
 -- the name is a unit's main name, and the part is in that unit's footprint
 pub record IsInFootprint (part : List ℕ) (p : Name × NameLoad) : Type 0 where

@@ -1,9 +1,7 @@
 -- What is loaded for a name, before names are replaced by main names.
 -- Source: this project's own.
-use Rattle.std.proofs.Common.{[], ◌∷◌, ◌≡◌, ◌≢◌, List}
-use Rattle.std.specs.List.{flat_map}
-use Rattle.parallel_load.specs.Prelude.{DependencyList, HostViewMap, IsUnit, main, Name}
-use Rattle.parallel_load.specs.{declared.loaded.NameLoad.NameLoad, declared.loaded.NameLoad.TheVariants.Alias as OfAlias, declared.loaded.NameLoad.TheVariants.Unit as OfUnit}
+use Rattle.std.proofs.Common.{◌∷◌, ◌≡◌, ◌≢◌}
+use Rattle.parallel_load.specs.{declared.loaded.NameLoad.{NameLoad, TheVariants.{Alias as OfAlias, Unit as OfUnit}}, Prelude.{[], DependencyList, flat_map, HostViewMap, IsUnit, List, main, Name}}
 
 -- the name is an alias of this main name
 pub record IsAliasOf (s : HostViewMap) (name of : Name) : Type 0 where

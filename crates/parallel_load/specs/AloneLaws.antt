@@ -1,7 +1,7 @@
 -- At most one thing is loaded for a name.
-use Rattle.std.proofs.Common.{◌∙◌, ◌≡◌, ap, sym}
-use Rattle.parallel_load.specs.Prelude.{HostViewMap, Name, one_unit}
-use Rattle.parallel_load.specs.{Alone.IsLoadAlone, declared.loaded.NameLoad.NameLoad, declared.loaded.NameLoad.TheVariants.Alias as OfAlias, declared.loaded.NameLoad.TheVariants.Unit as OfUnit, declared.loader.UnitLoader.UnitLoader}
+use Rattle.std.proofs.Common.{◌≡◌}
+use Rattle.parallel_load.specs.Prelude.{ap, HostViewMap, Name, one_unit, sym, ◌∙◌}
+use Rattle.parallel_load.specs.{Alone.{IsLoadAlone}, declared.{loaded.NameLoad.{NameLoad, TheVariants.{Alias as OfAlias, Unit as OfUnit}}, loader.UnitLoader.{UnitLoader}}}
 
 pub one_of_name : (s : HostViewMap) (name : Name) (x y : NameLoad) → IsLoadAlone s name x → IsLoadAlone s name y → x ≡ y
 one_of_name s name (OfUnit u) (OfUnit v) p q = ap OfUnit (one_unit s name u v p q)

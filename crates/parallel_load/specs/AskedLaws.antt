@@ -1,8 +1,7 @@
 -- Names that are asked for count only where nothing is visible: lists with the same sources give the same load.
 -- Source: this project's own.
-use Rattle.std.proofs.Common.{◌↔◌, inl, inr, List, refl}
-use Rattle.parallel_load.specs.Prelude.{HostViewMap, IsAmong, Name, name_cmp, same_closure, same_reached}
-use Rattle.parallel_load.specs.{Loads.IsLoad, Loads.LoadMap, Universe.AreUniverse, Universe.IsSource, Universe.IsTooLarge, Universe.LeadsTo}
+use Rattle.std.proofs.Common.{◌↔◌}
+use Rattle.parallel_load.specs.{Loads.{IsLoad, LoadMap}, Prelude.{HostViewMap, inl, inr, IsAmong, List, Name, name_cmp, refl, same_closure, same_reached}, Universe.{AreUniverse, IsSource, IsTooLarge, LeadsTo}}
 
 -- each of these names is visible, or is one of the others
 abbrev pub AreSources : HostViewMap → List Name → List Name → Type 0

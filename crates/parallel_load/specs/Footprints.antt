@@ -1,8 +1,7 @@
 -- Footprints of the units of a load.
 -- Source: this project's own.
-use Rattle.std.proofs.Common.{◌↔◌, ◌≡◌, List, Some, ℕ}
-use Rattle.parallel_load.specs.Prelude.{footprint, IsAmong, LoadedUnit, Name}
-use Rattle.parallel_load.specs.Loads.{LoadMap, unit_in}
+use Rattle.std.proofs.Common.{◌↔◌, ◌≡◌}
+use Rattle.parallel_load.specs.{Loads.{LoadMap, unit_in}, Prelude.{footprint, IsAmong, List, LoadedUnit, Name, Some, ℕ}}
 
 -- these are exactly the components of the footprint of the unit with this main name
 abbrev pub IsFootprintIn : LoadMap → Name → List (List ℕ) → Type 0

@@ -1,10 +1,8 @@
 -- Laws of hosts: where two views have equal alias words and the same units, a load of one is a load of the other, but for its
 -- host; so a host at whose places nothing is visible loads what is loaded without one.
-use Rattle.std.proofs.Common.{[], ◌↔◌, ◌∙◌, ◌∷◌, ◌≡◌, inl, inr, List, None, refl, Some, subst, sym, ℕ}
-use Rattle.std.proofs.lemmas.List.Elements.{All-weaker}
-use Rattle.std.specs.Map.{keys_of}
-use Rattle.parallel_load.specs.Prelude.{DependencyList, EntryMap, Host, host_view_of, hosts_without_places_have_these_units, hosts_without_places_name_alike, HostViewMap, IsUnit, leads_decide_mains, link_targets_decide, LoadedUnit, main, Name, own_path, same_reached, same_sights, SameLeads, SameWords, ShowsNothing, Viewer, viewer_of, views_decide_link_targets}
-use Rattle.parallel_load.specs.{Alone.IsAliasOf, Alone.IsLoadAlone, declared.loaded.NameLoad.NameLoad, declared.loaded.NameLoad.TheVariants.Alias as OfAlias, declared.loaded.NameLoad.TheVariants.Unit as OfUnit, Loads.AreNamedAlone, Loads.IsLoad, Loads.IsLoadedUnit, Loads.IsNameLoad, Loads.LoadMap, Loads.with_lists, OwnWordLaws.words_again, StableLoadLaws.by_mains_same, StableLoadLaws.KeepsItsNames, StableLoadLaws.same_names_keep_the_universe, StableLoadLaws.words_keep_visible_names, Universe.AreUniverse, Universe.IsInUniverse, Universe.IsSource, Universe.IsTooLarge, Universe.LeadsTo, UniverseLaws.mains_have_units}
+use Rattle.std.proofs.Common.{◌↔◌, ◌∷◌, ◌≡◌}
+use Rattle.parallel_load.specs.Prelude.{[], All-weaker, DependencyList, EntryMap, Host, host_view_of, hosts_without_places_have_these_units, hosts_without_places_name_alike, HostViewMap, inl, inr, IsUnit, keys_of, leads_decide_mains, link_targets_decide, List, LoadedUnit, main, Name, None, own_path, refl, same_reached, same_sights, SameLeads, SameWords, ShowsNothing, Some, subst, sym, Viewer, viewer_of, views_decide_link_targets, ℕ, ◌∙◌}
+use Rattle.parallel_load.specs.{Alone.{IsAliasOf, IsLoadAlone}, declared.loaded.NameLoad.{NameLoad, TheVariants.{Alias as OfAlias, Unit as OfUnit}}, Loads.{AreNamedAlone, IsLoad, IsLoadedUnit, IsNameLoad, LoadMap, with_lists}, OwnWordLaws.{words_again}, StableLoadLaws.{by_mains_same, KeepsItsNames, same_names_keep_the_universe, words_keep_visible_names}, Universe.{AreUniverse, IsInUniverse, IsSource, IsTooLarge, LeadsTo}, UniverseLaws.{mains_have_units}}
 
 -- the units of one view are those of the other
 abbrev pub UnitsStay : HostViewMap → HostViewMap → Type 0

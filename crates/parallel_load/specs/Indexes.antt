@@ -1,10 +1,7 @@
 -- Names in byte order, each with an index among them: definitions for private clauses.
 -- Source: this project's own.
-use Rattle.std.proofs.Common.{[], ◌<◌, All, IsTrue, length, List, ℕ}
-use Rattle.std.specs.FinMap.{is_sorted}
-use Rattle.std.specs.Map.{keys_of}
-use Rattle.std.specs.Prelude.{slice_index_or}
-use Rattle.parallel_load.specs.Prelude.{Name, name_cmp}
+use Rattle.std.proofs.Common.{◌<◌}
+use Rattle.parallel_load.specs.Prelude.{[], All, is_sorted, IsTrue, keys_of, length, List, Name, name_cmp, slice_index_or, ℕ}
 
 -- the name at an index
 abbrev pub key_at : List (Name × ℕ) → ℕ → Name

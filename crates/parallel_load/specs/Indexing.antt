@@ -1,9 +1,7 @@
 -- The indices of main names: definitions for private clauses.
 -- Source: this project's own.
-use Rattle.std.proofs.Common.{[], ◌<◌, ◌∷◌, ◌≡◌, length, List, ℕ}
-use Rattle.std.specs.Map.{keys_of}
-use Rattle.parallel_load.specs.Prelude.{IsAmong, Name}
-use Rattle.parallel_load.specs.{declared.loaded.NameLoad.NameLoad, declared.loaded.NameLoad.TheVariants.Alias as OfAlias, declared.loaded.NameLoad.TheVariants.Unit as OfUnit, Indices.name_of}
+use Rattle.std.proofs.Common.{◌<◌, ◌∷◌, ◌≡◌}
+use Rattle.parallel_load.specs.{declared.loaded.NameLoad.{NameLoad, TheVariants.{Alias as OfAlias, Unit as OfUnit}}, Indices.{name_of}, Prelude.{[], IsAmong, keys_of, length, List, Name, ℕ}}
 
 -- ---- the indices of main names
 

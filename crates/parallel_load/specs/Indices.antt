@@ -1,12 +1,8 @@
 -- The names of a load by indices: a name's index is its position in byte order, from 0.
 -- Source: this project's own.
-use Rattle.std.proofs.Common.{[], ◌<◌, ◌≡◌, length, List, Some, ℕ}
-use Rattle.std.specs.FinMap.{find}
-use Rattle.std.specs.Map.{keys_of}
-use Rattle.std.specs.Option.{option_and_then}
-use Rattle.std.specs.Prelude.{slice_index_or}
-use Rattle.parallel_load.specs.Prelude.{DependencyList, DepKind, IsAmong, IsListed, LoadedUnit, Name, name_cmp}
-use Rattle.parallel_load.specs.{declared.loaded.Dependency.Dependency, declared.loaded.NameLoad.NameLoad, Loads.lists_in, Loads.unit_part}
+use Rattle.std.proofs.Common.{◌<◌, ◌≡◌}
+use Rattle.parallel_load.specs.Prelude.{[], DependencyList, DepKind, find, IsAmong, IsListed, keys_of, length, List, LoadedUnit, Name, name_cmp, option_and_then, slice_index_or, Some, ℕ}
+use Rattle.parallel_load.specs.{declared.loaded.{Dependency.{Dependency}, NameLoad.{NameLoad}}, Loads.{lists_in, unit_part}}
 
 -- the name with this index
 abbrev pub name_of : List (Name × NameLoad) → ℕ → Name

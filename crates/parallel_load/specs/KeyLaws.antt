@@ -1,20 +1,6 @@
 -- Pairs in ascending order of keys: the places of keys, and what follows from the keys alone.
-use Rattle.std.proofs.Common.{[], ◌&&◌, ◌<◌, ◌∙◌, ◌∷◌, ◌≡◌, ap, arith, cond, get_or, IsTrue, length, List, refl, Some, suc, sym, zero, ℕ}
-use Rattle.std.proofs.lemmas.Bool.{and_from, and_parts}
-use Rattle.std.proofs.lemmas.Cmp.{tied_itself}
-use Rattle.std.proofs.lemmas.Map.Keys.{sorted_head, sorted_tail}
-use Rattle.std.proofs.lemmas.Option.{none-some}
-use Rattle.std.specs.Cmp.{IsTotalOrder}
-use Rattle.std.specs.FinMap.{IsAntisymmetric}
-use Rattle.std.specs.FinMap.Entries.{below_all}
-use Rattle.std.specs.List.{AllByRecursion}
-use Rattle.std.specs.List.Sorted.{IsStrictlySortedBy}
-use Rattle.std.specs.Map.{keys_of}
-use Rattle.std.specs.Ordering.{is_eq, is_lt}
-use Rattle.std.specs.declared.cmp.Ordering.{Ordering}
-use Rattle.std.specs.declared.cmp.Ordering.TheVariants.{Equal, Greater, Less}
-use Rattle.parallel_load.specs.Prelude.{is_less, IsAt, turned}
-use Rattle.std.specs.FinMap.Entries.{find, is_sorted}
+use Rattle.std.{proofs.Common.{◌&&◌, ◌<◌, ◌∷◌, ◌≡◌}, specs.FinMap.Entries.{find, is_sorted}}
+use Rattle.parallel_load.specs.Prelude.{[], AllByRecursion, and_from, and_parts, ap, arith, below_all, cond, Equal, get_or, Greater, is_eq, is_less, is_lt, IsAntisymmetric, IsAt, IsStrictlySortedBy, IsTotalOrder, IsTrue, keys_of, length, Less, List, none-some, Ordering, refl, Some, sorted_head, sorted_tail, suc, sym, tied_itself, turned, zero, ℕ, ◌∙◌}
 
 -- the key at a place
 pub key_at_place : {K V : Type 0} (es : List (K × V)) (i : ℕ) (d : K × V) (k : K) → i < length es → (get_or es i d).0 ≡ get_or (keys_of es) i k

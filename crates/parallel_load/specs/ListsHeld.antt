@@ -1,9 +1,6 @@
 -- Where a load holds what its units name: definitions for private clauses.
 -- Source: this project's own.
-use Rattle.std.proofs.Common.{[], List}
-use Rattle.std.specs.Coded.{Coded, coded_list}
-use Rattle.parallel_load.specs.Prelude.{DependencyList}
-use Rattle.parallel_load.specs.{declared.kept.ListsHeld.ListsHeld, declared.kept.ListsHeld.TheVariants.Alone, declared.kept.ListsHeld.TheVariants.Nowhere, declared.kept.ListsHeld.TheVariants.Unit as OfUnit}
+use Rattle.parallel_load.specs.{declared.kept.ListsHeld.{ListsHeld, TheVariants.{Alone, Nowhere, Unit as OfUnit}}, Prelude.{[], Coded, coded_list, DependencyList, List}}
 use Rattle.setting_rules.specs.contracts.dependency_lists.DependencyList as list
 
 abbrev pub coded_lists : Coded (List DependencyList)

@@ -1,8 +1,6 @@
 -- Where what is loaded for a name is held: definitions for private clauses.
 -- Source: this project's own.
-use Rattle.std.proofs.Common.{None, Option, Some}
-use Rattle.parallel_load.specs.Prelude.{Name}
-use Rattle.parallel_load.specs.{declared.kept.LoadHeld.LoadHeld, declared.loaded.NameLoad.NameLoad, declared.loaded.NameLoad.TheVariants.Alias as OfAlias, declared.loaded.NameLoad.TheVariants.Unit as OfUnit, Loads.with_lists}
+use Rattle.parallel_load.specs.{declared.{kept.LoadHeld.{LoadHeld}, loaded.NameLoad.{NameLoad, TheVariants.{Alias as OfAlias, Unit as OfUnit}}}, Loads.{with_lists}, Prelude.{Name, None, Option, Some}}
 use Rattle.parallel_load.specs.declared.kept.LoadHeld.TheVariants as held
 
 -- the value that is held

@@ -1,9 +1,7 @@
 -- A store has one load.
-use Rattle.std.proofs.Common.{[], ◌∙◌, ◌∷◌, ◌≡◌, ap, List, refl, subst, sym}
-use Rattle.std.specs.Cmp.Lexicographic.{nat_list_cmp_total}
-use Rattle.std.specs.Map.{keys_of}
-use Rattle.parallel_load.specs.Prelude.{DependencyList, HostViewMap, main, Name, name_cmp, one_closure, one_load_of_nodes, one_unit}
-use Rattle.parallel_load.specs.{AloneLaws.one_of_name, declared.loaded.NameLoad.NameLoad, declared.loaded.NameLoad.TheVariants.Alias as OfAlias, declared.loaded.NameLoad.TheVariants.Unit as OfUnit, Loads.AreNamedAlone, Loads.by_mains, Loads.IsLoad, Loads.IsNamedAlone, Loads.IsNameLoad, Loads.lists_in, Loads.LoadMap, Loads.with_lists, OwnWordLaws.one_list_of_words, Universe.IsSource, Universe.LeadsTo}
+use Rattle.std.proofs.Common.{◌∷◌, ◌≡◌}
+use Rattle.parallel_load.specs.Prelude.{[], ap, DependencyList, HostViewMap, keys_of, List, main, Name, name_cmp, nat_list_cmp_total, one_closure, one_load_of_nodes, one_unit, refl, subst, sym, ◌∙◌}
+use Rattle.parallel_load.specs.{AloneLaws.{one_of_name}, declared.loaded.NameLoad.{NameLoad, TheVariants.{Alias as OfAlias, Unit as OfUnit}}, Loads.{AreNamedAlone, by_mains, IsLoad, IsNamedAlone, IsNameLoad, lists_in, LoadMap, with_lists}, OwnWordLaws.{one_list_of_words}, Universe.{IsSource, LeadsTo}}
 
 -- A store and names that are asked for have one load.
 abbrev pub OneLoad : Type 0

@@ -1,10 +1,8 @@
 -- The rows of a load: what it caches for each name. Definitions for private clauses.
 -- Source: this project's own.
-use Rattle.std.proofs.Common.{[], ◌<◌, ◌∷◌, ◌≡◌, ◌≤◌, ◌⊎◌, All, IsTrue, length, List, ℕ}
-use Rattle.std.specs.FinMap.{is_sorted}
-use Rattle.std.specs.Prelude.{slice_index_or}
-use Rattle.parallel_load.specs.Prelude.{AreNames, DependencyList, HostViewMap, IsAmong, IsUnit, LoadedUnit, main, Name, name_cmp}
-use Rattle.parallel_load.specs.{declared.loaded.Dependency.Dependency, declared.loaded.NameLoad.NameLoad, declared.loaded.NameLoad.TheVariants.Unit as OfUnit, declared.mains.Normalized.Normalized, Indexing.AreIndexed, Indices.AreDependencyAdjacency, Loads.with_lists, Normalized.load_normalized, Normalized.name_indices, Normalized.name_lists, Normalized.name_loads, Normalized.normalized_name, Refreshes.IsMissed}
+use Rattle.std.proofs.Common.{◌<◌, ◌∷◌, ◌≡◌, ◌≤◌, ◌⊎◌}
+use Rattle.parallel_load.specs.Prelude.{[], All, AreNames, DependencyList, HostViewMap, is_sorted, IsAmong, IsTrue, IsUnit, length, List, LoadedUnit, main, Name, name_cmp, slice_index_or, ℕ}
+use Rattle.parallel_load.specs.{declared.{loaded.{Dependency.{Dependency}, NameLoad.{NameLoad, TheVariants.{Unit as OfUnit}}}, mains.Normalized.{Normalized}}, Indexing.{AreIndexed}, Indices.{AreDependencyAdjacency}, Loads.{with_lists}, Normalized.{load_normalized, name_indices, name_lists, name_loads, normalized_name}, Refreshes.{IsMissed}}
 
 -- the row's name with what was loaded for it, before names were replaced by main names
 abbrev pub row_alone : Normalized → Name × NameLoad

@@ -1,11 +1,8 @@
 -- A load made of what the closure found, by the indices of main names: definitions for private clauses.
 -- Source: this project's own.
-use Rattle.std.proofs.Common.{[], ◌≡◌, if◌then◌else◌, List, map, None, Option, Some, ℕ}
-use Rattle.std.specs.FinMap.{find}
-use Rattle.std.specs.List.{filter_map, flat_map}
-use Rattle.std.specs.Option.{option_and_then}
-use Rattle.parallel_load.specs.Prelude.{DependencyList, DepKind, in_byte_order, is_same, IsAmong, LoadedUnit, Name, name_cmp, Viewer}
-use Rattle.parallel_load.specs.{Alone.named_in, declared.loaded.Dependency.Dependency, declared.loaded.NameLoad.NameLoad, declared.loaded.NameLoad.TheVariants.Alias as OfAlias, declared.loaded.NameLoad.TheVariants.Unit as OfUnit, declared.mains.Normalized.Normalized, Indexes.key_at, Indexing.AreIndexed, Loads.lists_in, Loads.LoadMap, OwnLinkTargets.NamedWords}
+use Rattle.std.proofs.Common.{if◌then◌else◌, ◌≡◌}
+use Rattle.parallel_load.specs.Prelude.{[], DependencyList, DepKind, filter_map, find, flat_map, in_byte_order, is_same, IsAmong, List, LoadedUnit, map, Name, name_cmp, None, Option, option_and_then, Some, Viewer, ℕ}
+use Rattle.parallel_load.specs.{Alone.{named_in}, declared.{loaded.{Dependency.{Dependency}, NameLoad.{NameLoad, TheVariants.{Alias as OfAlias, Unit as OfUnit}}}, mains.Normalized.{Normalized}}, Indexes.{key_at}, Indexing.{AreIndexed}, Loads.{lists_in, LoadMap}, OwnLinkTargets.{NamedWords}}
 
 -- ---- dependencies by the indices of main names
 

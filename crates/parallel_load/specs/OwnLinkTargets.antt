@@ -1,11 +1,7 @@
 -- What a load caches of paths of one component: the link targets of each visible name.
 -- Source: this project's own.
-use Rattle.std.proofs.Common.{[], ◌++◌, ◌↔◌, ◌∷◌, ◌≡◌, All, Bool, if◌then◌else◌, List, map, None, Some, unwrap_or, ℕ}
-use Rattle.std.specs.Coded.{Coded, coded_list, coded_option, coded_ℕ, coded×}
-use Rattle.std.specs.FinMap.{find}
-use Rattle.std.specs.List.Sorted.{IsStrictlySortedBy}
-use Rattle.std.specs.Map.{keys_of}
-use Rattle.parallel_load.specs.Prelude.{HostViewMap, IsAmong, IsShown, link_targets, Name, name_cmp, Target}
+use Rattle.std.proofs.Common.{if◌then◌else◌, ◌++◌, ◌↔◌, ◌∷◌, ◌≡◌}
+use Rattle.parallel_load.specs.Prelude.{[], All, Bool, Coded, coded_list, coded_option, coded_ℕ, coded×, find, HostViewMap, IsAmong, IsShown, IsStrictlySortedBy, keys_of, link_targets, List, map, Name, name_cmp, None, Some, Target, unwrap_or, ℕ}
 
 -- names, each with its link targets
 abbrev pub NamedWords : Type 0

@@ -1,15 +1,8 @@
 -- Laws of the link targets that a load caches: a view has one list of them, which has those of every name; the list
 -- stays if the targets stay.
-use Rattle.std.proofs.Common.{[], ◌∙◌, ◌∷◌, ◌≡◌, All, ap, inl, inr, is_some, List, map, None, Option, refl, Some, subst, sym, unwrap_or, ℕ}
-use Rattle.std.proofs.lemmas.List.Elements.{All-head, All-tail, All-weaker}
-use Rattle.std.proofs.lemmas.Option.{none-some}
-use Rattle.std.specs.Cmp.Lexicographic.{nat_list_cmp_total}
-use Rattle.std.specs.FinMap.{find, nat_cmp-IsAntisymmetric, slice_cmp-IsAntisymmetric}
-use Rattle.std.specs.List.{cons_option}
-use Rattle.std.specs.Map.{keys_of}
-use Rattle.std.specs.Option.{option_and_then}
-use Rattle.parallel_load.specs.Prelude.{among_level, among_map, Content, HostViewMap, IsAmong, IsShown, levels, link_targets, link_targets_show, Name, name_cmp, one_ascending_list, own_path, SameWords, Target, target_part, targets_in, viewed_at, words_of}
-use Rattle.parallel_load.specs.{KeyLaws.sorted_from_keys, OwnLinkTargets.AreOwnLinkTargets, OwnLinkTargets.HasOwnLinkTargets, OwnLinkTargets.NamedWords, OwnLinkTargets.words_in, PairLaws.among_find, PairLaws.find_among, UniverseLaws.all_among}
+use Rattle.std.proofs.Common.{◌∷◌, ◌≡◌}
+use Rattle.parallel_load.specs.Prelude.{[], All, All-head, All-tail, All-weaker, among_level, among_map, ap, cons_option, Content, find, HostViewMap, inl, inr, is_some, IsAmong, IsShown, keys_of, levels, link_targets, link_targets_show, List, map, Name, name_cmp, nat_cmp-IsAntisymmetric, nat_list_cmp_total, None, none-some, one_ascending_list, Option, option_and_then, own_path, refl, SameWords, slice_cmp-IsAntisymmetric, Some, subst, sym, Target, target_part, targets_in, unwrap_or, viewed_at, words_of, ℕ, ◌∙◌}
+use Rattle.parallel_load.specs.{KeyLaws.{sorted_from_keys}, OwnLinkTargets.{AreOwnLinkTargets, HasOwnLinkTargets, NamedWords, words_in}, PairLaws.{among_find, find_among}, UniverseLaws.{all_among}}
 
 -- a view has one such list
 abbrev pub OneListOfWords : Type 0

@@ -1,16 +1,6 @@
 -- Sorted pairs: a search for a key finds the value that the list has for it.
-use Rattle.std.proofs.Common.{[], ◌∙◌, ◌∷◌, ◌≡◌, ap, cond, inl, inr, IsTrue, List, refl, Some, sym}
-use Rattle.std.proofs.lemmas.Bool.{and_parts}
-use Rattle.std.proofs.lemmas.Cmp.{tied_itself}
-use Rattle.std.proofs.lemmas.Option.{same_Some}
-use Rattle.std.specs.Cmp.{IsTotalOrder}
-use Rattle.std.specs.FinMap.{IsAntisymmetric}
-use Rattle.std.specs.FinMap.Entries.{below_all}
-use Rattle.std.specs.Ordering.{is_eq}
-use Rattle.std.specs.declared.cmp.Ordering.{Ordering}
-use Rattle.std.specs.declared.cmp.Ordering.TheVariants.{Equal, Greater, Less}
-use Rattle.parallel_load.specs.Prelude.{is_less, IsAmong, turned}
-use Rattle.std.specs.FinMap.Entries.{find, is_sorted}
+use Rattle.std.{proofs.Common.{◌∷◌, ◌≡◌}, specs.FinMap.Entries.{find, is_sorted}}
+use Rattle.parallel_load.specs.Prelude.{[], and_parts, ap, below_all, cond, Equal, Greater, inl, inr, is_eq, is_less, IsAmong, IsAntisymmetric, IsTotalOrder, IsTrue, Less, List, Ordering, refl, same_Some, Some, sym, tied_itself, turned, ◌∙◌}
 
 module _ {K V : Type 0} (R : K → K → Ordering) where
   -- what is found is in the list

@@ -1,10 +1,8 @@
 -- Loads in which some units are replaced.
 -- Source: this project's own.
-use Rattle.std.proofs.Common.{[], ◌<◌, ◌∷◌, ◌≡◌, All, IsTrue, length, List, suc, zero, ℕ}
-use Rattle.std.specs.FinMap.{is_sorted}
-use Rattle.std.specs.Map.{keys_of}
-use Rattle.parallel_load.specs.Prelude.{HostViewMap, Name, name_cmp}
-use Rattle.parallel_load.specs.{declared.loaded.Dependency.Dependency, declared.loaded.NameLoad.NameLoad, declared.loaded.Patches.Patches, declared.refreshing.Refreshed.Refreshed, declared.refreshing.Refreshed.TheVariants.Anew, declared.refreshing.Refreshed.TheVariants.InPlace, Indices.AreDependencyAdjacency, LoadRows.IsKept, Loads.IsLoad, Loads.LoadMap, SecondaryNames.AreSecondaryNames, Universe.IsTooLarge}
+use Rattle.std.proofs.Common.{◌<◌, ◌∷◌, ◌≡◌}
+use Rattle.parallel_load.specs.Prelude.{[], All, HostViewMap, is_sorted, IsTrue, keys_of, length, List, Name, name_cmp, suc, zero, ℕ}
+use Rattle.parallel_load.specs.{declared.{loaded.{Dependency.{Dependency}, NameLoad.{NameLoad}, Patches.{Patches}}, refreshing.Refreshed.{Refreshed, TheVariants.{Anew, InPlace}}}, Indices.{AreDependencyAdjacency}, LoadRows.{IsKept}, Loads.{IsLoad, LoadMap}, SecondaryNames.{AreSecondaryNames}, Universe.{IsTooLarge}}
 
 -- ---- names
 

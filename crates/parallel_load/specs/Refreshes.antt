@@ -1,11 +1,8 @@
 -- When a load can be refreshed, and what stays of it.
 -- Source: this project's own.
-use Rattle.std.proofs.Common.{[], ◌<◌, ◌≡◌, ◌⊎◌, All, IsTrue, length, List, Option, ℕ}
-use Rattle.std.specs.FinMap.{is_sorted}
-use Rattle.std.specs.Map.{keys_of}
-use Rattle.std.specs.Prelude.{IfSome, slice_index_or}
-use Rattle.parallel_load.specs.Prelude.{DependencyList, EntryMap, footprint, host_view_of, HostViewMap, IsAmong, Name, name_cmp, PlaceParts, visible_at}
-use Rattle.parallel_load.specs.{Alone.IsLoadAlone, declared.loaded.NameLoad.NameLoad, declared.loaded.NameLoad.TheVariants.Alias as OfAlias, declared.loaded.NameLoad.TheVariants.Unit as OfUnit, Loads.IsLoad, Loads.LoadMap, Loads.with_lists}
+use Rattle.std.proofs.Common.{◌<◌, ◌≡◌, ◌⊎◌}
+use Rattle.parallel_load.specs.Prelude.{[], All, DependencyList, EntryMap, footprint, host_view_of, HostViewMap, IfSome, is_sorted, IsAmong, IsTrue, keys_of, length, List, Name, name_cmp, Option, PlaceParts, slice_index_or, visible_at, ℕ}
+use Rattle.parallel_load.specs.{Alone.{IsLoadAlone}, declared.loaded.NameLoad.{NameLoad, TheVariants.{Alias as OfAlias, Unit as OfUnit}}, Loads.{IsLoad, LoadMap, with_lists}}
 
 -- The load was made from some store, and these places are all at which that store and this one show different contents.
 pub record IsBefore (load : LoadMap) (now : EntryMap) (touched : List PlaceParts) : Type 0 where

@@ -1,7 +1,6 @@
 -- What a refusal of a load means.
 -- Source: this project's own.
-use Rattle.parallel_load.specs.Prelude.{ClosureFault, refusal_in_rounds, WorkersFault}
-use Rattle.parallel_load.specs.{declared.faults.LoadFault.LoadFault, declared.faults.LoadFault.TheVariants.Memory, declared.faults.LoadFault.TheVariants.TooManyUnits, declared.faults.LoadFault.TheVariants.Workers}
+use Rattle.parallel_load.specs.{declared.faults.LoadFault.{LoadFault, TheVariants.{Memory, TooManyUnits, Workers}}, Prelude.{ClosureFault, refusal_in_rounds, WorkersFault}}
 use Rattle.worker_rounds.specs.declared.faults.RoundFault.TheVariants as workers
 
 -- the refusal of a closure by workers, as one of a load

@@ -1,7 +1,7 @@
 -- Lists that a pairwise test of their elements finds equal.
 -- Source: this project's own.
-use Rattle.std.proofs.Common.{[], ◌&&◌, ◌∙◌, ◌∷◌, ◌≡◌, ap, Bool, false, List, refl, true}
-use Rattle.std.specs.Cmp.Lexicographic.{pointwise}
+use Rattle.std.proofs.Common.{◌&&◌, ◌∷◌, ◌≡◌}
+use Rattle.parallel_load.specs.Prelude.{[], ap, Bool, false, List, pointwise, refl, true, ◌∙◌}
 
 -- the first of two true tests
 pub first_true : (a b : Bool) → (a && b) ≡ true → a ≡ true

@@ -3,11 +3,8 @@
 -- Source: systemd.unit(5), "Description": a name's folders are those of the name, and of the name with its prefix cut
 -- after a dash, and their templates; so a component that is one of these with an ending begins as the name does, as far
 -- as its own first dot or at sign.
-use Rattle.std.proofs.Common.{[], ◌++◌, ◌<◌, ◌==◌, ◌||◌, ◌∷◌, ◌≡◌, ◌≢◌, ◌≤◌, ◌⊎◌, Bool, codes, eqb, false, length, List, true, ℕ}
-use Rattle.std.specs.List.{list_any, starts_with}
-use Rattle.std.specs.Prelude.{slice_index_or}
-use Rattle.std.specs.declared.cmp.Ordering.TheVariants.{Greater}
-use Rattle.parallel_load.specs.Prelude.{is_dot, Name, name_cmp}
+use Rattle.std.proofs.Common.{◌++◌, ◌<◌, ◌==◌, ◌||◌, ◌∷◌, ◌≡◌, ◌≢◌, ◌≤◌, ◌⊎◌}
+use Rattle.parallel_load.specs.Prelude.{[], Bool, codes, eqb, false, Greater, is_dot, length, List, list_any, Name, name_cmp, slice_index_or, starts_with, true, ℕ}
 
 -- a dot or an at sign
 abbrev pub is_stop : ℕ → Bool

@@ -1,9 +1,7 @@
 -- The secondary names of a load's units: definitions for private clauses.
 -- Source: systemd.unit(5), "Description"; the list of them is this project's own.
-use Rattle.std.proofs.Common.{◌<◌, ◌≡◌, ◌⊎◌, All, length, List, ℕ}
-use Rattle.std.specs.Prelude.{slice_index_or}
-use Rattle.parallel_load.specs.Prelude.{IsAmong, IsName, LoadedUnit, Name}
-use Rattle.parallel_load.specs.{declared.loaded.NameLoad.NameLoad, declared.loaded.NameLoad.TheVariants.Unit as OfUnit}
+use Rattle.std.proofs.Common.{◌<◌, ◌≡◌, ◌⊎◌}
+use Rattle.parallel_load.specs.{declared.loaded.NameLoad.{NameLoad, TheVariants.{Unit as OfUnit}}, Prelude.{All, IsAmong, IsName, length, List, LoadedUnit, Name, slice_index_or, ℕ}}
 
 -- each of a unit's names is valid, and is its main name or in this list with its index
 pub record HasSecondaryNames (second : List (Name × ℕ)) (index : ℕ) (name : Name) (names : List Name) : Type 0 where

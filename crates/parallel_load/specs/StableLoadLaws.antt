@@ -1,9 +1,9 @@
 -- What stays of a load. The universe stays if aliases and visible names stay, no unit names anything outside it, and no
 -- unit loses a name but a source. What a name resolves to stays if its unit's footprint shows the same.
 -- Source: this project's own.
-use Rattle.std.proofs.Common.{[], ◌↔◌, ◌∙◌, ◌∷◌, ◌≡◌, ◌⊎◌, ap, filter, inl, inr, List, map, not, refl, subst, sym}
-use Rattle.parallel_load.specs.Prelude.{AgreeIn, AreForOne, closure_stays, DependencyList, DepKind, footprint, footprints_decide, HostViewMap, in_byte_order, is_same, IsListed, IsReached, IsUnit, leads_decide_mains, link_targets_show, lists_have_what_is_named, LoadedUnit, main, Name, name_cmp, reached_closed, same_closure, SameLeads, SameWords}
-use Rattle.parallel_load.specs.{declared.loaded.NameLoad.NameLoad, declared.loaded.NameLoad.TheVariants.Alias as OfAlias, declared.loaded.NameLoad.TheVariants.Unit as OfUnit, Loads.by_mains, Loads.IsNameLoad, Loads.list_by_mains, Universe.AreUniverse, Universe.IsInUniverse, Universe.IsSource, Universe.IsVisibleName, Universe.LeadsTo, Universe.Names}
+use Rattle.std.proofs.Common.{◌↔◌, ◌∷◌, ◌≡◌, ◌⊎◌}
+use Rattle.parallel_load.specs.Prelude.{[], AgreeIn, ap, AreForOne, closure_stays, DependencyList, DepKind, filter, footprint, footprints_decide, HostViewMap, in_byte_order, inl, inr, is_same, IsListed, IsReached, IsUnit, leads_decide_mains, link_targets_show, List, lists_have_what_is_named, LoadedUnit, main, map, Name, name_cmp, not, reached_closed, refl, same_closure, SameLeads, SameWords, subst, sym, ◌∙◌}
+use Rattle.parallel_load.specs.{declared.loaded.NameLoad.{NameLoad, TheVariants.{Alias as OfAlias, Unit as OfUnit}}, Loads.{by_mains, IsNameLoad, list_by_mains}, Universe.{AreUniverse, IsInUniverse, IsSource, IsVisibleName, LeadsTo, Names}}
 
 -- something is visible at the same names
 abbrev pub SameVisibleNames : HostViewMap → HostViewMap → Type 0

@@ -1,12 +1,8 @@
 -- If two stores show the same except at some places, these places alone decide what differs in what a host sees of
 -- both.
 -- Source: this project's own.
-use Rattle.std.proofs.Common.{[], ◌%◌, ◌+◌, ◌==◌, ◌∙◌, ◌∷◌, ◌≡◌, ◌⊎◌, ap, Bool, cond, false, inl, inr, is_some, IsSome, List, None, Option, refl, Some, subst, sym, true, ℕ}
-use Rattle.std.proofs.lemmas.List.Elements.{Contains-get_or}
-use Rattle.std.proofs.lemmas.Slice.Eq.{bytes_eq-Decides}
-use Rattle.std.specs.List.{Contains}
-use Rattle.std.specs.Option.{option_and_then, option_map}
-use Rattle.parallel_load.specs.Prelude.{among_from_contains, EntryMap, Fleet, get-scope_of, get-view, Host, host_view_of, IsAmong, IsLevel, level_for, level_is, levels, link_targets, Name, Own, own_of, own_path, own_scope, path_after, PathMap, PathParts, PlaceParts, SameWords, scope_of, shown, StartsIn, StoresAgreeIn, viewed_at, viewed_place, Viewer, views_decide_link_targets, visible_at}
+use Rattle.std.proofs.Common.{◌%◌, ◌+◌, ◌==◌, ◌∷◌, ◌≡◌, ◌⊎◌}
+use Rattle.parallel_load.specs.Prelude.{[], among_from_contains, ap, Bool, bytes_eq-Decides, cond, Contains, Contains-get_or, EntryMap, false, Fleet, get-scope_of, get-view, Host, host_view_of, inl, inr, is_some, IsAmong, IsLevel, IsSome, level_for, level_is, levels, link_targets, List, Name, None, Option, option_and_then, option_map, Own, own_of, own_path, own_scope, path_after, PathMap, PathParts, PlaceParts, refl, SameWords, scope_of, shown, Some, StartsIn, StoresAgreeIn, subst, sym, true, viewed_at, viewed_place, Viewer, views_decide_link_targets, visible_at, ℕ, ◌∙◌}
 use Rattle.std.specs.FinMap as finmap
 
 -- the stores show the same at every place but these

@@ -1,8 +1,8 @@
 -- The universe of a store: all names that a manager must know, with those that are asked for.
 -- Source: systemd.unit(5), "Description" and "[Unit] Section Options"; that all names of the load path are loaded, and
 -- the limit, are this project's own.
-use Rattle.std.proofs.Common.{◌≡◌, ◌≢◌, ◌⊎◌, IsSome, List, ℕ}
-use Rattle.parallel_load.specs.Prelude.{DepKind, HasOver, HostViewMap, IsAmong, IsClosure, IsLevel, IsName, IsNamed, IsReached, main, Name, name_cmp, own_path, shape, Template, viewed_at}
+use Rattle.std.proofs.Common.{◌≡◌, ◌≢◌, ◌⊎◌}
+use Rattle.parallel_load.specs.Prelude.{DepKind, HasOver, HostViewMap, IsAmong, IsClosure, IsLevel, IsName, IsNamed, IsReached, IsSome, List, main, Name, name_cmp, own_path, shape, Template, viewed_at, ℕ}
 
 -- a unit name, no template, at which something is visible at this level
 pub record IsVisibleAt (s : HostViewMap) (level : ℕ) (n : Name) : Type 0 where

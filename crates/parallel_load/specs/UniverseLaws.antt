@@ -1,16 +1,8 @@
 -- Laws of loads: each name of the universe is there with its main name, and each main name with its unit; what a unit's
 -- dependencies are.
-use Rattle.std.proofs.Common.{[], ◌↔◌, ◌∙◌, ◌∷◌, ◌≡◌, ◌≢◌, All, ap, Bool, false, filter, inl, inr, IsTrue, List, map, None, not, Option, refl, Some, subst, suc, sym, true}
-use Rattle.std.proofs.lemmas.List.Elements.{All-head, All-tail}
-use Rattle.std.specs.Cmp.Lexicographic.{nat_list_cmp_total}
-use Rattle.std.specs.FinMap.{nat_cmp-IsAntisymmetric, slice_cmp-IsAntisymmetric}
-use Rattle.std.specs.List.{Contains}
-use Rattle.std.specs.List.Sorted.{IsStrictlySortedBy}
-use Rattle.std.specs.Map.{keys_of}
-use Rattle.std.specs.Option.{option_and_then, option_map}
-use Rattle.parallel_load.specs.Prelude.{among_filter, among_from_contains, among_map, contains_from_among, DependencyList, DepKind, filter_among, HasSource, HostViewMap, is_same, IsAmong, IsListed, IsNamed, lists_have_what_is_named, LoadedUnit, main, mains_are_their_own, map_among, Name, name_cmp, name_eq-Decides, names_stay}
-use Rattle.parallel_load.specs.{declared.loaded.NameLoad.NameLoad, declared.loaded.NameLoad.TheVariants.Alias as OfAlias, declared.loaded.NameLoad.TheVariants.Unit as OfUnit, KeyLaws.sorted_from_keys, Loads.IsLoad, Loads.IsLoadedUnit, Loads.IsNameLoad, Loads.list_by_mains, Loads.load_at, Loads.LoadMap, Loads.main_in, Loads.main_part, Loads.unit_in, Loads.unit_part, PairLaws.among_find, PairLaws.find_among, Universe.IsInUniverse}
-use Rattle.std.specs.FinMap.Entries.{is_sorted}
+use Rattle.std.{proofs.Common.{◌↔◌, ◌∷◌, ◌≡◌, ◌≢◌}, specs.FinMap.Entries.{is_sorted}}
+use Rattle.parallel_load.specs.Prelude.{[], All, All-head, All-tail, among_filter, among_from_contains, among_map, ap, Bool, Contains, contains_from_among, DependencyList, DepKind, false, filter, filter_among, HasSource, HostViewMap, inl, inr, is_same, IsAmong, IsListed, IsNamed, IsStrictlySortedBy, IsTrue, keys_of, List, lists_have_what_is_named, LoadedUnit, main, mains_are_their_own, map, map_among, Name, name_cmp, name_eq-Decides, names_stay, nat_cmp-IsAntisymmetric, nat_list_cmp_total, None, not, Option, option_and_then, option_map, refl, slice_cmp-IsAntisymmetric, Some, subst, suc, sym, true, ◌∙◌}
+use Rattle.parallel_load.specs.{declared.loaded.NameLoad.{NameLoad, TheVariants.{Alias as OfAlias, Unit as OfUnit}}, KeyLaws.{sorted_from_keys}, Loads.{IsLoad, IsLoadedUnit, IsNameLoad, list_by_mains, load_at, LoadMap, main_in, main_part, unit_in, unit_part}, PairLaws.{among_find, find_among}, Universe.{IsInUniverse}}
 
 -- this is the unit of a main name of the load
 pub record HasUnit (s : HostViewMap) (load : LoadMap) (name : Name) : Type 0 where

@@ -1,9 +1,8 @@
 -- How link targets are found: definitions for private clauses.
 -- Source: this project's own.
-use Rattle.std.proofs.Common.{◌≡◌, if◌then◌else◌, List, None, Option, Some, ℕ}
-use Rattle.std.specs.Option.{option_and_then}
-use Rattle.parallel_load.specs.Prelude.{Content, HostViewMap, is_null, link_targets, Name, own_path, Target, target_part, viewed_at}
-use Rattle.parallel_load.specs.{declared.words.OwnLink.OwnLink, declared.words.OwnLink.TheVariants.End, declared.words.OwnLink.TheVariants.Link, declared.words.OwnLink.TheVariants.Nothing}
+use Rattle.std.proofs.Common.{if◌then◌else◌, ◌≡◌}
+use Rattle.parallel_load.specs.Prelude.{Content, HostViewMap, is_null, link_targets, List, Name, None, Option, option_and_then, own_path, Some, Target, target_part, viewed_at, ℕ}
+use Rattle.parallel_load.specs.declared.words.OwnLink.{OwnLink, TheVariants.{End, Link, Nothing}}
 
 -- the target that this value has, if it has one
 abbrev pub target_in : OwnLink → Option Target

@@ -1,14 +1,6 @@
 -- A join changes the places of greater entries, and adds the places where nothing was held.
-use Rattle.std.proofs.Common.{[], ◌+◌, ◌∙◌, ◌∷◌, ◌≡◌, ◌≤◌, ◌⊎◌, ap, arith, Bool, cond, false, inl, inr, is_some, IsTrue, length, List, map, None, not, Option, refl, Some, sym, true, unwrap_or, ℕ}
-use Rattle.std.proofs.lemmas.Bool.{and_parts}
-use Rattle.std.proofs.lemmas.List.Sums.{count_by-le-length, sum_by-cons}
-use Rattle.std.specs.Cmp.{tied_itself}
-use Rattle.std.specs.FinMap.Entries.{below_all, by_order, find, is_sorted, put}
-use Rattle.std.specs.Ordering.{eq_by_cmp, is_eq, is_gt, is_lt, ordering_reverse}
-use Rattle.std.specs.Prelude.{count_by}
-use Rattle.std.specs.declared.cmp.Ordering.{Ordering}
-use Rattle.std.specs.declared.cmp.Ordering.TheVariants.{Equal, Greater, Less}
-use Rattle.path_maps.proofs.Prelude.{additions, ascends, changed_places, Compared, edit_of, Entry, entry_cmp, entry_cmp_total, EntryMap, find_below, from_T, get-join, get-with_edit, is_ascending, is_less, is_other, join, join-nothing, larger, larger-None, place_cmp, place_cmp-IsAntisymmetric, place_cmp_total, PlaceParts, same_place, same_store, sum_of, sum_of-edits_of, tied, to_T, with_edit, with_edit-of_join}
+use Rattle.std.proofs.Common.{◌+◌, ◌∷◌, ◌≡◌, ◌≤◌, ◌⊎◌}
+use Rattle.path_maps.proofs.Prelude.{[], additions, and_parts, ap, arith, ascends, below_all, Bool, by_order, changed_places, Compared, cond, count_by, count_by-le-length, edit_of, Entry, entry_cmp, entry_cmp_total, EntryMap, eq_by_cmp, Equal, false, find, find_below, from_T, get-join, get-with_edit, Greater, inl, inr, is_ascending, is_eq, is_gt, is_less, is_lt, is_other, is_some, is_sorted, IsTrue, join, join-nothing, larger, larger-None, length, Less, List, map, None, not, Option, Ordering, ordering_reverse, place_cmp, place_cmp-IsAntisymmetric, place_cmp_total, PlaceParts, put, refl, same_place, same_store, Some, sum_by-cons, sum_of, sum_of-edits_of, sym, tied, tied_itself, to_T, true, unwrap_or, with_edit, with_edit-of_join, ℕ, ◌∙◌}
 use Rattle.std.specs.FinMap as finmap
 
 count_cons : {X : Type 0} (p : X → Bool) (x : X) (xs : List X) → count_by p (x ∷ xs) ≡ cond (p x) 1 0 + count_by p xs

@@ -1,17 +1,9 @@
 -- The list of two stores' places is in ascending order and has at each place what both show, so it gives exactly the
 -- places where the stores differ.
-use Rattle.std.proofs.Common.{[], ◌&&◌, ◌↔◌, ◌∙◌, ◌∷◌, ◌≡◌, ◌≢◌, ap, Bool, cond, false, filter, inl, inr, IsTrue, List, map, None, not, Option, refl, Some, subst, sym, true}
-use Rattle.std.proofs.lemmas.Bool.{and_parts}
-use Rattle.std.specs.FinMap.Entries.{below_all, find, is_sorted}
-use Rattle.std.specs.List.{AllByRecursion}
-use Rattle.std.specs.Option.{option_and_then}
-use Rattle.std.specs.Ordering.{eq_by_cmp, is_lt, match_ordering, ordering_reverse}
-use Rattle.std.specs.declared.cmp.Ordering.{Ordering}
-use Rattle.std.specs.declared.cmp.Ordering.TheVariants.{Equal, Greater, Less}
-use Rattle.path_maps.proofs.Prelude.{Content, Contents, differ, differing, Entry, EntryMap, find_below, first_zipped, from_T, is_less, IsAmong, of_both, only_new, only_old, place_cmp, place_cmp-IsAntisymmetric, place_cmp_total, PlaceParts, same_contents, same_contents-itself, same_contents-true, same_place, Shown, shown, tied, together, visible_at}
+use Rattle.std.proofs.Common.{◌&&◌, ◌↔◌, ◌∷◌, ◌≡◌, ◌≢◌}
+use Rattle.path_maps.proofs.Prelude.{[], AllByRecursion, and_parts, ap, below_all, Bool, cond, Content, Contents, differ, differing, Entry, EntryMap, eq_by_cmp, Equal, false, filter, find, find_below, first_zipped, from_T, Greater, inl, inr, is_less, is_lt, is_sorted, IsAmong, IsStrictlySortedBy, IsTrue, Less, List, map, match_ordering, None, not, of_both, only_new, only_old, Option, option_and_then, Ordering, ordering_reverse, place_cmp, place_cmp-IsAntisymmetric, place_cmp_total, PlaceParts, refl, same_contents, same_contents-itself, same_contents-true, same_place, Shown, shown, Some, subst, sym, tied, together, true, visible_at, ◌∙◌}
 use Rattle.path_maps.proofs.Ascends.{found_entry}
 use Rattle.std.specs.FinMap as finmap
-use Rattle.std.specs.List.Sorted.{IsStrictlySortedBy}
 
 abbrev Placed : Type 0
 Placed = PlaceParts × Entry

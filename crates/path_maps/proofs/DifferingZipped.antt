@@ -1,13 +1,8 @@
 -- Entries of a store, side by side with what an older store has at their places. If the older store has no other place,
 -- the places where these differ are all places where the stores differ.
-use Rattle.std.proofs.Common.{[], ◌+◌, ◌↔◌, ◌∙◌, ◌∷◌, ◌≡◌, ◌≢◌, ap, arith, Bool, cond, false, is_some, List, map, None, not, Option, refl, Some, subst, sym, true, unwrap_or}
-use Rattle.std.proofs.lemmas.Bool.{and_parts}
-use Rattle.std.specs.FinMap.Entries.{find}
-use Rattle.std.specs.List.Sorted.{IsStrictlySortedBy}
-use Rattle.std.specs.Option.{option_and_then}
-use Rattle.std.specs.Ordering.{eq_by_cmp}
-use Rattle.path_maps.proofs.Prelude.{additions, below_refl, Contents, differing, edit_of, Entry, EntryMap, from_T, get-join, get-with_edit, IsAmong, IsBelow, IsStoreBelow, join, larger, larger-right, place_cmp, place_cmp_total, PlaceParts, same_contents-itself, Shown, shown, shown_zipped, tied, visible_at, with_edit, zipped}
-use Rattle.path_maps.proofs.{Ascends.found_entry, Ascends.len-join, Differing.AreSorted, Differing.back, Differing.both, Differing.contents_in, Differing.IsAbove, Differing.list_ascends, Differing.list_exact, Differing.none_among, Differing.or_none, Differing.unlike, Sizes.len-below}
+use Rattle.std.proofs.Common.{◌+◌, ◌↔◌, ◌∷◌, ◌≡◌, ◌≢◌}
+use Rattle.path_maps.proofs.Prelude.{[], additions, and_parts, ap, arith, below_refl, Bool, cond, Contents, differing, edit_of, Entry, EntryMap, eq_by_cmp, false, find, from_T, get-join, get-with_edit, is_some, IsAmong, IsBelow, IsStoreBelow, IsStrictlySortedBy, join, larger, larger-right, List, map, None, not, Option, option_and_then, place_cmp, place_cmp_total, PlaceParts, refl, same_contents-itself, Shown, shown, shown_zipped, Some, subst, sym, tied, true, unwrap_or, visible_at, with_edit, zipped, ◌∙◌}
+use Rattle.path_maps.proofs.{Ascends.{found_entry, len-join}, Differing.{AreSorted, back, both, contents_in, IsAbove, list_ascends, list_exact, none_among, or_none, unlike}, Sizes.{len-below}}
 use Rattle.std.specs.FinMap as finmap
 
 module _ (held : PlaceParts → Option Entry) where

@@ -1,10 +1,6 @@
 -- Adding one edit to a store.
-use Rattle.std.proofs.Common.{[], ◌+◌, ◌-◌, ◌^◌, ◌∙◌, ◌∷◌, ◌≡◌, ◌≤◌, ap, arith, Bool, cond, false, IsSome, length, None, Option, refl, Some, subst, sym, true, ℕ}
-use Rattle.std.specs.Cmp.{nat_cmp_total}
-use Rattle.std.specs.Cmp.Lexicographic.{nat_list_cmp_total}
-use Rattle.std.specs.Ordering.{eq_by_cmp, nat_cmp}
-use Rattle.std.specs.Prelude.{max}
-use Rattle.path_maps.proofs.Prelude.{all_held, AreFolders, AreNames, AreRanks, AreScopes, At, bytes_cmp, content_cmp, Edit, Entry, entry_held, entry_of, EntryMap, FoldersBelow, get-sum_of, get-with_edit, held-join, high_of, high_of-join, high_of-sum_of, IsCounted, IsHeld, IsJoin, IsKept, IsPath, IsUpTo, join, larger, NamesBelow, not_least, place_cmp, place_cmp_total, PlaceParts, RanksBelow, same_store, scope_cmp, scope_cmp_total, ScopeMap, ScopesBelow, sum_of, tied, with_edit, with_edit-join}
+use Rattle.std.proofs.Common.{◌+◌, ◌-◌, ◌^◌, ◌∷◌, ◌≡◌, ◌≤◌}
+use Rattle.path_maps.proofs.Prelude.{[], all_held, ap, AreFolders, AreNames, AreRanks, AreScopes, arith, At, Bool, bytes_cmp, cond, content_cmp, Edit, Entry, entry_held, entry_of, EntryMap, eq_by_cmp, false, FoldersBelow, get-sum_of, get-with_edit, held-join, high_of, high_of-join, high_of-sum_of, IsCounted, IsHeld, IsJoin, IsKept, IsPath, IsSome, IsUpTo, join, larger, length, max, NamesBelow, nat_cmp, nat_cmp_total, nat_list_cmp_total, None, not_least, Option, place_cmp, place_cmp_total, PlaceParts, RanksBelow, refl, same_store, scope_cmp, scope_cmp_total, ScopeMap, ScopesBelow, Some, subst, sum_of, sym, tied, true, with_edit, with_edit-join, ℕ, ◌∙◌}
 use Rattle.std.specs.FinMap as finmap
 
 pub nothing_is_empty : all_held [] ≡ finmap.empty

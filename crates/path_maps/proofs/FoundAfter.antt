@@ -1,14 +1,6 @@
 -- What is found among the pairs after smaller keys.
-use Rattle.std.proofs.Common.{[], ◌+◌, ◌-◌, ◌∙◌, ◌∷◌, ◌≡◌, ◌≢◌, add-one, ap, arith, Bool, cond, drop, false, IsTrue, length, List, None, refl, Some, suc, sym, take, true, zero, ℕ}
-use Rattle.std.proofs.lemmas.Bool.{and_parts}
-use Rattle.std.proofs.lemmas.List.{length-drop, take_all}
-use Rattle.std.specs.Cmp.{tied_itself}
-use Rattle.std.specs.Cmp.Lexicographic.{nat_list_cmp_total}
-use Rattle.std.specs.FinMap.{nat_cmp-IsAntisymmetric, slice_cmp-IsAntisymmetric}
-use Rattle.std.specs.FinMap.Entries.{find, is_sorted}
-use Rattle.std.specs.Ordering.{eq_by_cmp, is_eq}
-use Rattle.std.specs.declared.cmp.Ordering.TheVariants.{Equal, Greater, Less}
-use Rattle.path_maps.proofs.Prelude.{bytes_cmp, find_before, is_equal, IsAt, IsGap, turned}
+use Rattle.std.proofs.Common.{◌+◌, ◌-◌, ◌∷◌, ◌≡◌, ◌≢◌}
+use Rattle.path_maps.proofs.Prelude.{[], add-one, and_parts, ap, arith, Bool, bytes_cmp, cond, drop, eq_by_cmp, Equal, false, find, find_before, Greater, is_eq, is_equal, is_sorted, IsAt, IsGap, IsTrue, length, length-drop, Less, List, nat_cmp-IsAntisymmetric, nat_list_cmp_total, None, refl, slice_cmp-IsAntisymmetric, Some, suc, sym, take, take_all, tied_itself, true, turned, zero, ℕ, ◌∙◌}
 
 bytes_same : (x y : List ℕ) → bytes_cmp x y ≡ Equal → x ≡ y
 bytes_same = slice_cmp-IsAntisymmetric nat_cmp-IsAntisymmetric

@@ -1,8 +1,6 @@
 -- What is left after the first name, folder or rank.
-use Rattle.std.proofs.Common.{[], ◌++◌, ◌∙◌, ◌∷◌, ◌≡◌, ◌≢◌, ap, List, refl, subst, sym, ℕ}
-use Rattle.std.proofs.lemmas.List.Concat.{flat_map-append}
-use Rattle.std.specs.List.{flat_map}
-use Rattle.path_maps.proofs.Prelude.{all_listed, AllHeld, AllKeys, AreFolders, AreFoldersLeft, AreNames, AreNamesLeft, AreRanks, AreRanksLeft, At, at_name, by_folder, by_rank, by_scope, Content, content_cmp, Entry, FolderMap, FoldersBelow, in_folder, in_rank, in_scope, IsLeast, IsPath, IsUpTo, listed, NameMap, NamesBelow, Never, never_least, PathParts, placed, PlaceParts, RankMap, RanksBelow, Scope, ScopeMap, Versioned}
+use Rattle.std.proofs.Common.{◌++◌, ◌∷◌, ◌≡◌, ◌≢◌}
+use Rattle.path_maps.proofs.Prelude.{[], all_listed, AllHeld, AllKeys, ap, AreFolders, AreFoldersLeft, AreNames, AreNamesLeft, AreRanks, AreRanksLeft, At, at_name, by_folder, by_rank, by_scope, Content, content_cmp, Entry, flat_map, flat_map-append, FolderMap, FoldersBelow, in_folder, in_rank, in_scope, IsLeast, IsPath, IsUpTo, List, listed, NameMap, NamesBelow, Never, never_least, PathParts, placed, PlaceParts, RankMap, RanksBelow, refl, Scope, ScopeMap, subst, sym, Versioned, ℕ, ◌∙◌}
 use Rattle.path_maps.proofs.Sames.{no_folders, no_names, no_ranks}
 
 pub prefix_keys : {A E : Type 0} (P : A → Type 0) (xs ys : List (A × E)) → AllKeys P (xs ++ ys) → AllKeys P xs

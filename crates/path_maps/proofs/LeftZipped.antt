@@ -1,13 +1,6 @@
 -- What is left of two stores that are read side by side, after the first name, folder or rank.
-use Rattle.std.proofs.Common.{[], ◌++◌, ◌∙◌, ◌∷◌, ◌≡◌, ap, IsTrue, List, Option, refl, Some, subst, sym, ℕ}
-use Rattle.std.proofs.lemmas.Bool.{and_parts}
-use Rattle.std.proofs.lemmas.List.{map-append}
-use Rattle.std.proofs.lemmas.List.Concat.{flat_map-append}
-use Rattle.std.specs.FinMap.Entries.{below_all, find, is_sorted}
-use Rattle.std.specs.List.{flat_map}
-use Rattle.std.specs.Ordering.{nat_cmp}
-use Rattle.std.specs.declared.cmp.Ordering.TheVariants.{Less}
-use Rattle.path_maps.proofs.Prelude.{all_keys-append, all_listed, AllKeys, AreNamesLeft, At, at_name, by_folder_zipped, by_rank_zipped, by_scope_zipped, bytes_cmp, Compared, Content, Entry, FolderMap, folders_zipped, held_in_folders, held_in_names, in_folder, in_rank, in_scope, is_less, IsInFolder, IsInRank, IsInScope, IsPath, listed, look_up, look_up_place, NameMap, names_zipped, Never, of_folder, of_rank, of_scope, or_empty, path_at, PathParts, placed, placed_compared, PlaceParts, RankMap, ranks_of, ranks_zipped, Scope, ScopeMap, scopes_zipped, Versioned, within, written, written_at, zipped}
+use Rattle.std.proofs.Common.{◌++◌, ◌∷◌, ◌≡◌}
+use Rattle.path_maps.proofs.Prelude.{[], all_keys-append, all_listed, AllKeys, and_parts, ap, AreNamesLeft, At, at_name, below_all, by_folder_zipped, by_rank_zipped, by_scope_zipped, bytes_cmp, Compared, Content, Entry, find, flat_map, flat_map-append, FolderMap, folders_zipped, held_in_folders, held_in_names, in_folder, in_rank, in_scope, is_less, is_sorted, IsInFolder, IsInRank, IsInScope, IsPath, IsTrue, Less, List, listed, look_up, look_up_place, map-append, NameMap, names_zipped, nat_cmp, Never, of_folder, of_rank, of_scope, Option, or_empty, path_at, PathParts, placed, placed_compared, PlaceParts, RankMap, ranks_of, ranks_zipped, refl, Scope, ScopeMap, scopes_zipped, Some, subst, sym, Versioned, within, written, written_at, zipped, ℕ, ◌∙◌}
 use Rattle.path_maps.proofs.LeftAfter.{back_keys}
 
 -- Two maps that hold the same at the keys of some entries.

@@ -1,10 +1,6 @@
 -- The list of all entries, and what is held.
-use Rattle.std.proofs.Common.{[], ◌∙◌, ◌∷◌, ◌≡◌, ◌⊎◌, ap, Bool, cond, false, inl, inr, IsSome, List, Option, refl, Some, subst, sym, true, ℕ}
-use Rattle.std.specs.Cmp.{IsTotalOrder, tied_itself}
-use Rattle.std.specs.FinMap.Entries.{find}
-use Rattle.std.specs.Ordering.{eq_by_cmp, is_eq}
-use Rattle.std.specs.declared.cmp.Ordering.{Ordering}
-use Rattle.path_maps.proofs.Prelude.{all_held, all_listed, all_sorted, AllKeys, AreRanks, AreScopes, entries-held, Entry, EntryMap, flat, HasWellFormedPaths, in_scope, IsKept, IsPath, listed, listed_sorted, path_cmp, path_cmp_total, PathParts, place_cmp, place_cmp_total, placed, PlaceParts, RankMap, Scope, ScopeMap, to_T}
+use Rattle.std.proofs.Common.{◌∷◌, ◌≡◌, ◌⊎◌}
+use Rattle.path_maps.proofs.Prelude.{[], all_held, all_listed, all_sorted, AllKeys, ap, AreRanks, AreScopes, Bool, cond, entries-held, Entry, EntryMap, eq_by_cmp, false, find, flat, HasWellFormedPaths, in_scope, inl, inr, is_eq, IsKept, IsPath, IsSome, IsTotalOrder, List, listed, listed_sorted, Option, Ordering, path_cmp, path_cmp_total, PathParts, place_cmp, place_cmp_total, placed, PlaceParts, RankMap, refl, Scope, ScopeMap, Some, subst, sym, tied_itself, to_T, true, ℕ, ◌∙◌}
 use Rattle.path_maps.proofs.LeftAfter.{back_keys, prefix_keys}
 use Rattle.std.specs.FinMap as finmap
 

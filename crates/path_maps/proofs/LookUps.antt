@@ -1,11 +1,6 @@
 -- What nested look-ups find.
-use Rattle.std.proofs.Common.{[], ◌+◌, ◌↔◌, ◌∙◌, ◌∷◌, ◌≡◌, ◌≤◌, ap, arith, Bool, Bor, cond, false, filter, is_some, IsSome, IsTrue, List, MatchOption, None, Option, refl, Some, subst, sym, true, ℕ}
-use Rattle.std.specs.FinMap.Entries.{find}
-use Rattle.std.specs.Int.{from_bool}
-use Rattle.std.specs.Option.{option_map}
-use Rattle.std.specs.Ordering.{eq_by_cmp, nat_cmp}
-use Rattle.std.specs.Prelude.{IfSome}
-use Rattle.path_maps.proofs.Prelude.{all_held, AllHeld, AllKeys, AreFolders, AreNames, AreRanks, AreScopes, AreWellFormed, At, bytes_cmp, Content, content_cmp, entries-flat, Entry, EntryMap, flat, folder-listed, FolderMap, FoldersBelow, found_well_formed, get-flat, get-held, in_folder, is_in, is_none_or, is_none_or-within, IsLeast, IsPath, IsUpTo, listed, look_up, look_up_place, NameMap, names_in, NamesBelow, Never, never_least, or_empty, or_nothing, PathMap, PathParts, PlaceParts, RankMap, ranks_of, scope_cmp, scope_well_formed, ScopeMap, some_keys, Versioned, written, written_at}
+use Rattle.std.proofs.Common.{◌+◌, ◌↔◌, ◌∷◌, ◌≡◌, ◌≤◌}
+use Rattle.path_maps.proofs.Prelude.{[], all_held, AllHeld, AllKeys, ap, AreFolders, AreNames, AreRanks, AreScopes, AreWellFormed, arith, At, Bool, Bor, bytes_cmp, cond, Content, content_cmp, entries-flat, Entry, EntryMap, eq_by_cmp, false, filter, find, flat, folder-listed, FolderMap, FoldersBelow, found_well_formed, from_bool, get-flat, get-held, IfSome, in_folder, is_in, is_none_or, is_none_or-within, is_some, IsLeast, IsPath, IsSome, IsTrue, IsUpTo, List, listed, look_up, look_up_place, MatchOption, NameMap, names_in, NamesBelow, nat_cmp, Never, never_least, None, Option, option_map, or_empty, or_nothing, PathMap, PathParts, PlaceParts, RankMap, ranks_of, refl, scope_cmp, scope_well_formed, ScopeMap, Some, some_keys, subst, sym, true, Versioned, written, written_at, ℕ, ◌∙◌}
 use Rattle.path_maps.proofs.Listed.{paths_listed}
 use Rattle.std.specs.FinMap as finmap
 

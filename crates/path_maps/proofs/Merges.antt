@@ -1,8 +1,7 @@
 -- What a store keeps when another store is joined, fully or in part.
-use Rattle.std.proofs.Common.{◌+◌, ◌-◌, ◌^◌, ◌∙◌, ◌≡◌, ◌≤◌, ◌⊎◌, ap, arith, inl, inr, IsSome, length, Option, subst, sym, ℕ}
-use Rattle.std.specs.Prelude.{max}
-use Rattle.path_maps.proofs.Prelude.{additions, all_held, all_listed, AreScopes, ascends, changed_places, entries-held, Entry, EntryMap, get-join, greatest_counter, HasWellFormedPaths, held-below, held-between, held-join, held-rest, high_of-join, IsBetween, IsCounted, IsJoin, IsKept, IsPartialJoin, IsPath, IsStoreBelow, join, join-least, join-left, join-right, larger, larger_cases, PlaceParts, ScopeMap, ScopesBelow, store_below_antisym, store_below_trans}
-use Rattle.path_maps.proofs.{Ascends.changed-join, Ascends.len-join, Listed.places_well_formed, Sizes.held_above, Sizes.len-below}
+use Rattle.std.proofs.Common.{◌+◌, ◌-◌, ◌^◌, ◌≡◌, ◌≤◌, ◌⊎◌}
+use Rattle.path_maps.proofs.Prelude.{additions, all_held, all_listed, ap, AreScopes, arith, ascends, changed_places, entries-held, Entry, EntryMap, get-join, greatest_counter, HasWellFormedPaths, held-below, held-between, held-join, held-rest, high_of-join, inl, inr, IsBetween, IsCounted, IsJoin, IsKept, IsPartialJoin, IsPath, IsSome, IsStoreBelow, join, join-least, join-left, join-right, larger, larger_cases, length, max, Option, PlaceParts, ScopeMap, ScopesBelow, store_below_antisym, store_below_trans, subst, sym, ℕ, ◌∙◌}
+use Rattle.path_maps.proofs.{Ascends.{changed-join, len-join}, Listed.{places_well_formed}, Sizes.{held_above, len-below}}
 use Rattle.std.specs.FinMap as finmap
 
 -- ---- at the level of stores

@@ -1,9 +1,6 @@
 -- A removal where a content is visible.
-use Rattle.std.proofs.Common.{◌∙◌, ◌≡◌, ap, Bool, is_some, None, not, Option, refl, Some, true}
-use Rattle.std.specs.FinMap.Entries.{find}
-use Rattle.std.specs.Option.{option_and_then}
-use Rattle.std.specs.Ordering.{is_eq, nat_cmp}
-use Rattle.path_maps.proofs.Prelude.{all_held, AreScopes, At, bytes_cmp, Content, content_cmp, Entry, EntryMap, File, FolderMap, Gone, has_other, is_some_and, Link, look_up, look_up_place, NameMap, Never, or_empty, PlaceParts, RankMap, scope_cmp, ScopeMap, shown, Version, Versioned, visible_at, written_at}
+use Rattle.std.proofs.Common.{◌≡◌}
+use Rattle.path_maps.proofs.Prelude.{all_held, ap, AreScopes, At, Bool, bytes_cmp, Content, content_cmp, Entry, EntryMap, File, find, FolderMap, Gone, has_other, is_eq, is_some, is_some_and, Link, look_up, look_up_place, NameMap, nat_cmp, Never, None, not, Option, option_and_then, or_empty, PlaceParts, RankMap, refl, scope_cmp, ScopeMap, shown, Some, true, Version, Versioned, visible_at, written_at, ◌∙◌}
 use Rattle.path_maps.proofs.LookUps.{held_is}
 
 -- What is not a removal is visible.

@@ -1,12 +1,6 @@
 -- Nested maps that hold the same are equal.
-use Rattle.std.proofs.Common.{[], ◌∙◌, ◌≡◌, ap, List, None, Option, Some, subst, sym, ℕ}
-use Rattle.std.specs.Cmp.{nat_cmp_total}
-use Rattle.std.specs.Cmp.Lexicographic.{nat_list_cmp_total}
-use Rattle.std.specs.FinMap.{nat_cmp-IsAntisymmetric, slice_cmp-IsAntisymmetric}
-use Rattle.std.specs.FinMap.Entries.{find}
-use Rattle.std.specs.Ordering.{nat_cmp}
-use Rattle.std.specs.declared.cmp.Ordering.TheVariants.{Equal}
-use Rattle.path_maps.proofs.Prelude.{all_held, AreFolders, AreNames, AreRanks, AreScopes, At, below_refl, both_up, bytes_cmp, Content, content_cmp, content_cmp-IsAntisymmetric, content_cmp_total, EntryMap, FolderMap, folders_chain, folders_itself, FoldersBelow, get-held, IsBelow, IsUpTo, look_up, look_up_place, map_chain, maps_one, NameMap, names_chain, NamesBelow, Never, never_least, OptionBelow, or_empty, PathParts, PlaceParts, RankMap, RanksBelow, scope_cmp, scope_cmp-IsAntisymmetric, scope_cmp_total, ScopeMap, ScopesBelow, Versioned, within, written_at}
+use Rattle.std.proofs.Common.{◌≡◌}
+use Rattle.path_maps.proofs.Prelude.{[], all_held, ap, AreFolders, AreNames, AreRanks, AreScopes, At, below_refl, both_up, bytes_cmp, Content, content_cmp, content_cmp-IsAntisymmetric, content_cmp_total, EntryMap, Equal, find, FolderMap, folders_chain, folders_itself, FoldersBelow, get-held, IsBelow, IsUpTo, List, look_up, look_up_place, map_chain, maps_one, NameMap, names_chain, NamesBelow, nat_cmp, nat_cmp-IsAntisymmetric, nat_cmp_total, nat_list_cmp_total, Never, never_least, None, Option, OptionBelow, or_empty, PathParts, PlaceParts, RankMap, RanksBelow, scope_cmp, scope_cmp-IsAntisymmetric, scope_cmp_total, ScopeMap, ScopesBelow, slice_cmp-IsAntisymmetric, Some, subst, sym, Versioned, within, written_at, ℕ, ◌∙◌}
 use Rattle.std.specs.FinMap as finmap
 
 bytes_same : (x y : List ℕ) → bytes_cmp x y ≡ Equal → x ≡ y

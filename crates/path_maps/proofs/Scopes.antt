@@ -1,6 +1,6 @@
 -- What a scope has is what the store holds there.
-use Rattle.std.proofs.Common.{◌∙◌, ◌≡◌, ap, IsSome, Option, subst, sym, ℕ}
-use Rattle.path_maps.proofs.Prelude.{all_held, AreScopes, AreWellFormed, Entry, EntryMap, flat, get-flat, get-held, get-scope_of, IsKept, path_cmp-IsAntisymmetric, path_cmp_total, PathMap, PlaceParts, ranks_of, Scope, scope_of, scope_well_formed, ScopeMap, within}
+use Rattle.std.proofs.Common.{◌≡◌}
+use Rattle.path_maps.proofs.Prelude.{all_held, ap, AreScopes, AreWellFormed, Entry, EntryMap, flat, get-flat, get-held, get-scope_of, IsKept, IsSome, Option, path_cmp-IsAntisymmetric, path_cmp_total, PathMap, PlaceParts, ranks_of, Scope, scope_of, scope_well_formed, ScopeMap, subst, sym, within, ℕ, ◌∙◌}
 use Rattle.std.specs.FinMap as finmap
 
 pub scope_viewed : (m : ScopeMap) → AreScopes m → (s : EntryMap) → all_held m ≡ s → (scope : Scope) → flat (ranks_of m scope) ≡ scope_of s scope

@@ -1,13 +1,6 @@
 -- What a binary search by bytes finds among sorted pairs.
-use Rattle.std.proofs.Common.{[], ◌<◌, ◌∙◌, ◌∷◌, ◌≡◌, ap, Err, get_or, IfErr, IfOk, IsTrue, length, List, None, Ok, refl, Result, slice_get, Some, suc, sym, zero, ℕ}
-use Rattle.std.proofs.lemmas.List.{get_or_default}
-use Rattle.std.specs.Cmp.{tied_itself}
-use Rattle.std.specs.Cmp.Lexicographic.{nat_list_cmp_total}
-use Rattle.std.specs.FinMap.{nat_cmp-IsAntisymmetric, slice_cmp-IsAntisymmetric}
-use Rattle.std.specs.FinMap.Entries.{find, is_sorted}
-use Rattle.std.specs.List.Sorted.{IsBinarySearchResult, IsSearchInRange}
-use Rattle.std.specs.declared.cmp.Ordering.TheVariants.{Equal}
-use Rattle.path_maps.proofs.Prelude.{bytes_cmp, find_at, find_gap, IsAt, IsFoundAt, IsPlaceOf, RankMap, Scope, scope_cmp, scope_cmp_total, ScopeMap, search_finds}
+use Rattle.std.proofs.Common.{◌<◌, ◌∷◌, ◌≡◌}
+use Rattle.path_maps.proofs.Prelude.{[], ap, bytes_cmp, Equal, Err, find, find_at, find_gap, get_or, get_or_default, IfErr, IfOk, is_sorted, IsAt, IsBinarySearchResult, IsFoundAt, IsPlaceOf, IsSearchInRange, IsTrue, length, List, nat_cmp-IsAntisymmetric, nat_list_cmp_total, None, Ok, RankMap, refl, Result, Scope, scope_cmp, scope_cmp_total, ScopeMap, search_finds, slice_cmp-IsAntisymmetric, slice_get, Some, suc, sym, tied_itself, zero, ℕ, ◌∙◌}
 
 module _ {V : Type 0} (k : List ℕ) where
   tied_at : (es : List (List ℕ × V)) (i : ℕ) (d : List ℕ × V) → IsAt bytes_cmp k es i → bytes_cmp k (get_or es i d).0 ≡ Equal

@@ -1,7 +1,6 @@
 -- A store of one entry consists of maps with one pair each.
-use Rattle.std.proofs.Common.{[], ◌++◌, ◌∙◌, ◌∷◌, ◌≡◌, ◌≢◌, ◌≤◌, ap, arith, length, length-append, List, refl, sym, ℕ}
-use Rattle.std.proofs.lemmas.List.{length-map}
-use Rattle.path_maps.proofs.Prelude.{all_held, AllHeld, AreFolders, AreNames, AreRanks, AreScopes, at_name, content_cmp, entries-held, EntryMap, FolderMap, FoldersBelow, in_folder, in_rank, in_scope, IsLeast, IsSinglePair, IsUpTo, listed, NameMap, NamesBelow, RankMap, RanksBelow, Scope, ScopeMap, spread}
+use Rattle.std.proofs.Common.{◌++◌, ◌∷◌, ◌≡◌, ◌≢◌, ◌≤◌}
+use Rattle.path_maps.proofs.Prelude.{[], all_held, AllHeld, ap, AreFolders, AreNames, AreRanks, AreScopes, arith, at_name, content_cmp, entries-held, EntryMap, FolderMap, FoldersBelow, in_folder, in_rank, in_scope, IsLeast, IsSinglePair, IsUpTo, length, length-append, length-map, List, listed, NameMap, NamesBelow, RankMap, RanksBelow, refl, Scope, ScopeMap, spread, sym, ℕ, ◌∙◌}
 use Rattle.path_maps.proofs.LeftAfter.{at_name_some, in_folder_some, in_rank_some, in_scope_some}
 use Rattle.std.specs.FinMap as finmap
 

@@ -1,11 +1,6 @@
 -- A store that is below another holds no more places.
-use Rattle.std.proofs.Common.{[], ◌&&◌, ◌∙◌, ◌∷◌, ◌≡◌, ◌≤◌, ap, arith, Bool, cond, false, IsSome, IsTrue, length, List, None, Option, refl, Some, subst, sym, true}
-use Rattle.std.proofs.lemmas.Bool.{and_parts}
-use Rattle.std.specs.FinMap.Entries.{below_all, find, is_sorted}
-use Rattle.std.specs.Ordering.{eq_by_cmp, is_eq, is_lt, ordering_reverse}
-use Rattle.std.specs.declared.cmp.Ordering.{Ordering}
-use Rattle.std.specs.declared.cmp.Ordering.TheVariants.{Equal, Greater, Less}
-use Rattle.path_maps.proofs.Prelude.{Entry, EntryMap, find_below, from_T, is_less, IsBelow, IsStoreBelow, place_cmp, place_cmp_total, PlaceParts, same_place, tied}
+use Rattle.std.proofs.Common.{◌&&◌, ◌∷◌, ◌≡◌, ◌≤◌}
+use Rattle.path_maps.proofs.Prelude.{[], and_parts, ap, arith, below_all, Bool, cond, Entry, EntryMap, eq_by_cmp, Equal, false, find, find_below, from_T, Greater, is_eq, is_less, is_lt, is_sorted, IsBelow, IsSome, IsStoreBelow, IsTrue, length, Less, List, None, Option, Ordering, ordering_reverse, place_cmp, place_cmp_total, PlaceParts, refl, same_place, Some, subst, sym, tied, true, ◌∙◌}
 use Rattle.path_maps.proofs.Ascends.{found_entry}
 use Rattle.std.specs.FinMap as finmap
 

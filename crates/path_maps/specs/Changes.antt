@@ -1,9 +1,6 @@
 -- How many places the entries of another store change, and at how many of them nothing was held.
 -- Source: this project's own.
-use Rattle.std.proofs.Common.{Bool, is_some, List, None, not, Option, Some, true, ℕ}
-use Rattle.std.specs.Ordering.{is_lt}
-use Rattle.std.specs.Prelude.{count_by}
-use Rattle.path_maps.specs.Prelude.{Entry, entry_cmp, EntryMap, PlaceParts}
+use Rattle.path_maps.specs.Prelude.{Bool, count_by, Entry, entry_cmp, EntryMap, is_lt, is_some, List, None, not, Option, PlaceParts, Some, true, ℕ}
 use Rattle.std.specs.FinMap as finmap
 
 -- The entry is greater than what is held there, or nothing is held there.

@@ -1,9 +1,8 @@
 -- The state of a cursor over nested maps: what is left is in order, and its paths are valid.
 -- Source: this project's own.
-use Rattle.std.proofs.Common.{[], ◌++◌, List, map, None, Option, Some, ℕ}
-use Rattle.std.specs.List.{flat_map}
-use Rattle.path_maps.specs.Prelude.{AllHeld, content_cmp, Entry, IsPath, IsUpTo, PathParts, PlaceParts}
-use Rattle.path_maps.specs.{PathMaps.AreFolders, PathMaps.AreNames, PathMaps.FolderMap, PathMaps.FoldersBelow, PathMaps.in_folder, PathMaps.in_rank, PathMaps.listed, PathMaps.NameMap, PathMaps.NamesBelow, PathMaps.RankMap, PlaceMaps.in_scope, PlaceMaps.ScopeMap, Spread.AllKeys}
+use Rattle.std.proofs.Common.{◌++◌}
+use Rattle.path_maps.specs.Prelude.{[], AllHeld, content_cmp, Entry, flat_map, IsPath, IsUpTo, List, map, None, Option, PathParts, PlaceParts, Some, ℕ}
+use Rattle.path_maps.specs.{PathMaps.{AreFolders, AreNames, FolderMap, FoldersBelow, in_folder, in_rank, listed, NameMap, NamesBelow, RankMap}, PlaceMaps.{in_scope, ScopeMap}, Spread.{AllKeys}}
 
 -- Names, folders and ranks that are left: none of them is empty, and all paths are valid.
 pub record AreNamesLeft (rank : ℕ) (folder : List ℕ) (names : NameMap) : Type 0 where

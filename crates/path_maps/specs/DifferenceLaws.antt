@@ -1,9 +1,6 @@
 -- What two stores show, given exactly the places at which what they show differs.
-use Rattle.std.proofs.Common.{◌↔◌, ◌∙◌, ◌≡◌, ◌≢◌, ◌⊎◌, ap, Bool, false, inl, inr, List, None, Option, refl, Some, sym, true}
-use Rattle.std.specs.Cmp.{tied_itself}
-use Rattle.std.specs.Option.{option_eq}
-use Rattle.std.specs.Ordering.{eq_by_cmp, is_eq}
-use Rattle.path_maps.specs.Prelude.{Content, content_cmp, content_cmp-IsAntisymmetric, content_cmp_total, EntryMap, is_equal, IsAmong, PlaceParts, visible_at}
+use Rattle.std.proofs.Common.{◌↔◌, ◌≡◌, ◌≢◌, ◌⊎◌}
+use Rattle.path_maps.specs.Prelude.{ap, Bool, Content, content_cmp, content_cmp-IsAntisymmetric, content_cmp_total, EntryMap, eq_by_cmp, false, inl, inr, is_eq, is_equal, IsAmong, List, None, Option, option_eq, PlaceParts, refl, Some, sym, tied_itself, true, visible_at, ◌∙◌}
 
 -- Equality of optional contents.
 abbrev pub same_contents : Option Content → Option Content → Bool

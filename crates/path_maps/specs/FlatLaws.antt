@@ -1,8 +1,7 @@
 -- Stores of before there were hosts: sums of flat edits, each the fleet's.
-use Rattle.std.proofs.Common.{[], ◌∙◌, ◌∷◌, ◌≡◌, ap, List, map, None, Option, refl, ℕ}
-use Rattle.std.specs.Option.{option_and_then}
-use Rattle.path_maps.specs.Prelude.{at_fleet, Entry, EntryMap, FlatEdit, get-sum_of, greatest_at, Host, PathParts, shown, sum_of}
-use Rattle.path_maps.specs.{HostLaws.HoldsNothing, HostLaws.ShowsNothing, Scopes.within}
+use Rattle.std.proofs.Common.{◌∷◌, ◌≡◌}
+use Rattle.path_maps.specs.Prelude.{[], ap, at_fleet, Entry, EntryMap, FlatEdit, get-sum_of, greatest_at, Host, List, map, None, Option, option_and_then, PathParts, refl, shown, sum_of, ℕ, ◌∙◌}
+use Rattle.path_maps.specs.{HostLaws.{HoldsNothing, ShowsNothing}, Scopes.{within}}
 use Rattle.std.specs.FinMap as finmap
 
 -- none of these edits stands at a host's place

@@ -1,19 +1,7 @@
 -- The entries of one folder among all entries.
-use Rattle.std.proofs.Common.{[], ◌&&◌, ◌++◌, ◌==◌, ◌∙◌, ◌∷◌, ◌≡◌, ap, append-nil, arith, Bool, cond, false, filter, IsTrue, List, map, None, Option, refl, Some, subst, sym, true, ℕ}
-use Rattle.std.proofs.lemmas.Bool.{and_parts}
-use Rattle.std.proofs.lemmas.Bool.Decides.{nat_tests}
-use Rattle.std.proofs.lemmas.List.Elements.{filter-append}
-use Rattle.std.proofs.lemmas.Map.Text.{is_eq-slice_cmp}
-use Rattle.std.specs.Cmp.{eq_by_cmp_equiv, IsTotalOrder, nat_cmp_total, tied_itself}
-use Rattle.std.specs.Cmp.Lexicographic.{nat_list_cmp_total}
-use Rattle.std.specs.FinMap.{nat_cmp-IsAntisymmetric, slice_cmp-IsAntisymmetric}
-use Rattle.std.specs.FinMap.Entries.{below_all, find, is_sorted}
-use Rattle.std.specs.Ordering.{eq_by_cmp, is_eq, nat_cmp}
-use Rattle.std.specs.Str.{bytes_eq}
-use Rattle.std.specs.declared.cmp.Ordering.{Ordering}
-use Rattle.std.specs.declared.cmp.Ordering.TheVariants.{Equal, Greater, Less}
-use Rattle.path_maps.specs.Prelude.{is_equal, or_empty}
-use Rattle.path_maps.specs.{Folders.is_in, Folders.names_in, PathMapLaws.found_well_formed, PathMapLaws.of_folder, PathMapLaws.of_rank, PathMaps.AreFolders, PathMaps.AreRanks, PathMaps.bytes_cmp, PathMaps.FolderMap, PathMaps.FoldersBelow, PathMaps.in_folder, PathMaps.in_rank, PathMaps.listed, PathMaps.NameMap, PathMaps.RankMap, Spread.AllKeys, Spread.spread, SpreadLaws.all_keys_weaker, SpreadLaws.find_below}
+use Rattle.std.proofs.Common.{◌&&◌, ◌++◌, ◌==◌, ◌∷◌, ◌≡◌}
+use Rattle.path_maps.specs.Prelude.{[], and_parts, ap, append-nil, arith, below_all, Bool, bytes_eq, cond, eq_by_cmp, eq_by_cmp_equiv, Equal, false, filter, filter-append, find, Greater, is_eq, is_eq-slice_cmp, is_equal, is_sorted, IsTotalOrder, IsTrue, Less, List, map, nat_cmp, nat_cmp-IsAntisymmetric, nat_cmp_total, nat_list_cmp_total, nat_tests, None, Option, or_empty, Ordering, refl, slice_cmp-IsAntisymmetric, Some, subst, sym, tied_itself, true, ℕ, ◌∙◌}
+use Rattle.path_maps.specs.{Folders.{is_in, names_in}, PathMapLaws.{found_well_formed, of_folder, of_rank}, PathMaps.{AreFolders, AreRanks, bytes_cmp, FolderMap, FoldersBelow, in_folder, in_rank, listed, NameMap, RankMap}, Spread.{AllKeys, spread}, SpreadLaws.{all_keys_weaker, find_below}}
 
 module _ {A E : Type 0} (test : A → Bool) where
   all_pass : (xs : List (A × E)) → AllKeys (λ a. test a ≡ true) xs → filter (λ p. test p.0) xs ≡ xs

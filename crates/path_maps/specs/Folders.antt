@@ -1,12 +1,7 @@
 -- Paths by their parts, and the paths of a folder.
 -- Source: this project's own.
-use Rattle.std.proofs.Common.{◌&&◌, ◌==◌, ◌≡◌, Bool, List, Some, ℕ}
-use Rattle.std.specs.Ordering.{eq_by_cmp, nat_cmp}
-use Rattle.std.specs.Prelude.{slice_index_or}
-use Rattle.std.specs.Str.{bytes_eq}
-use Rattle.path_maps.specs.Prelude.{or_empty, PathParts, PlaceParts, Scope, scope_cmp}
-use Rattle.path_maps.specs.PathMaps.{bytes_cmp, NameMap, RankMap}
-use Rattle.std.specs.FinMap.{find}
+use Rattle.std.{proofs.Common.{◌&&◌, ◌==◌, ◌≡◌}, specs.FinMap.{find}}
+use Rattle.path_maps.specs.{PathMaps.{bytes_cmp, NameMap, RankMap}, Prelude.{Bool, bytes_eq, eq_by_cmp, List, nat_cmp, or_empty, PathParts, PlaceParts, Scope, scope_cmp, slice_index_or, Some, ℕ}}
 
 -- The path of these parts.
 abbrev pub path_at : ℕ → List ℕ → List ℕ → PathParts

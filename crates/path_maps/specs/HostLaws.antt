@@ -1,12 +1,7 @@
 -- What a host sees, said of places: those that it looks at, at their levels, and no others.
-use Rattle.std.proofs.Common.{◌%◌, ◌+◌, ◌/◌, ◌==◌, ◌∙◌, ◌≡◌, ◌≢◌, ap, arith, Bool, cond, false, List, None, Option, refl, Some, sym, true, ℕ}
-use Rattle.std.proofs.lemmas.Bool.Decides.{nat_tests}
-use Rattle.std.proofs.lemmas.Option.{same_Some}
-use Rattle.std.proofs.lemmas.Slice.Eq.{bytes_eq-Decides}
-use Rattle.std.specs.Option.{option_and_then, option_map}
-use Rattle.std.specs.Str.{bytes_eq}
-use Rattle.path_maps.specs.Prelude.{Content, Entry, EntryMap, Fleet, Host, level_for, path_cmp-IsAntisymmetric, path_cmp_total, PathParts, place_cmp, PlaceParts, Scope, scope_bytes, shown, Viewer, visible_at}
-use Rattle.path_maps.specs.{Folders.path_at, HostViewLaws.get-view, HostViews.AreForOne, HostViews.content_at, HostViews.held_by, HostViews.held_by_own, HostViews.host_view_of, HostViews.HostViewMap, HostViews.level_of, HostViews.Own, HostViews.own_of, HostViews.own_scope, HostViews.scope_at, HostViews.view, HostViews.viewed_at, HostViews.viewed_place, HostViews.viewer_of, ScopeLaws.get-scope_of, Scopes.PathMap, Scopes.scope_of, Scopes.shown_at, Scopes.within, Sights.path_after}
+use Rattle.std.proofs.Common.{◌%◌, ◌+◌, ◌/◌, ◌==◌, ◌≡◌, ◌≢◌}
+use Rattle.path_maps.specs.Prelude.{ap, arith, Bool, bytes_eq, bytes_eq-Decides, cond, Content, Entry, EntryMap, false, Fleet, Host, level_for, List, nat_tests, None, Option, option_and_then, option_map, path_cmp-IsAntisymmetric, path_cmp_total, PathParts, place_cmp, PlaceParts, refl, same_Some, Scope, scope_bytes, shown, Some, sym, true, Viewer, visible_at, ℕ, ◌∙◌}
+use Rattle.path_maps.specs.{Folders.{path_at}, HostViewLaws.{get-view}, HostViews.{AreForOne, content_at, held_by, held_by_own, host_view_of, HostViewMap, level_of, Own, own_of, own_scope, scope_at, view, viewed_at, viewed_place, viewer_of}, ScopeLaws.{get-scope_of}, Scopes.{PathMap, scope_of, shown_at, within}, Sights.{path_after}}
 use Rattle.std.specs.FinMap as finmap
 
 -- a place with a level is seen at it

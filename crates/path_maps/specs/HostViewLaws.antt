@@ -1,17 +1,7 @@
 -- What is seen at a path is what is held at its place, and the entries of a folder are those of its scope.
-use Rattle.std.proofs.Common.{[], ◌%◌, ◌&&◌, ◌++◌, ◌+◌, ◌/◌, ◌==◌, ◌∙◌, ◌∷◌, ◌≡◌, ◌≢◌, ap, arith, Bool, cond, eq-eqb, eqb-true, false, filter, IsTrue, List, map, None, Option, refl, Some, sym, true, ℕ}
-use Rattle.std.proofs.lemmas.Bool.{and_from, and_parts}
-use Rattle.std.proofs.lemmas.Bool.Decides.{nat_tests}
-use Rattle.std.specs.Cmp.{nat_cmp_total, tied_itself}
-use Rattle.std.specs.Cmp.Lexicographic.{slice_cmp}
-use Rattle.std.specs.FinMap.Entries.{below_all, find, find-where_key, is_sorted, is_sorted-where_key, same_entries}
-use Rattle.std.specs.Option.{option_and_then, option_map}
-use Rattle.std.specs.Ordering.{eq_by_cmp, is_eq, is_lt, nat_cmp, ordering_then}
-use Rattle.std.specs.Str.{bytes_eq}
-use Rattle.std.specs.declared.cmp.Ordering.{Ordering}
-use Rattle.std.specs.declared.cmp.Ordering.TheVariants.{Equal, Greater, Less}
-use Rattle.path_maps.specs.Prelude.{Entry, from_T, path_cmp, path_cmp-IsAntisymmetric, path_cmp_total, PathParts, to_T}
-use Rattle.path_maps.specs.{FolderLaws.number_test, Folders.is_in, Folders.path_at, HostViews.at_level, HostViews.entries_own, HostViews.HostViewMap, HostViews.Own, HostViews.view, HostViews.viewed_fleets, HostViews.viewed_own, Scopes.PathMap, Sights.after_entries, Sights.holding, Sights.path_after, Spread.AllKeys, SpreadLaws.find-after, SpreadLaws.find-prefix}
+use Rattle.std.proofs.Common.{◌%◌, ◌&&◌, ◌++◌, ◌+◌, ◌/◌, ◌==◌, ◌∷◌, ◌≡◌, ◌≢◌}
+use Rattle.path_maps.specs.Prelude.{[], and_from, and_parts, ap, arith, below_all, Bool, bytes_eq, cond, Entry, eq-eqb, eq_by_cmp, eqb-true, Equal, false, filter, find, find-where_key, from_T, Greater, is_eq, is_lt, is_sorted, is_sorted-where_key, IsTrue, Less, List, map, nat_cmp, nat_cmp_total, nat_tests, None, Option, option_and_then, option_map, Ordering, ordering_then, path_cmp, path_cmp-IsAntisymmetric, path_cmp_total, PathParts, refl, same_entries, slice_cmp, Some, sym, tied_itself, to_T, true, ℕ, ◌∙◌}
+use Rattle.path_maps.specs.{FolderLaws.{number_test}, Folders.{is_in, path_at}, HostViews.{at_level, entries_own, HostViewMap, Own, view, viewed_fleets, viewed_own}, Scopes.{PathMap}, Sights.{after_entries, holding, path_after}, Spread.{AllKeys}, SpreadLaws.{find-after, find-prefix}}
 use Rattle.std.specs.FinMap as finmap
 
 abbrev Entries : Type 0

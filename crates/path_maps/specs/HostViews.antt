@@ -1,12 +1,9 @@
 -- What a host sees of a store: entries by level, folder and name. Units are read from this and from nothing else of a
 -- store.
 -- Source: this project's own.
-use Rattle.std.proofs.Common.{[], ◌%◌, ◌++◌, ◌+◌, ◌/◌, ◌==◌, ◌≡◌, if◌then◌else◌, List, map, None, Option, refl, Some, ℕ}
-use Rattle.std.specs.Coded.{code_by, Coded, coded_list, coded_option, coded_ℕ, coded×}
-use Rattle.std.specs.Option.{option_and_then, option_map}
-use Rattle.std.specs.Str.{bytes_eq}
-use Rattle.path_maps.specs.Prelude.{coded_entry, coded_path, Content, Entry, EntryMap, Fleet, Host, PathParts, PlaceParts, Scope, Viewer}
-use Rattle.path_maps.specs.{Folders.path_at, Scopes.PathMap, Scopes.scope_of, Scopes.shown_at}
+use Rattle.std.proofs.Common.{if◌then◌else◌, ◌%◌, ◌++◌, ◌+◌, ◌/◌, ◌==◌, ◌≡◌}
+use Rattle.path_maps.specs.Prelude.{[], bytes_eq, code_by, Coded, coded_entry, coded_list, coded_option, coded_path, coded_ℕ, coded×, Content, Entry, EntryMap, Fleet, Host, List, map, None, Option, option_and_then, option_map, PathParts, PlaceParts, refl, Scope, Some, Viewer, ℕ}
+use Rattle.path_maps.specs.{Folders.{path_at}, Scopes.{PathMap, scope_of, shown_at}}
 use Rattle.std.specs.FinMap as finmap
 
 -- A host, and what it has for itself.

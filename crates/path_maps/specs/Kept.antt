@@ -1,8 +1,7 @@
 -- What a store keeps in addition to its maps.
 -- Source: this project's own.
-use Rattle.std.proofs.Common.{◌-◌, ◌^◌, ◌≡◌, ◌≤◌, IsSome, ℕ}
-use Rattle.path_maps.specs.Prelude.{EntryMap, high_of, IsPath, PathParts, PlaceParts}
-use Rattle.path_maps.specs.{PathMaps.AreRanks, PathMaps.flat, PathMaps.listed, PathMaps.RankMap, PlaceMaps.all_held, PlaceMaps.AreScopes, PlaceMaps.ScopeMap, Spread.AllKeys, Spread.AllValues}
+use Rattle.std.proofs.Common.{◌-◌, ◌^◌, ◌≡◌, ◌≤◌}
+use Rattle.path_maps.specs.{PathMaps.{AreRanks, flat, listed, RankMap}, PlaceMaps.{all_held, AreScopes, ScopeMap}, Prelude.{EntryMap, high_of, IsPath, IsSome, PathParts, PlaceParts, ℕ}, Spread.{AllKeys, AllValues}}
 use Rattle.std.specs.FinMap as finmap
 
 -- The maps are in order, and entries are held only at valid paths.

@@ -1,15 +1,7 @@
 -- What the map from paths to entries holds, and what look-ups find in joins of nested maps.
-use Rattle.std.proofs.Common.{[], ◌↔◌, ◌∙◌, ◌∷◌, ◌≡◌, ap, cond, false, IsTrue, List, None, Option, refl, Some, subst, sym, true, ℕ}
-use Rattle.std.specs.Cmp.{nat_cmp_total, tied_itself}
-use Rattle.std.specs.Cmp.Lexicographic.{nat_list_cmp_total}
-use Rattle.std.specs.FinMap.{nat_cmp-IsAntisymmetric, slice_cmp-IsAntisymmetric}
-use Rattle.std.specs.FinMap.Entries.{find, is_sorted}
-use Rattle.std.specs.Option.{option_and_then}
-use Rattle.std.specs.Ordering.{eq_by_cmp, is_eq, nat_cmp, ordering_then}
-use Rattle.std.specs.declared.cmp.Ordering.{Ordering}
-use Rattle.std.specs.declared.cmp.Ordering.TheVariants.{Equal, Less}
-use Rattle.path_maps.specs.Prelude.{AllHeld, At, Content, content_cmp, content_cmp-IsAntisymmetric, content_cmp_total, IsBelow, IsBetween, IsJoin, IsUpTo, larger, leaf_below, leaf_between, leaf_bounds, leaf_join, level_below, level_between, level_bounds, level_join, map_chain, map_itself, map_union, max_joins, Never, or_empty, path_cmp, path_cmp-IsAntisymmetric, PathParts, to_T, union_joins, up_to_chain, up_to_itself, Versioned, versioned_max, written, written_at}
-use Rattle.path_maps.specs.{PathMaps.AreFolders, PathMaps.AreNames, PathMaps.AreRanks, PathMaps.at_name, PathMaps.bytes_cmp, PathMaps.flat, PathMaps.FolderMap, PathMaps.FoldersBelow, PathMaps.in_folder, PathMaps.in_rank, PathMaps.listed, PathMaps.look_up, PathMaps.NameMap, PathMaps.NamesBelow, PathMaps.RankMap, PathMaps.RanksBelow, Spread.AllKeys, Spread.AllValues, Spread.spread, SpreadLaws.all_keys-append, SpreadLaws.all_keys_weaker, SpreadLaws.find-spread, SpreadLaws.sorted-spread}
+use Rattle.std.proofs.Common.{◌↔◌, ◌∷◌, ◌≡◌}
+use Rattle.path_maps.specs.Prelude.{[], AllHeld, ap, At, cond, Content, content_cmp, content_cmp-IsAntisymmetric, content_cmp_total, eq_by_cmp, Equal, false, find, is_eq, is_sorted, IsBelow, IsBetween, IsJoin, IsTrue, IsUpTo, larger, leaf_below, leaf_between, leaf_bounds, leaf_join, Less, level_below, level_between, level_bounds, level_join, List, map_chain, map_itself, map_union, max_joins, nat_cmp, nat_cmp-IsAntisymmetric, nat_cmp_total, nat_list_cmp_total, Never, None, Option, option_and_then, or_empty, Ordering, ordering_then, path_cmp, path_cmp-IsAntisymmetric, PathParts, refl, slice_cmp-IsAntisymmetric, Some, subst, sym, tied_itself, to_T, true, union_joins, up_to_chain, up_to_itself, Versioned, versioned_max, written, written_at, ℕ, ◌∙◌}
+use Rattle.path_maps.specs.{PathMaps.{AreFolders, AreNames, AreRanks, at_name, bytes_cmp, flat, FolderMap, FoldersBelow, in_folder, in_rank, listed, look_up, NameMap, NamesBelow, RankMap, RanksBelow}, Spread.{AllKeys, AllValues, spread}, SpreadLaws.{all_keys-append, all_keys_weaker, find-spread, sorted-spread}}
 use Rattle.std.specs.FinMap as finmap
 
 bytes_same : (x y : List ℕ) → bytes_cmp x y ≡ Equal → x ≡ y

@@ -1,13 +1,9 @@
 -- Contents with versions in maps by rank, folder and name, and the one map from paths to entries that they represent.
 -- Source (maps of joins are joins): Shapiro, Preguica, Baquero, Zawirski 2011; the rest is this project's own.
-use Rattle.std.proofs.Common.{[], ◌∷◌, List, Option, ℕ}
-use Rattle.std.specs.Cmp.Lexicographic.{slice_cmp}
-use Rattle.std.specs.Ordering.{nat_cmp}
-use Rattle.std.specs.declared.cmp.Ordering.{Ordering}
-use Rattle.path_maps.specs.Prelude.{At, Content, content_cmp, Entry, IsMap, IsUpTo, MapBelow, Never, or_empty, PathParts, Versioned, written_at}
-use Rattle.path_maps.specs.{Scopes.PathMap, Spread.spread}
+use Rattle.std.{proofs.Common.{◌∷◌}, specs.FinMap.{find}}
+use Rattle.path_maps.specs.Prelude.{[], At, Content, content_cmp, Entry, IsMap, IsUpTo, List, MapBelow, nat_cmp, Never, Option, or_empty, Ordering, PathParts, slice_cmp, Versioned, written_at, ℕ}
+use Rattle.path_maps.specs.{Scopes.{PathMap}, Spread.{spread}}
 use Rattle.std.specs.FinMap as finmap
-use Rattle.std.specs.FinMap.{find}
 
 -- By name, in one folder; by folder, in one rank; by rank.
 abbrev pub NameMap : Type 0

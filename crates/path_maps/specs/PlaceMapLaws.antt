@@ -1,12 +1,7 @@
 -- What the map from places to entries holds, and what joins of nested maps are in it.
-use Rattle.std.proofs.Common.{[], ◌&&◌, ◌↔◌, ◌∙◌, ◌∷◌, ◌≡◌, ap, cond, IsTrue, List, None, Option, refl, Some, subst, sym}
-use Rattle.std.specs.Cmp.{nat_cmp_total, tied_itself}
-use Rattle.std.specs.FinMap.Entries.{below_all, find, is_sorted}
-use Rattle.std.specs.Option.{option_and_then}
-use Rattle.std.specs.Ordering.{is_eq, is_lt, nat_cmp, ordering_then}
-use Rattle.std.specs.declared.cmp.Ordering.TheVariants.{Less}
-use Rattle.path_maps.specs.Prelude.{get-join, IsBelow, IsBetween, IsJoin, IsStoreBelow, join, larger, level_below, level_between, level_bounds, level_join, or_empty, path_cmp, PathParts, place_cmp, place_cmp-IsAntisymmetric, PlaceParts, same_store, Scope, scope_cmp, scope_cmp-IsAntisymmetric, scope_cmp_total, to_T}
-use Rattle.path_maps.specs.{PathMapLaws.all_well_formed, PathMapLaws.find-listed, PathMapLaws.folders_chain, PathMapLaws.folders_itself, PathMapLaws.folders_joins, PathMapLaws.folders_union, PathMapLaws.found_well_formed, PathMapLaws.listed_sorted, PathMapLaws.look_up_below, PathMapLaws.look_up_between, PathMapLaws.look_up_bounds, PathMapLaws.look_up_join, PathMaps.AreRanks, PathMaps.FoldersBelow, PathMaps.listed, PathMaps.look_up, PathMaps.RankMap, PathMaps.RanksBelow, PlaceMaps.all_held, PlaceMaps.all_listed, PlaceMaps.AreScopes, PlaceMaps.in_scope, PlaceMaps.look_up_place, PlaceMaps.placed, PlaceMaps.ranks_of, PlaceMaps.ScopeMap, PlaceMaps.ScopesBelow, Scopes.within, Spread.AllKeys, Spread.AllValues, SpreadLaws.find-spread, SpreadLaws.sorted-spread}
+use Rattle.std.proofs.Common.{◌&&◌, ◌↔◌, ◌∷◌, ◌≡◌}
+use Rattle.path_maps.specs.Prelude.{[], ap, below_all, cond, find, get-join, is_eq, is_lt, is_sorted, IsBelow, IsBetween, IsJoin, IsStoreBelow, IsTrue, join, larger, Less, level_below, level_between, level_bounds, level_join, List, nat_cmp, nat_cmp_total, None, Option, option_and_then, or_empty, ordering_then, path_cmp, PathParts, place_cmp, place_cmp-IsAntisymmetric, PlaceParts, refl, same_store, Scope, scope_cmp, scope_cmp-IsAntisymmetric, scope_cmp_total, Some, subst, sym, tied_itself, to_T, ◌∙◌}
+use Rattle.path_maps.specs.{PathMapLaws.{all_well_formed, find-listed, folders_chain, folders_itself, folders_joins, folders_union, found_well_formed, listed_sorted, look_up_below, look_up_between, look_up_bounds, look_up_join}, PathMaps.{AreRanks, FoldersBelow, listed, look_up, RankMap, RanksBelow}, PlaceMaps.{all_held, all_listed, AreScopes, in_scope, look_up_place, placed, ranks_of, ScopeMap, ScopesBelow}, Scopes.{within}, Spread.{AllKeys, AllValues}, SpreadLaws.{find-spread, sorted-spread}}
 use Rattle.std.specs.FinMap as finmap
 
 -- ---- in one scope places are ordered as their paths

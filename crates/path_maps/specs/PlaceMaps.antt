@@ -1,11 +1,9 @@
 -- Maps of paths by scope, and the one map from places to entries that they represent.
 -- Source (maps of joins are joins): Shapiro, Preguica, Baquero, Zawirski 2011; the rest is this project's own.
-use Rattle.std.proofs.Common.{◌≡◌, List, map, Option, Some, ℕ}
-use Rattle.std.specs.Prelude.{slice_index_or}
-use Rattle.path_maps.specs.Prelude.{Entry, EntryMap, IsMap, MapBelow, or_empty, PathParts, PlaceParts, Scope, scope_cmp}
-use Rattle.path_maps.specs.{PathMaps.AreRanks, PathMaps.listed, PathMaps.look_up, PathMaps.RankMap, PathMaps.RanksBelow, Scopes.within, Spread.spread}
+use Rattle.std.{proofs.Common.{◌≡◌}, specs.FinMap.{find}}
+use Rattle.path_maps.specs.Prelude.{Entry, EntryMap, IsMap, List, map, MapBelow, Option, or_empty, PathParts, PlaceParts, Scope, scope_cmp, slice_index_or, Some, ℕ}
+use Rattle.path_maps.specs.{PathMaps.{AreRanks, listed, look_up, RankMap, RanksBelow}, Scopes.{within}, Spread.{spread}}
 use Rattle.std.specs.FinMap as finmap
-use Rattle.std.specs.FinMap.{find}
 
 -- What each scope has, by rank, folder and name.
 abbrev pub ScopeMap : Type 0

@@ -1,12 +1,7 @@
 -- What a store holds in a scope.
-use Rattle.std.proofs.Common.{[], ◌&&◌, ◌∙◌, ◌∷◌, ◌≡◌, ap, cond, false, filter, IsTrue, List, map, refl, Some, subst, sym, true, ℕ}
-use Rattle.std.proofs.lemmas.Bool.{and_from, and_parts}
-use Rattle.std.specs.FinMap.Entries.{below_all, find, is_sorted}
-use Rattle.std.specs.Ordering.{eq_by_cmp, is_eq, is_lt, ordering_then}
-use Rattle.std.specs.declared.cmp.Ordering.{Ordering}
-use Rattle.std.specs.declared.cmp.Ordering.TheVariants.{Equal, Greater, Less}
-use Rattle.path_maps.specs.Prelude.{Entry, EntryMap, from_T, is_equal, path_cmp, PathParts, place_cmp, PlaceParts, Scope, scope_cmp, scope_cmp-IsAntisymmetric, to_T}
-use Rattle.path_maps.specs.{Folders.is_in, Folders.is_within, PlaceMapLaws.same_scope, PlaceMaps.placed, Scopes.entries_of, Scopes.scope_of, Scopes.within}
+use Rattle.std.proofs.Common.{◌&&◌, ◌∷◌, ◌≡◌}
+use Rattle.path_maps.specs.Prelude.{[], and_from, and_parts, ap, below_all, cond, Entry, EntryMap, eq_by_cmp, Equal, false, filter, find, from_T, Greater, is_eq, is_equal, is_lt, is_sorted, IsTrue, Less, List, map, Ordering, ordering_then, path_cmp, PathParts, place_cmp, PlaceParts, refl, Scope, scope_cmp, scope_cmp-IsAntisymmetric, Some, subst, sym, to_T, true, ℕ, ◌∙◌}
+use Rattle.path_maps.specs.{Folders.{is_in, is_within}, PlaceMapLaws.{same_scope}, PlaceMaps.{placed}, Scopes.{entries_of, scope_of, within}}
 use Rattle.std.specs.FinMap as finmap
 
 abbrev Entries : Type 0

@@ -1,10 +1,7 @@
 -- What a store holds in a scope: entries by path.
 -- Source: this project's own.
-use Rattle.std.proofs.Common.{[], ◌∷◌, if◌then◌else◌, List, Option}
-use Rattle.std.specs.FinMap.{FinMap}
-use Rattle.std.specs.Option.{option_and_then}
-use Rattle.std.specs.Ordering.{eq_by_cmp}
-use Rattle.path_maps.specs.Prelude.{Content, Entry, EntryMap, path_cmp, PathParts, PlaceParts, Scope, scope_cmp, shown}
+use Rattle.std.proofs.Common.{if◌then◌else◌, ◌∷◌}
+use Rattle.path_maps.specs.Prelude.{[], Content, Entry, EntryMap, eq_by_cmp, FinMap, List, Option, option_and_then, path_cmp, PathParts, PlaceParts, Scope, scope_cmp, shown}
 use Rattle.std.specs.FinMap as finmap
 
 -- At each path at most one entry.

@@ -1,9 +1,7 @@
 -- Where to find what is held at a level: definitions for private clauses.
 -- Source: this project's own.
-use Rattle.std.proofs.Common.{[], ◌%◌, ◌/◌, ◌==◌, filter, if◌then◌else◌, List, None, Option, Some, ℕ}
-use Rattle.std.specs.Option.{option_map}
-use Rattle.path_maps.specs.Prelude.{Entry, PathParts}
-use Rattle.path_maps.specs.{Folders.is_in, Folders.path_at, HostViews.HostViewMap, HostViews.Own, Scopes.PathMap}
+use Rattle.std.proofs.Common.{if◌then◌else◌, ◌%◌, ◌/◌, ◌==◌}
+use Rattle.path_maps.specs.{Folders.{is_in, path_at}, HostViews.{HostViewMap, Own}, Prelude.{[], Entry, filter, List, None, Option, option_map, PathParts, Some, ℕ}, Scopes.{PathMap}}
 use Rattle.std.specs.FinMap as finmap
 
 -- What is seen in the directories of a level.

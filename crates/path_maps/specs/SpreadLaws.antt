@@ -1,13 +1,6 @@
 -- What is found in the list that a nested map spreads into, and that its keys are in ascending order.
-use Rattle.std.proofs.Common.{[], ◌&&◌, ◌++◌, ◌∙◌, ◌∷◌, ◌≡◌, ap, Bool, cond, false, IsTrue, List, None, refl, Some, subst, sym, true}
-use Rattle.std.proofs.lemmas.Bool.{and_parts}
-use Rattle.std.specs.Cmp.{IsTotalOrder, tied_itself}
-use Rattle.std.specs.FinMap.Entries.{below_all, find, is_sorted}
-use Rattle.std.specs.Option.{option_and_then}
-use Rattle.std.specs.Ordering.{eq_by_cmp, is_eq, is_lt}
-use Rattle.std.specs.declared.cmp.Ordering.{Ordering}
-use Rattle.std.specs.declared.cmp.Ordering.TheVariants.{Equal, Less}
-use Rattle.path_maps.specs.Prelude.{is_equal, is_less}
+use Rattle.std.proofs.Common.{◌&&◌, ◌++◌, ◌∷◌, ◌≡◌}
+use Rattle.path_maps.specs.Prelude.{[], and_parts, ap, below_all, Bool, cond, eq_by_cmp, Equal, false, find, is_eq, is_equal, is_less, is_lt, is_sorted, IsTotalOrder, IsTrue, Less, List, None, option_and_then, Ordering, refl, Some, subst, sym, tied_itself, true, ◌∙◌}
 use Rattle.path_maps.specs.Spread.{AllKeys, AllValues, spread}
 
 both : (a b : Bool) → IsTrue a → IsTrue b → IsTrue (a && b)

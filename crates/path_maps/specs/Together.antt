@@ -1,10 +1,7 @@
 -- The places of two stores in one list, each with what both show there, and the places where that differs.
 -- Source: this project's own.
-use Rattle.std.proofs.Common.{[], ◌∷◌, Bool, filter, List, map, None, not, Option, Some}
-use Rattle.std.specs.Option.{option_and_then, option_eq}
-use Rattle.std.specs.Ordering.{eq_by_cmp, match_ordering}
-use Rattle.path_maps.specs.Prelude.{Content, content_cmp, Entry, place_cmp, PlaceParts}
-use Rattle.path_maps.specs.Zipped.{Compared}
+use Rattle.std.proofs.Common.{◌∷◌}
+use Rattle.path_maps.specs.{Prelude.{[], Bool, Content, content_cmp, Entry, eq_by_cmp, filter, List, map, match_ordering, None, not, Option, option_and_then, option_eq, place_cmp, PlaceParts, Some}, Zipped.{Compared}}
 use Rattle.edit_sums.specs.Sums as sums
 
 -- What a store shows at a place, and what an older store shows there.

@@ -1,10 +1,8 @@
 -- The entries of one store, each with what another store holds at its place.
 -- Source: this project's own.
-use Rattle.std.proofs.Common.{IsTrue, List, map, Option, ℕ}
-use Rattle.std.specs.Ordering.{nat_cmp}
-use Rattle.path_maps.specs.Prelude.{Entry, or_empty, PathParts, PlaceParts, Scope, written_at}
-use Rattle.path_maps.specs.{Cursors.AreFoldersLeft, Cursors.AreNamesLeft, PathMaps.bytes_cmp, PathMaps.FolderMap, PathMaps.in_folder, PathMaps.in_rank, PathMaps.listed, PathMaps.look_up, PathMaps.NameMap, PathMaps.RankMap, PlaceMaps.all_listed, PlaceMaps.look_up_place, PlaceMaps.ranks_of, PlaceMaps.ScopeMap, Scopes.within}
 use Rattle.std.specs.FinMap.{find, is_sorted}
+use Rattle.path_maps.specs.Prelude.{Entry, IsTrue, List, map, nat_cmp, Option, or_empty, PathParts, PlaceParts, Scope, written_at, ℕ}
+use Rattle.path_maps.specs.{Cursors.{AreFoldersLeft, AreNamesLeft}, PathMaps.{bytes_cmp, FolderMap, in_folder, in_rank, listed, look_up, NameMap, RankMap}, PlaceMaps.{all_listed, look_up_place, ranks_of, ScopeMap}, Scopes.{within}}
 
 -- An entry with its key, and what the other store holds there.
 abbrev pub Compared : Type 0 → Type 0

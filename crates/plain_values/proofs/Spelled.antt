@@ -1,13 +1,6 @@
 -- Comparing byte strings of one length is comparing the big-endian numbers that they spell.
-use Rattle.std.proofs.Common.{[], ◌*◌, ◌+◌, ◌-◌, ◌<◌, ◌∙◌, ◌∷◌, ◌≡◌, ◌≤◌, ap, arith, drop, false, Fits, get_or, length, List, min, refl, subst, suc, sym, take, w8, zero, ℕ}
-use Rattle.std.proofs.lemmas.List.{get_or-drop, take_rest}
-use Rattle.std.specs.Cmp.{nat_cmp_is, ranks}
-use Rattle.std.specs.Cmp.Lexicographic.{slice_cmp}
-use Rattle.std.specs.FinMap.{nat_cmp-IsAntisymmetric, slice_cmp-IsAntisymmetric}
-use Rattle.std.specs.Ordering.{eq_by_cmp, is_eq, MatchOrdering, nat_cmp, ordering_then}
-use Rattle.std.specs.declared.cmp.Ordering.{Ordering}
-use Rattle.std.specs.declared.cmp.Ordering.TheVariants.{Equal, Greater, Less}
-use Rattle.plain_values.proofs.Prelude.{spelled}
+use Rattle.std.proofs.Common.{◌*◌, ◌+◌, ◌-◌, ◌<◌, ◌∷◌, ◌≡◌, ◌≤◌}
+use Rattle.plain_values.proofs.Prelude.{[], ap, arith, drop, eq_by_cmp, Equal, false, Fits, get_or, get_or-drop, Greater, is_eq, length, Less, List, MatchOrdering, min, nat_cmp, nat_cmp-IsAntisymmetric, nat_cmp_is, Ordering, ordering_then, ranks, refl, slice_cmp, slice_cmp-IsAntisymmetric, spelled, subst, suc, sym, take, take_rest, w8, zero, ℕ, ◌∙◌}
 
 abbrev pub AreBytes : List ℕ → Type 0
 AreBytes bytes = (i : ℕ) → Fits w8 (get_or bytes i 0)

@@ -1,10 +1,6 @@
 -- Byte strings that compare as equal are equal, so their hashes are equal too.
-use Rattle.std.proofs.Common.{◌≡◌, ap, IsTrue, List, refl, ℕ}
-use Rattle.std.specs.Cmp.Lexicographic.{slice_cmp}
-use Rattle.std.specs.FinMap.{nat_cmp-IsAntisymmetric, slice_cmp-IsAntisymmetric}
-use Rattle.std.specs.Ordering.{eq_by_cmp, is_eq, nat_cmp}
-use Rattle.std.specs.declared.cmp.Ordering.{Ordering}
-use Rattle.std.specs.declared.cmp.Ordering.TheVariants.{Equal, Greater, Less}
+use Rattle.std.proofs.Common.{◌≡◌}
+use Rattle.plain_values.specs.Prelude.{ap, eq_by_cmp, Equal, Greater, is_eq, IsTrue, Less, List, nat_cmp, nat_cmp-IsAntisymmetric, Ordering, refl, slice_cmp, slice_cmp-IsAntisymmetric, ℕ}
 use Rattle.std.specs.Hash as fed
 
 is_equal : (o : Ordering) → IsTrue (is_eq o) → o ≡ Equal

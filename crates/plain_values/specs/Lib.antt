@@ -1,3 +1,4 @@
+pub mod Prelude
 pub mod BytesLaws
 pub mod Holding
 pub mod Spelling

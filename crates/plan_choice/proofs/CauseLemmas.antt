@@ -1,9 +1,6 @@
 -- The causes of refusals, over bit sets and adjacency lists.
-use Rattle.std.proofs.Common.{◌<◌, ◌↔◌, ◌≡◌, arith, Bool, false, get_or, IsTrue, length, List, true, ℕ}
-use Rattle.std.specs.Ordering.{nat_cmp}
-use Rattle.std.specs.declared.alloc.Global.{Global}
-use Rattle.std.specs.declared.vec.Vec.{Vec}
-use Rattle.plan_choice.proofs.Prelude.{AreBitsOf, AreInConflict, AreNeededConflicts, ArePairsOf, case_of, count_of, IndexedCase, IsAmong, IsClearBelow, IsFirstPair, IsIdle, IsLeast, IsMember, IsNeeded, IsUnloadedNeed, LacksRequisite, least_along, member_read, non_members_read, successors-below, successors_from}
+use Rattle.std.proofs.Common.{◌<◌, ◌↔◌, ◌≡◌}
+use Rattle.plan_choice.proofs.Prelude.{AreBitsOf, AreInConflict, AreNeededConflicts, ArePairsOf, arith, Bool, case_of, count_of, false, get_or, Global, IndexedCase, IsAmong, IsClearBelow, IsFirstPair, IsIdle, IsLeast, IsMember, IsNeeded, IsTrue, IsUnloadedNeed, LacksRequisite, least_along, length, List, member_read, nat_cmp, non_members_read, successors-below, successors_from, true, Vec, ℕ}
 use Rattle.plan_choice.proofs.Fitting.{is_false, stable, untrue}
 
 pub pair_along : (R S : ℕ → ℕ → Type 0) → ((u v : ℕ) → R u v ↔ S u v) → (a b : ℕ) → IsFirstPair nat_cmp R a b → IsFirstPair nat_cmp S a b

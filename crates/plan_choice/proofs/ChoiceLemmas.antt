@@ -1,11 +1,7 @@
 -- What is pulled, what loses a conflict, and what is chosen, over bit sets and adjacency lists.
-use Rattle.std.proofs.Common.{[], ◌++◌, ◌<◌, ◌↔◌, ◌∙◌, ◌∷◌, ◌≡◌, ◌⊎◌, arith, Bool, Err, false, get_or, get_or-set_other, get_or-set_same, IfOk, inl, inr, length, length-set, List, Ok, refl, Result, set, subst, sym, true, ℕ}
-use Rattle.std.proofs.lemmas.Bool.{cases_eq}
-use Rattle.std.specs.Ordering.{nat_cmp}
-use Rattle.std.specs.declared.alloc.Global.{Global}
-use Rattle.std.specs.declared.vec.Vec.{Vec}
-use Rattle.plan_choice.proofs.Prelude.{AreBitsOf, below_cmp, case_of, cmp_below, count_of, IndexedCase, IsAmong, IsAmong-append_left, IsAmong-append_right, IsAmong-push_cases, IsChosen, IsClearBelow, IsDropped, IsExtra, IsGood, IsListOf, IsLoser, IsMember, IsNeeded, IsPulled, IsReached, Keeps, LeadsInside, Listed, member_or_not, more_kinds, Named, needs_all, needs_itself, neighbors, opposite_is, Pulls, reached_closed, reached_least, SetsBits, successors_from}
-use Rattle.plan_choice.proofs.{Fitting.bits_along, WeakDependencyLemmas.needs_source, WeakDependencyLemmas.source_needed}
+use Rattle.std.proofs.Common.{◌++◌, ◌<◌, ◌↔◌, ◌∷◌, ◌≡◌, ◌⊎◌}
+use Rattle.plan_choice.proofs.Prelude.{[], AreBitsOf, arith, below_cmp, Bool, case_of, cases_eq, cmp_below, count_of, Err, false, get_or, get_or-set_other, get_or-set_same, Global, IfOk, IndexedCase, inl, inr, IsAmong, IsAmong-append_left, IsAmong-append_right, IsAmong-push_cases, IsChosen, IsClearBelow, IsDropped, IsExtra, IsGood, IsListOf, IsLoser, IsMember, IsNeeded, IsPulled, IsReached, Keeps, LeadsInside, length, length-set, List, Listed, member_or_not, more_kinds, Named, nat_cmp, needs_all, needs_itself, neighbors, Ok, opposite_is, Pulls, reached_closed, reached_least, refl, Result, set, SetsBits, subst, successors_from, sym, true, Vec, ℕ, ◌∙◌}
+use Rattle.plan_choice.proofs.{Fitting.{bits_along}, WeakDependencyLemmas.{needs_source, source_needed}}
 
 -- ---- bits that are set
 

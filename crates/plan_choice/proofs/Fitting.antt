@@ -1,9 +1,6 @@
 -- Bit sets, adjacency lists and options, as the code reads them.
-use Rattle.std.proofs.Common.{[], ◌<◌, ◌∷◌, ◌≡◌, All, arith, Bool, false, get_or, is_some, IsTrue, List, MatchOption, None, not, Option, refl, Some, subst, suc, sym, true, zero, ℕ}
-use Rattle.std.proofs.lemmas.List.Elements.{Contains-get_or}
-use Rattle.std.specs.declared.alloc.Global.{Global}
-use Rattle.std.specs.declared.vec.Vec.{Vec}
-use Rattle.plan_choice.proofs.Prelude.{All-neighbors, among_from_contains, AreAdjacencyOf, AreBitsOf, AreSameNodes, AreSameSuccessors, AreSuccessorsOf, IsAmong, IsReached, neighbors, same_reached}
+use Rattle.std.proofs.Common.{◌<◌, ◌∷◌, ◌≡◌}
+use Rattle.plan_choice.proofs.Prelude.{[], All, All-neighbors, among_from_contains, AreAdjacencyOf, AreBitsOf, AreSameNodes, AreSameSuccessors, AreSuccessorsOf, arith, Bool, Contains-get_or, false, get_or, Global, is_some, IsAmong, IsReached, IsTrue, List, MatchOption, neighbors, None, not, Option, refl, same_reached, Some, subst, suc, sym, true, Vec, zero, ℕ}
 
 -- the nodes of an adjacency list are below the length of a bit set of n units
 pub neighbors_fits : (m n : ℕ) (adjacency : List (Vec ℕ Global)) (u : ℕ) (r : List ℕ) → r ≡ neighbors adjacency u → AreAdjacencyOf n adjacency → m ≡ n → All (λ v. v < m) r

@@ -1,9 +1,6 @@
 -- What starts and what stops, over bit sets and adjacency lists.
-use Rattle.std.proofs.Common.{◌↔◌, ◌≡◌, arith, Bool, List, subst, ℕ}
-use Rattle.std.specs.Ordering.{nat_cmp}
-use Rattle.std.specs.declared.alloc.Global.{Global}
-use Rattle.std.specs.declared.vec.Vec.{Vec}
-use Rattle.plan_choice.proofs.Prelude.{AreBitsOf, AreInConflict, ArePairsOf, CanStart, case_of, count_of, cycle_along, IndexedCase, IsAmong, IsChosen, IsClearBelow, IsClosure, IsCycle, IsMember, IsOutside, IsStartList, IsStoppedByConflict, IsStuck, LeadsInside, least_along, Listed, opposite_is, same_closure, Starts, successors_from, TakesAlong, WaitsForever}
+use Rattle.std.proofs.Common.{◌↔◌, ◌≡◌}
+use Rattle.plan_choice.proofs.Prelude.{AreBitsOf, AreInConflict, ArePairsOf, arith, Bool, CanStart, case_of, count_of, cycle_along, Global, IndexedCase, IsAmong, IsChosen, IsClearBelow, IsClosure, IsCycle, IsMember, IsOutside, IsStartList, IsStoppedByConflict, IsStuck, LeadsInside, least_along, List, Listed, nat_cmp, opposite_is, same_closure, Starts, subst, successors_from, TakesAlong, Vec, WaitsForever, ℕ}
 
 -- ---- the same chosen nodes have the same start list, the same stuck nodes and the same cycle
 module _ (s t : ℕ → Type 0) (before : ℕ → ℕ → Type 0) (same : (u : ℕ) → s u ↔ t u) where

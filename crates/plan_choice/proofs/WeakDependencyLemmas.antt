@@ -1,7 +1,6 @@
 -- A good unit needs nothing with which something is wrong.
-use Rattle.std.proofs.Common.{[], ◌++◌, ◌+◌, ◌<◌, ◌↔◌, ◌∷◌, ◌≡◌, arith, Bool, inl, inr, IsTrue, List, subst, sym, ℕ}
-use Rattle.std.proofs.lemmas.Bool.{cases_eq}
-use Rattle.plan_choice.proofs.Prelude.{AreBitsOf, case_of, count_of, IndexedCase, IsAmong, IsAmong-append_left, IsAmong-append_right, IsAmong-push_cases, IsGood, IsIdle, IsListOf, IsMember, IsMember-within, IsReached, IsSound, Listed, Named, Needs, needs_all, needs_itself, opposite_is, reached_closed, reached_least, successors-below, successors_from}
+use Rattle.std.proofs.Common.{◌++◌, ◌+◌, ◌<◌, ◌↔◌, ◌∷◌, ◌≡◌}
+use Rattle.plan_choice.proofs.Prelude.{[], AreBitsOf, arith, Bool, case_of, cases_eq, count_of, IndexedCase, inl, inr, IsAmong, IsAmong-append_left, IsAmong-append_right, IsAmong-push_cases, IsGood, IsIdle, IsListOf, IsMember, IsMember-within, IsReached, IsSound, IsTrue, List, Listed, Named, Needs, needs_all, needs_itself, opposite_is, reached_closed, reached_least, subst, successors-below, successors_from, sym, ℕ}
 use Rattle.plan_choice.proofs.Fitting.{stable}
 
 module _ (p : IndexedCase) where

@@ -1,10 +1,7 @@
 -- A request has at most one answer; and what a plan promises.
-use Rattle.std.proofs.Common.{◌++◌, ◌<◌, ◌∙◌, ◌∷◌, ◌≡◌, ◌≤◌, ap, arith, Bool, false, inl, IsTrue, List, refl, subst, sym, true, ℕ}
-use Rattle.std.specs.Cmp.{IsTotalOrder}
-use Rattle.std.specs.FinMap.{IsAntisymmetric}
-use Rattle.std.specs.declared.cmp.Ordering.{Ordering}
-use Rattle.plan_choice.specs.Prelude.{cycle_stuck, IsAmong, IsLeast, one_closure, one_cycle, one_least, one_start_list}
-use Rattle.plan_choice.specs.{Answers.AreNeededConflicts, Answers.IsClearBelow, Answers.IsFirstPair, Answers.IsPlan, Answers.IsRefusal, Answers.IsUnloadedNeed, Answers.LacksRequisite, Answers.rank, Answers.Refusal, Answers.Refusal.conflict, Answers.Refusal.cycle, Answers.Refusal.manual_start, Answers.Refusal.need_fault, Answers.Refusal.requisite, Answers.Refusal.target_fault, Answers.Stands, Answers.WaitsForever, Case.Case, SetLaws.chosen_closed, SetLaws.chosen_loaded, SetLaws.chosen_peace, SetLaws.chosen_requisites, SetLaws.SparesItself, Sets.AreInConflict, Sets.IsChosen, Sets.IsStoppedByConflict, Sets.Precedes, Sets.Starts, Sets.TakesAlong}
+use Rattle.std.proofs.Common.{◌++◌, ◌<◌, ◌∷◌, ◌≡◌, ◌≤◌}
+use Rattle.plan_choice.specs.Prelude.{ap, arith, Bool, cycle_stuck, false, inl, IsAmong, IsAntisymmetric, IsLeast, IsTotalOrder, IsTrue, List, one_closure, one_cycle, one_least, one_start_list, Ordering, refl, subst, sym, true, ℕ, ◌∙◌}
+use Rattle.plan_choice.specs.{Answers.{AreNeededConflicts, IsClearBelow, IsFirstPair, IsPlan, IsRefusal, IsUnloadedNeed, LacksRequisite, rank, Refusal, Refusal.{conflict, cycle, manual_start, need_fault, requisite, target_fault}, Stands, WaitsForever}, Case.{Case}, SetLaws.{chosen_closed, chosen_loaded, chosen_peace, chosen_requisites, SparesItself}, Sets.{AreInConflict, IsChosen, IsStoppedByConflict, Precedes, Starts, TakesAlong}}
 
 -- What a plan chooses is closed under need and loaded, its requisites are running, and no two chosen units conflict.
 -- Each unit that starts comes after all started units before it.

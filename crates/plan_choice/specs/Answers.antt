@@ -1,9 +1,8 @@
 -- What planning answers: what stops and starts, or the first refusal whose cause holds.
 -- Source: this project's own.
-use Rattle.std.proofs.Common.{◌<◌, ◌≡◌, false, IsTrue, List, ℕ}
-use Rattle.std.specs.declared.cmp.Ordering.{Ordering}
-use Rattle.plan_choice.specs.Prelude.{IsAmong, IsClosure, IsCycle, IsLeast, IsStartList, IsStuck}
-use Rattle.plan_choice.specs.{Case.Case, Sets.AreInConflict, Sets.IsNeeded, Sets.IsStoppedByConflict, Sets.Precedes, Sets.Starts, Sets.TakesAlong}
+use Rattle.std.proofs.Common.{◌<◌, ◌≡◌}
+use Rattle.plan_choice.specs.Prelude.{false, IsAmong, IsClosure, IsCycle, IsLeast, IsStartList, IsStuck, IsTrue, List, Ordering, ℕ}
+use Rattle.plan_choice.specs.{Case.{Case}, Sets.{AreInConflict, IsNeeded, IsStoppedByConflict, Precedes, Starts, TakesAlong}}
 
 -- Why there is no plan, in the order in which the causes are tested.
 pub data Refusal (N : Type 0) : Type 0 where

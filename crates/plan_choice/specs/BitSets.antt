@@ -1,8 +1,6 @@
 -- Sets and relations of indexed units, as bit sets and edges. Only private clauses cite these.
-use Rattle.std.proofs.Common.{◌<◌, ◌↔◌, ◌≡◌, Bool, length, List, ℕ}
-use Rattle.std.specs.declared.alloc.Global.{Global}
-use Rattle.std.specs.declared.vec.Vec.{Vec}
-use Rattle.plan_choice.specs.Prelude.{AreSuccessorsOf, IsAmong, IsMember, successors_from}
+use Rattle.std.proofs.Common.{◌<◌, ◌↔◌, ◌≡◌}
+use Rattle.plan_choice.specs.Prelude.{AreSuccessorsOf, Bool, Global, IsAmong, IsMember, length, List, successors_from, Vec, ℕ}
 
 -- a bit set over `count` units, with exactly the members of the set
 pub record AreBitsOf (count : ℕ) (set : ℕ → Type 0) (bits : List Bool) : Type 0 where

@@ -1,7 +1,7 @@
 -- The input of a plan: the target, and what is known of each unit. Units are of any type, so they can be names or
 -- indices.
 -- Source: systemd.unit(5), "[Unit] Section Options".
-use Rattle.std.proofs.Common.{Bool, List}
+use Rattle.plan_choice.specs.Prelude.{Bool, List}
 
 pub record Case (N : Type 0) : Type 0 where
   pub target : N

@@ -1,8 +1,6 @@
 -- The sets and edges that belong to a case. Only a private type cites this.
-use Rattle.std.proofs.Common.{Bool, List, ℕ}
-use Rattle.std.specs.declared.alloc.Global.{Global}
-use Rattle.std.specs.declared.vec.Vec.{Vec}
-use Rattle.plan_choice.specs.{BitSets.AreBitsOf, BitSets.ArePairsOf, declared.cases.IndexedCase.IndexedCase, IndexedCases.case_of, IndexedCases.count_of, Sets.AreInConflict, Sets.IsNeeded, Soundness.IsIdle}
+use Rattle.plan_choice.specs.Prelude.{Bool, Global, List, Vec, ℕ}
+use Rattle.plan_choice.specs.{BitSets.{AreBitsOf, ArePairsOf}, declared.cases.IndexedCase.{IndexedCase}, IndexedCases.{case_of, count_of}, Sets.{AreInConflict, IsNeeded}, Soundness.{IsIdle}}
 
 -- the sets of the units that aren't running and of those that the target needs, and edges to the units in conflict
 pub record AreCaseSets (adjacency : IndexedCase) (idle needed : List Bool) (conflicting : List (List (Vec ℕ Global))) : Type 0 where

@@ -1,8 +1,5 @@
 -- The case that bit sets and adjacency lists give.
-use Rattle.std.proofs.Common.{false, length, ℕ}
-use Rattle.std.specs.Prelude.{slice_index_or}
-use Rattle.plan_choice.specs.Prelude.{neighbors, successors_from}
-use Rattle.plan_choice.specs.{Case.Case, declared.cases.IndexedCase.IndexedCase}
+use Rattle.plan_choice.specs.{Case.{Case}, declared.cases.IndexedCase.{IndexedCase}, Prelude.{false, length, neighbors, slice_index_or, successors_from, ℕ}}
 
 abbrev pub case_of : IndexedCase → Case ℕ
 case_of adjacency = record {

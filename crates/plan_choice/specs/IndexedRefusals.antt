@@ -1,8 +1,6 @@
 -- What answers over indices say.
-use Rattle.std.proofs.Common.{IfErr, IfOk, Result, ℕ}
-use Rattle.std.specs.Ordering.{nat_cmp}
-use Rattle.plan_choice.specs.Prelude.{IsAmong}
-use Rattle.plan_choice.specs.{Answers.IsPlan, Answers.IsRefusal, Answers.Refusal, Answers.Refusal.conflict, Answers.Refusal.cycle, Answers.Refusal.manual_start, Answers.Refusal.need_fault, Answers.Refusal.requisite, Answers.Refusal.target_fault, Case.Case, declared.answers.IndexedPlan.IndexedPlan, declared.answers.IndexedRefusal.IndexedRefusal, declared.answers.IndexedRefusal.TheVariants.Conflict, declared.answers.IndexedRefusal.TheVariants.Cycle, declared.answers.IndexedRefusal.TheVariants.ManualStart, declared.answers.IndexedRefusal.TheVariants.Need, declared.answers.IndexedRefusal.TheVariants.Requisite, declared.answers.IndexedRefusal.TheVariants.Target, Sets.Starts}
+use Rattle.plan_choice.specs.Prelude.{IfErr, IfOk, IsAmong, nat_cmp, Result, ℕ}
+use Rattle.plan_choice.specs.{Answers.{IsPlan, IsRefusal, Refusal, Refusal.{conflict, cycle, manual_start, need_fault, requisite, target_fault}}, Case.{Case}, declared.answers.{IndexedPlan.{IndexedPlan}, IndexedRefusal.{IndexedRefusal, TheVariants.{Conflict, Cycle, ManualStart, Need, Requisite, Target}}}, Sets.{Starts}}
 
 -- the refusal that one over indices means
 abbrev pub refusal_of : IndexedRefusal → Refusal ℕ

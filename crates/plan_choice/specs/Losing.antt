@@ -1,9 +1,6 @@
 -- Which unit loses a conflict, and bits that are set. Only private clauses cite these.
-use Rattle.std.proofs.Common.{◌≡◌, Bool, false, length, List, ℕ}
-use Rattle.std.specs.Ordering.{nat_cmp}
-use Rattle.std.specs.Prelude.{slice_index_or}
-use Rattle.plan_choice.specs.Prelude.{IsAmong}
-use Rattle.plan_choice.specs.{Case.Case, Sets.LosesTo}
+use Rattle.std.proofs.Common.{◌≡◌}
+use Rattle.plan_choice.specs.{Case.{Case}, Prelude.{Bool, false, IsAmong, length, List, nat_cmp, slice_index_or, ℕ}, Sets.{LosesTo}}
 
 abbrev pub IsLoser : Case ℕ → ℕ → Type 0
 IsLoser c u = (v : ℕ) × LosesTo nat_cmp c u v

@@ -1,11 +1,7 @@
 -- Plans and refusals are carried from indices to names.
-use Rattle.std.proofs.Common.{[], ◌<◌, ◌↔◌, ◌∙◌, ◌∷◌, ◌≡◌, ◌⊎◌, ap, Bool, false, inl, inr, IsTrue, List, map, refl, subst, sym, true, ℕ}
-use Rattle.std.specs.Cmp.{IsTotalOrder}
-use Rattle.std.specs.Ordering.{nat_cmp}
-use Rattle.std.specs.declared.cmp.Ordering.{Ordering}
-use Rattle.std.specs.declared.cmp.Ordering.TheVariants.{Less}
-use Rattle.plan_choice.specs.Prelude.{AreNamedSuccessors, AreNames, both_named, closure_named, cycle_named, index_of, IsAmong, IsIndexing, IsReached, least_named, Listed, listed_names, Named, names_compare, reached_named, start_list_named, stuck_named}
-use Rattle.plan_choice.specs.{Answers.AreNeededConflicts, Answers.IsClearBelow, Answers.IsFirstPair, Answers.IsPlan, Answers.IsRefusal, Answers.IsUnloadedNeed, Answers.LacksRequisite, Answers.rank, Answers.Refusal, Answers.Refusal.conflict, Answers.Refusal.cycle, Answers.Refusal.manual_start, Answers.Refusal.need_fault, Answers.Refusal.requisite, Answers.Refusal.target_fault, Answers.Stands, Answers.WaitsForever, Case.Case, NamedCases.IsNamedCase, NamedCases.named_refusal, SetLaws.needs_itself, Sets.AreInConflict, Sets.IsChosen, Sets.IsDropped, Sets.IsExtra, Sets.IsGood, Sets.IsNeeded, Sets.IsOutside, Sets.IsPulled, Sets.IsStoppedByConflict, Sets.Keeps, Sets.Needs, Sets.Precedes, Sets.Pulls, Sets.Starts, Sets.TakesAlong}
+use Rattle.std.proofs.Common.{◌<◌, ◌↔◌, ◌∷◌, ◌≡◌, ◌⊎◌}
+use Rattle.plan_choice.specs.Prelude.{[], ap, AreNamedSuccessors, AreNames, Bool, both_named, closure_named, cycle_named, false, index_of, inl, inr, IsAmong, IsIndexing, IsReached, IsTotalOrder, IsTrue, least_named, Less, List, Listed, listed_names, map, Named, names_compare, nat_cmp, Ordering, reached_named, refl, start_list_named, stuck_named, subst, sym, true, ℕ, ◌∙◌}
+use Rattle.plan_choice.specs.{Answers.{AreNeededConflicts, IsClearBelow, IsFirstPair, IsPlan, IsRefusal, IsUnloadedNeed, LacksRequisite, rank, Refusal, Refusal.{conflict, cycle, manual_start, need_fault, requisite, target_fault}, Stands, WaitsForever}, Case.{Case}, NamedCases.{IsNamedCase, named_refusal}, SetLaws.{needs_itself}, Sets.{AreInConflict, IsChosen, IsDropped, IsExtra, IsGood, IsNeeded, IsOutside, IsPulled, IsStoppedByConflict, Keeps, Needs, Precedes, Pulls, Starts, TakesAlong}}
 
 -- sets with the same members
 same_names : {N : Type 0} (count : ℕ) (name : ℕ → N) (P R : ℕ → Type 0) (Q S : N → Type 0) → AreNames count name P Q → ((i : ℕ) → P i ↔ R i) → ((u : N) → Q u ↔ S u) → AreNames count name R S

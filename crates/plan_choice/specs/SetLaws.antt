@@ -1,11 +1,7 @@
 -- What a plan chooses is closed under need and loaded, its requisites are running, and no two chosen units conflict.
-use Rattle.std.proofs.Common.{[], ◌∷◌, ◌≡◌, ◌⊎◌, inl, inr, IsTrue, refl, subst, suc, sym, zero, ℕ}
-use Rattle.std.specs.Cmp.{IsTotalOrder}
-use Rattle.std.specs.FinMap.{IsAntisymmetric}
-use Rattle.std.specs.declared.cmp.Ordering.{Ordering}
-use Rattle.std.specs.declared.cmp.Ordering.TheVariants.{Equal, Greater, Less}
-use Rattle.plan_choice.specs.Prelude.{IsAmong, IsChain, Listed, Named, reached_closed, reached_least, turned}
-use Rattle.plan_choice.specs.{Case.Case, Sets.AreInConflict, Sets.IsChosen, Sets.IsDropped, Sets.IsExtra, Sets.IsGood, Sets.IsNeeded, Sets.IsPulled, Sets.Keeps, Sets.LosesTo, Sets.Needs, Sets.Pulls}
+use Rattle.std.proofs.Common.{◌∷◌, ◌≡◌, ◌⊎◌}
+use Rattle.plan_choice.specs.Prelude.{[], Equal, Greater, inl, inr, IsAmong, IsAntisymmetric, IsChain, IsTotalOrder, IsTrue, Less, Listed, Named, Ordering, reached_closed, reached_least, refl, subst, suc, sym, turned, zero, ℕ}
+use Rattle.plan_choice.specs.{Case.{Case}, Sets.{AreInConflict, IsChosen, IsDropped, IsExtra, IsGood, IsNeeded, IsPulled, Keeps, LosesTo, Needs, Pulls}}
 
 -- no unit's own settings conflict with the unit itself
 abbrev pub SparesItself : {N : Type 0} → Case N → Type 0

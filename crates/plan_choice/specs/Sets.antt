@@ -2,11 +2,8 @@
 -- along edges.
 -- Source: systemd.unit(5), "Wants=", "Requires=", "Requisite=", "BindsTo=", "PartOf=", "Conflicts=";
 -- which weak dependencies are good, and which unit loses a conflict, is this project's own.
-use Rattle.std.proofs.Common.{[], ◌∷◌, ◌≡◌, ◌⊎◌, IsTrue}
-use Rattle.std.specs.declared.cmp.Ordering.{Ordering}
-use Rattle.std.specs.declared.cmp.Ordering.TheVariants.{Less}
-use Rattle.plan_choice.specs.Prelude.{IsAmong, IsReached, Listed, Named}
-use Rattle.plan_choice.specs.Case.{Case}
+use Rattle.std.proofs.Common.{◌∷◌, ◌≡◌, ◌⊎◌}
+use Rattle.plan_choice.specs.{Case.{Case}, Prelude.{[], IsAmong, IsReached, IsTrue, Less, Listed, Named, Ordering}}
 
 module _ {N : Type 0} (c : Case N) where
   -- v is u, or u needs v, directly or over what it needs

@@ -1,7 +1,6 @@
 -- What is wrong with a unit itself, apart from what it needs. Only private clauses cite this.
-use Rattle.std.proofs.Common.{◌<◌, IsTrue, ℕ}
-use Rattle.plan_choice.specs.Prelude.{IsAmong}
-use Rattle.plan_choice.specs.{Case.Case, Sets.AreInConflict, Sets.IsNeeded}
+use Rattle.std.proofs.Common.{◌<◌}
+use Rattle.plan_choice.specs.{Case.{Case}, Prelude.{IsAmong, IsTrue, ℕ}, Sets.{AreInConflict, IsNeeded}}
 
 -- nothing is: it is loaded, its requisites are running, and it conflicts with nothing that the target needs
 pub record IsSound (c : Case ℕ) (u : ℕ) : Type 0 where

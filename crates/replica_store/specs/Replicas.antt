@@ -1,8 +1,7 @@
 -- What a replica is: a store, and the number under which its node writes.
 -- Source: Lamport 1978, for a counter that is one above all that were seen; the rest is this project's own.
-use Rattle.std.proofs.Common.{◌+◌, refl, ℕ}
-use Rattle.std.specs.Coded.{code_by, Coded, coded_ℕ, coded×}
-use Rattle.replica_store.specs.Prelude.{coded_entry, coded_place, Edit, EntryMap, high_of, Version, with_edit}
+use Rattle.std.proofs.Common.{◌+◌}
+use Rattle.replica_store.specs.Prelude.{code_by, Coded, coded_entry, coded_place, coded_ℕ, coded×, Edit, EntryMap, high_of, refl, Version, with_edit, ℕ}
 use Rattle.std.specs.FinMap as finmap
 
 pub record Replicated : Type 0 where

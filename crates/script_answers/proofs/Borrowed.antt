@@ -1,8 +1,6 @@
 -- Entries that are drop-ins are files, and their text is that of what is visible at their places.
-use Rattle.std.proofs.Common.{[], ◌++◌, ◌∙◌, ◌∷◌, ◌≡◌, ap, codes, List, map, refl, Some, subst, sym, ℕ}
-use Rattle.std.specs.List.{Contains, flat_map}
-use Rattle.std.specs.Option.{option_and_then}
-use Rattle.script_answers.proofs.Prelude.{AreDropInsOf, AreFiles, borrowed_text, cat_text, content_at, drop_in_paths_are_files, Entry, entry_lines, entry_place, file_bytes, file_lines, first_there, folders, HostViewMap, IsFile, later_there, Name, PathParts, PlaceParts, shown, view, viewed_at, what_is_in_view_has_a_place}
+use Rattle.std.proofs.Common.{◌++◌, ◌∷◌, ◌≡◌}
+use Rattle.script_answers.proofs.Prelude.{[], ap, AreDropInsOf, AreFiles, borrowed_text, cat_text, codes, Contains, content_at, drop_in_paths_are_files, Entry, entry_lines, entry_place, file_bytes, file_lines, first_there, flat_map, folders, HostViewMap, IsFile, later_there, List, map, Name, option_and_then, PathParts, PlaceParts, refl, shown, Some, subst, sym, view, viewed_at, what_is_in_view_has_a_place, ℕ, ◌∙◌}
 use Rattle.std.specs.FinMap as finmap
 
 -- what an entry that is seen shows is visible at its path and at its place

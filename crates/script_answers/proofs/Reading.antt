@@ -1,6 +1,6 @@
 -- How the names of a request are read.
-use Rattle.std.proofs.Common.{◌∙◌, ◌≡◌, ap, Err, inl, inr, List, Ok, refl, Result, ℕ}
-use Rattle.script_answers.proofs.Prelude.{Fault, fault_of_name, IsFaultOf, IsNameFault, Name, name_of, NameFault, names_in, request_of, request_with, Viewer}
+use Rattle.std.proofs.Common.{◌≡◌}
+use Rattle.script_answers.proofs.Prelude.{ap, Err, Fault, fault_of_name, inl, inr, IsFaultOf, IsNameFault, List, Name, name_of, NameFault, names_in, Ok, refl, request_of, request_with, Result, Viewer, ℕ, ◌∙◌}
 use Rattle.unit_name.specs.declared.names.NameFault.TheVariants as name
 
 -- a fault of a word is a fault of its name

@@ -1,6 +1,6 @@
 -- From the answer to a question to the answer to the words that ask it.
-use Rattle.std.proofs.Common.{[], ◌≡◌, ap, Err, Global, inl, inr, List, MatchResult, Ok, Option, refl, Result, subst, sym, Vec, ℕ}
-use Rattle.script_answers.proofs.Prelude.{Answer, EntryMap, Fault, fault_of_host, fault_of_name, fault_of_plan, ForHost, host_asked, HostFault, HostName, IsAnswer, IsHostFault, IsNameFault, IsOutcomeOf, IsSaid, NameFault, Outcome, PlanRefusal, Question, RefusesHost, RefusesName, RendersQuestion, RendersWords, Viewer}
+use Rattle.std.proofs.Common.{◌≡◌}
+use Rattle.script_answers.proofs.Prelude.{[], Answer, ap, EntryMap, Err, Fault, fault_of_host, fault_of_name, fault_of_plan, ForHost, Global, host_asked, HostFault, HostName, inl, inr, IsAnswer, IsHostFault, IsNameFault, IsOutcomeOf, IsSaid, List, MatchResult, NameFault, Ok, Option, Outcome, PlanRefusal, Question, refl, RefusesHost, RefusesName, RendersQuestion, RendersWords, Result, subst, sym, Vec, Viewer, ℕ}
 use Rattle.load_places.specs.declared.hosts.HostFault.TheVariants as host
 use Rattle.unit_name.specs.declared.names.NameFault.TheVariants as name
 use Rattle.script_commands.specs.declared.commands.Fault.TheVariants as fault

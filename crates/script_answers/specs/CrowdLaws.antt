@@ -1,7 +1,6 @@
 -- A crowd has one answer.
-use Rattle.std.proofs.Common.{◌∙◌, ◌≡◌, ap, false, inl, inr, sym, ℕ}
-use Rattle.script_answers.specs.Prelude.{EntryMap, is_spent, Outcome}
-use Rattle.script_answers.specs.Crowds.{RendersCrowd}
+use Rattle.std.proofs.Common.{◌≡◌}
+use Rattle.script_answers.specs.{Crowds.{RendersCrowd}, Prelude.{ap, EntryMap, false, inl, inr, is_spent, Outcome, sym, ℕ, ◌∙◌}}
 
 -- a crowd has one answer, or one refusal
 abbrev pub CrowdsAreRenderedOnce : Type 0

@@ -1,8 +1,7 @@
 -- The answer to a crowd.
 -- Source: this project's own.
-use Rattle.std.proofs.Common.{◌*◌, ◌<◌, ◌≡◌, ◌≤◌, ◌⊎◌, Err, Ok, ℕ}
-use Rattle.script_answers.specs.Prelude.{crowd_places, EntryMap, Outcome, places_with, Seats}
-use Rattle.script_answers.specs.Texts.{crowd_line}
+use Rattle.std.proofs.Common.{◌*◌, ◌<◌, ◌≡◌, ◌≤◌, ◌⊎◌}
+use Rattle.script_answers.specs.{Prelude.{crowd_places, EntryMap, Err, Ok, Outcome, places_with, Seats, ℕ}, Texts.{crowd_line}}
 
 -- 1 to 64 seats
 abbrev pub AreSeats : ℕ → Type 0

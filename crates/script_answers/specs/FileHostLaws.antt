@@ -1,9 +1,8 @@
 -- Laws of a unit's files for hosts: for one at whose places nothing is visible they are told as without a host, and no other
 -- host's place changes any of it.
-use Rattle.std.proofs.Common.{[], ◌++◌, ◌↔◌, ◌∙◌, ◌∷◌, ◌≡◌, ◌≢◌, ap, codes, Err, List, MatchResult, None, Ok, Option, refl, Result, Some, subst, sym, ℕ}
-use Rattle.std.specs.List.{Contains, flat_map}
-use Rattle.script_answers.specs.Prelude.{Choice, content_at, EntryMap, files_show, first_there, HaveTheSameFiles, Host, host_asked, host_view_of, HostFault, hosts_without_places_have_these_files, HostViewMap, later_there, level_for, mains_decide, Name, name_of, NameFault, other_hosts_are_not_in_view, Outcome, PlaceParts, Resolution, resolution, same_mains, ShowsNothing, turned, Viewer}
-use Rattle.script_answers.specs.{Files.file_bytes, Files.file_lines, Files.IsCat, Files.RefusesName, Files.RendersChoice, Files.RendersFiles, Files.RendersFilesOf, Hosts.RefusesHost}
+use Rattle.std.proofs.Common.{◌++◌, ◌↔◌, ◌∷◌, ◌≡◌, ◌≢◌}
+use Rattle.script_answers.specs.Prelude.{[], ap, Choice, codes, Contains, content_at, EntryMap, Err, files_show, first_there, flat_map, HaveTheSameFiles, Host, host_asked, host_view_of, HostFault, hosts_without_places_have_these_files, HostViewMap, later_there, level_for, List, mains_decide, MatchResult, Name, name_of, NameFault, None, Ok, Option, other_hosts_are_not_in_view, Outcome, PlaceParts, refl, Resolution, resolution, Result, same_mains, ShowsNothing, Some, subst, sym, turned, Viewer, ℕ, ◌∙◌}
+use Rattle.script_answers.specs.{Files.{file_bytes, file_lines, IsCat, RefusesName, RendersChoice, RendersFiles, RendersFilesOf}, Hosts.{RefusesHost}}
 use Rattle.std.specs.FinMap as finmap
 use Rattle.fragment_choice.specs.declared.choices.Choice.TheVariants as choice
 

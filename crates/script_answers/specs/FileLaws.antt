@@ -1,7 +1,7 @@
 -- Each question about units has one answer.
-use Rattle.std.proofs.Common.{◌∙◌, ◌∷◌, ◌≡◌, ap, Err, false, List, MatchResult, Ok, Option, Result, subst, sym, ℕ}
-use Rattle.script_answers.specs.Prelude.{Choice, EntryMap, host_view_of, HostViewMap, is_spent, IsDropInAt, Name, name_of, NameFault, one_list_of_names, one_order, Outcome, PlaceParts, resolution}
-use Rattle.script_answers.specs.{Files.cat_text, Files.IsCat, Files.RefusesName, Files.RendersChoice, Files.RendersFiles, Files.RendersFilesOf, HostLaws.for_host_once, HostLaws.for_host_unspent}
+use Rattle.std.proofs.Common.{◌∷◌, ◌≡◌}
+use Rattle.script_answers.specs.Prelude.{ap, Choice, EntryMap, Err, false, host_view_of, HostViewMap, is_spent, IsDropInAt, List, MatchResult, Name, name_of, NameFault, Ok, one_list_of_names, one_order, Option, Outcome, PlaceParts, resolution, Result, subst, sym, ℕ, ◌∙◌}
+use Rattle.script_answers.specs.{Files.{cat_text, IsCat, RefusesName, RendersChoice, RendersFiles, RendersFilesOf}, HostLaws.{for_host_once, for_host_unspent}}
 use Rattle.unit_name.specs.declared.names.NameFault.TheVariants as name
 use Rattle.fragment_choice.specs.declared.choices.Choice.TheVariants as choice
 

@@ -1,10 +1,7 @@
 -- The files of a unit, and how they are written.
 -- Source: as `systemctl cat` shows a unit (systemctl(1)); the texts of refusals are this project's own.
-use Rattle.std.proofs.Common.{[], ◌++◌, ◌↔◌, ◌∷◌, ◌≡◌, codes, Err, if◌then◌else◌, List, map, MatchResult, None, Ok, Option, Some, ℕ}
-use Rattle.std.specs.List.{Contains, ends_with, flat_map}
-use Rattle.std.specs.List.Sorted.{IsStrictlySortedBy}
-use Rattle.std.specs.Prelude.{nat_eq}
-use Rattle.script_answers.specs.Prelude.{AreNames, Bad, BadByte, Choice, Content, content_at, EmptyPrefix, Entry, entry_place, EntryMap, File, file_name, Gone, host_view_of, HostViewMap, IsDropInAt, Kind, Length, Link, Masked, Name, name_cmp, name_of, NameFault, NotFound, Outcome, PathParts, place_text, PlaceParts, resolution, shown}
+use Rattle.std.proofs.Common.{if◌then◌else◌, ◌++◌, ◌↔◌, ◌∷◌, ◌≡◌}
+use Rattle.script_answers.specs.Prelude.{[], AreNames, Bad, BadByte, Choice, codes, Contains, Content, content_at, EmptyPrefix, ends_with, Entry, entry_place, EntryMap, Err, File, file_name, flat_map, Gone, host_view_of, HostViewMap, IsDropInAt, IsStrictlySortedBy, Kind, Length, Link, List, map, Masked, MatchResult, Name, name_cmp, name_of, NameFault, nat_eq, None, NotFound, Ok, Option, Outcome, PathParts, place_text, PlaceParts, resolution, shown, Some, ℕ}
 use Rattle.script_answers.specs.Hosts.{ForHost}
 use Rattle.unit_name.specs.declared.names.NameFault.TheVariants as name
 use Rattle.fragment_choice.specs.declared.choices.Choice.TheVariants as choice

@@ -1,8 +1,7 @@
 -- What has one answer for each host has one for the host that is named, and so for answers that are never that counters
 -- are spent.
-use Rattle.std.proofs.Common.{◌∙◌, ◌≡◌, ap, Err, false, List, MatchResult, Ok, Option, Result, sym, ℕ}
-use Rattle.script_answers.specs.Prelude.{EntryMap, host_asked, HostFault, is_spent, Outcome, Viewer}
-use Rattle.script_answers.specs.Hosts.{ForHost, RefusesHost}
+use Rattle.std.proofs.Common.{◌≡◌}
+use Rattle.script_answers.specs.{Hosts.{ForHost, RefusesHost}, Prelude.{ap, EntryMap, Err, false, host_asked, HostFault, is_spent, List, MatchResult, Ok, Option, Outcome, Result, sym, Viewer, ℕ, ◌∙◌}}
 use Rattle.load_places.specs.declared.hosts.HostFault.TheVariants as host
 
 host_refused_once : (a b : Outcome) (fault : HostFault) → RefusesHost fault a → RefusesHost fault b → a ≡ b

@@ -1,7 +1,7 @@
 -- Answers for the host that a word names, or without one.
 -- Source: this project's own.
-use Rattle.std.proofs.Common.{◌≡◌, Err, List, MatchResult, Option, ℕ}
-use Rattle.script_answers.specs.Prelude.{EntryMap, host_asked, HostFault, HostName, Outcome, Viewer}
+use Rattle.std.proofs.Common.{◌≡◌}
+use Rattle.script_answers.specs.Prelude.{EntryMap, Err, host_asked, HostFault, HostName, List, MatchResult, Option, Outcome, Viewer, ℕ}
 use Rattle.load_places.specs.declared.hosts.HostFault.TheVariants as host
 
 -- bytes that name no host are refused

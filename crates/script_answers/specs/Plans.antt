@@ -1,8 +1,7 @@
 -- How a plan is written, or why there is none.
 -- Source: systemctl(1), "start"; the texts are this project's own.
-use Rattle.std.proofs.Common.{◌++◌, ◌≡◌, codes, Err, List, ℕ}
-use Rattle.std.specs.List.{flat_map}
-use Rattle.script_answers.specs.Prelude.{Bad, Conflict, Cycle, Fault, LineRefusal, ManualStart, Masked, Name, NotFound, Outcome, Plan, PlanRefusal, Requisite, Template}
+use Rattle.std.proofs.Common.{◌++◌, ◌≡◌}
+use Rattle.script_answers.specs.Prelude.{Bad, codes, Conflict, Cycle, Err, Fault, flat_map, LineRefusal, List, ManualStart, Masked, Name, NotFound, Outcome, Plan, PlanRefusal, Requisite, Template, ℕ}
 use Rattle.script_commands.specs.declared.commands.Fault.TheVariants as fault
 use Rattle.start_plan.specs.declared.requests.Refusal.TheVariants as plan
 

@@ -1,9 +1,7 @@
 -- How the units that a unit pulls are written, each with its least distance.
 -- Source: systemctl(1), "list-dependencies"; the texts are this project's own.
-use Rattle.std.proofs.Common.{◌++◌, codes, List, ℕ}
-use Rattle.std.specs.Fmt.{decimal}
-use Rattle.std.specs.List.{flat_map}
-use Rattle.script_answers.specs.Prelude.{Name}
+use Rattle.std.proofs.Common.{◌++◌}
+use Rattle.script_answers.specs.Prelude.{codes, decimal, flat_map, List, Name, ℕ}
 
 -- a distance and a name
 abbrev pub depth_line : ℕ × Name → List ℕ

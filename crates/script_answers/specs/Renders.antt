@@ -1,8 +1,8 @@
 -- The answer to a question about a node's store: how it is written, or why the words make no question.
 -- Source: systemctl(1), "show", "list-dependencies", "start"; the texts are this project's own.
-use Rattle.std.proofs.Common.{[], ◌≡◌, Err, List, MatchResult, Ok, Option, Result, ℕ}
-use Rattle.script_answers.specs.Prelude.{Answer, EntryMap, IsAnswer, name_of, NameFault, Outcome, Question, Viewer}
-use Rattle.script_answers.specs.{declared.requests.Inquiry.Inquiry, Files.RefusesName, Hosts.ForHost, Plans.plan_text, Plans.RefusesPlan, PulledLines.pulled_text, Requests.request_of, UnitLines.unit_text}
+use Rattle.std.proofs.Common.{◌≡◌}
+use Rattle.script_answers.specs.Prelude.{[], Answer, EntryMap, Err, IsAnswer, List, MatchResult, name_of, NameFault, Ok, Option, Outcome, Question, Result, Viewer, ℕ}
+use Rattle.script_answers.specs.{declared.requests.Inquiry.{Inquiry}, Files.{RefusesName}, Hosts.{ForHost}, Plans.{plan_text, RefusesPlan}, PulledLines.{pulled_text}, Requests.{request_of}, UnitLines.{unit_text}}
 use Rattle.script_commands.specs.declared.commands.LineRefusal.TheVariants as refusal
 use Rattle.fleet_answers.specs.declared.questions.Answer.TheVariants as answer
 use Rattle.fleet_answers.specs.declared.questions.Question.TheVariants as question

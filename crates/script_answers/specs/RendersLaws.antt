@@ -1,7 +1,7 @@
 -- A question has one answer, which is never that counters are spent.
-use Rattle.std.proofs.Common.{[], ◌∙◌, ◌≡◌, ap, Err, false, List, Ok, Option, Result, subst, sym, ℕ}
-use Rattle.script_answers.specs.Prelude.{Answer, EntryMap, is_spent, LineRefusal, NameFault, one_answer, Outcome, PlanRefusal, Question, Viewer}
-use Rattle.script_answers.specs.{FileLaws.name_refused_once, FileLaws.name_unspent, HostLaws.for_host_once, HostLaws.for_host_unspent, Plans.fault_of_plan, Plans.RefusesPlan, Renders.IsOutcomeOf, Renders.RendersFor, Renders.RendersQuestion, Renders.RendersWords}
+use Rattle.std.proofs.Common.{◌≡◌}
+use Rattle.script_answers.specs.Prelude.{[], Answer, ap, EntryMap, Err, false, is_spent, LineRefusal, List, NameFault, Ok, one_answer, Option, Outcome, PlanRefusal, Question, Result, subst, sym, Viewer, ℕ, ◌∙◌}
+use Rattle.script_answers.specs.{FileLaws.{name_refused_once, name_unspent}, HostLaws.{for_host_once, for_host_unspent}, Plans.{fault_of_plan, RefusesPlan}, Renders.{IsOutcomeOf, RendersFor, RendersQuestion, RendersWords}}
 use Rattle.script_commands.specs.declared.commands.Fault.TheVariants as fault
 use Rattle.start_plan.specs.declared.requests.Refusal.TheVariants as plan
 use Rattle.fleet_answers.specs.declared.questions.Answer.TheVariants as answer

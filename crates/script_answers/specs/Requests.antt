@@ -1,7 +1,7 @@
 -- The request that words make, and the names that it asks for.
 -- Source: this project's own.
-use Rattle.std.proofs.Common.{◌≡◌, ◌⊎◌, Err, List, Ok, Result, ℕ}
-use Rattle.script_answers.specs.Prelude.{each_read, Fault, fault_of_name, Memory, Name, name_of, NameFault, Request, Viewer}
+use Rattle.std.proofs.Common.{◌≡◌, ◌⊎◌}
+use Rattle.script_answers.specs.Prelude.{each_read, Err, Fault, fault_of_name, List, Memory, Name, name_of, NameFault, Ok, Request, Result, Viewer, ℕ}
 
 -- the unit names that some words are, or the first thing wrong with the first that is none
 abbrev pub names_in : List (List ℕ) → Result (List Name) NameFault

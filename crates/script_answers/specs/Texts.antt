@@ -1,9 +1,7 @@
 -- How answers are written.
 -- Source: this project's own.
-use Rattle.std.proofs.Common.{[], ◌++◌, codes, Err, length, List, Ok, ℕ}
-use Rattle.std.specs.Fmt.{decimal}
-use Rattle.std.specs.List.{flat_map}
-use Rattle.script_answers.specs.Prelude.{Arguments, Bad, BadByte, BadLink, BadText, Component, Conflict, Content, Cycle, Depth, Directory, EmptyPrefix, Entry, EntryMap, File, FileTooLarge, Gone, HostName, Kind, Length, LineRefusal, LineTooLong, Link, ManualStart, Masked, Name, NodeTaken, NotFound, Nothing, Outcome, place_text, PlaceParts, Requisite, Seats, Template, TooManyUnits, UnknownCommand, UnknownNode, UnknownPiece, Version, VersionsSpent, Workers, WriterTaken}
+use Rattle.std.proofs.Common.{◌++◌}
+use Rattle.script_answers.specs.Prelude.{[], Arguments, Bad, BadByte, BadLink, BadText, codes, Component, Conflict, Content, Cycle, decimal, Depth, Directory, EmptyPrefix, Entry, EntryMap, Err, File, FileTooLarge, flat_map, Gone, HostName, Kind, Length, length, LineRefusal, LineTooLong, Link, List, ManualStart, Masked, Name, NodeTaken, NotFound, Nothing, Ok, Outcome, place_text, PlaceParts, Requisite, Seats, Template, TooManyUnits, UnknownCommand, UnknownNode, UnknownPiece, Version, VersionsSpent, Workers, WriterTaken, ℕ}
 use Rattle.std.specs.FinMap as finmap
 
 -- the counter, a dot, the writer

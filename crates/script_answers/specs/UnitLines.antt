@@ -1,15 +1,12 @@
 -- How a unit is written.
 -- Source: this project's own.
-use Rattle.std.proofs.Common.{[], ◌++◌, ◌∷◌, codes, List, ℕ}
-use Rattle.std.specs.Fmt.{decimal}
-use Rattle.std.specs.List.{flat_map}
-use Rattle.script_answers.specs.Prelude.{Cause, DependencyList, DepKind, LinkedUnit, Loaded, LoadedUnit, Loop, Name, place_text, PlaceParts, Row, Setting, Shape, Status, Target, UnitNote, word}
+use Rattle.std.proofs.Common.{◌++◌, ◌∷◌}
+use Rattle.fragment_choice.specs.declared.choices.Cause.TheVariants.{Kind}
+use Rattle.unit_loads.specs.declared.units.{Status.TheVariants.{Bad, Masked, NotFound}, UnitNote.TheVariants.{File}}
+use Rattle.script_answers.specs.Prelude.{[], Cause, codes, decimal, DependencyList, DepKind, flat_map, LinkedUnit, List, Loaded, LoadedUnit, Loop, Name, place_text, PlaceParts, Row, Setting, Shape, Status, Target, UnitNote, word, ℕ}
 use Rattle.script_answers.specs.Texts.{spaced_names}
 use Rattle.section_reader.specs.Words as line_notes
 use Rattle.setting_rules.specs.Notes as setting_notes
-use Rattle.fragment_choice.specs.declared.choices.Cause.TheVariants.{Kind}
-use Rattle.unit_loads.specs.declared.units.Status.TheVariants.{NotFound, Masked, Bad}
-use Rattle.unit_loads.specs.declared.units.UnitNote.TheVariants.{File}
 
 -- the code and the name of a cause
 abbrev pub cause_text : Cause → List ℕ

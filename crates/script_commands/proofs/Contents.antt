@@ -1,6 +1,6 @@
 -- Bytes that can't become a file.
-use Rattle.std.proofs.Common.{◌≡◌, ◌⊎◌, Bool, cond, Err, false, inl, inr, List, Ok, refl, Result, true, ℕ}
-use Rattle.script_commands.proofs.Prelude.{Content, ContentFault, fault_of_content, File, file_of, is_file, IsNoFile, Spells, too_large, without_memory}
+use Rattle.std.proofs.Common.{◌≡◌, ◌⊎◌}
+use Rattle.script_commands.proofs.Prelude.{Bool, cond, Content, ContentFault, Err, false, fault_of_content, File, file_of, inl, inr, is_file, IsNoFile, List, Ok, refl, Result, Spells, too_large, true, without_memory, ℕ}
 use Rattle.edit_sums.specs.declared.contents.ContentFault.TheVariants as content
 
 -- bytes that are refused as too many are too many

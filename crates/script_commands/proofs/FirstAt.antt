@@ -1,8 +1,6 @@
 -- The host of a word, by the index of the word's first at sign.
-use Rattle.std.proofs.Common.{[], ◌+◌, ◌||◌, ◌∙◌, ◌∷◌, ◌≡◌, arith, Bool, cond, drop, false, length, List, nat_lt, None, not, position, refl, Some, suc, true, ℕ}
-use Rattle.std.proofs.lemmas.Bool.Decides.{nat_tests}
-use Rattle.std.specs.List.{list_any, position_or_len}
-use Rattle.script_commands.proofs.Prelude.{host_in, is_at}
+use Rattle.std.proofs.Common.{◌+◌, ◌||◌, ◌∷◌, ◌≡◌}
+use Rattle.script_commands.proofs.Prelude.{[], arith, Bool, cond, drop, false, host_in, is_at, length, List, list_any, nat_lt, nat_tests, None, not, position, position_or_len, refl, Some, suc, true, ℕ, ◌∙◌}
 
 first_lt : (n : ℕ) → true ≡ nat_lt 0 (suc n)
 first_lt n = grind (arith, nat_tests)

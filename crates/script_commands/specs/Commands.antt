@@ -1,9 +1,8 @@
 -- The command that a line asks for.
 -- Source: this project's own.
-use Rattle.std.proofs.Common.{[], ◌&&◌, ◌∷◌, codes, Err, if◌then◌else◌, List, nat_le, None, Ok, Option, Result, Some, ℕ}
-use Rattle.std.specs.Str.{bytes_eq}
-use Rattle.script_commands.specs.Prelude.{is_name, number_of, text_after, words_of}
-use Rattle.script_commands.specs.{declared.commands.Command.Command, declared.commands.Command.TheVariants.Cat, declared.commands.Command.TheVariants.Crowd, declared.commands.Command.TheVariants.Files, declared.commands.Command.TheVariants.Link, declared.commands.Command.TheVariants.List as ListUnits, declared.commands.Command.TheVariants.Merge, declared.commands.Command.TheVariants.Node, declared.commands.Command.TheVariants.Part, declared.commands.Command.TheVariants.Plan, declared.commands.Command.TheVariants.Put, declared.commands.Command.TheVariants.Remove, declared.commands.Command.TheVariants.Same, declared.commands.Command.TheVariants.Send, declared.commands.Command.TheVariants.Show, declared.commands.Command.TheVariants.Sweep, declared.commands.Command.TheVariants.Workers, declared.commands.LineRefusal.LineRefusal, declared.commands.LineRefusal.TheVariants.Arguments, declared.commands.LineRefusal.TheVariants.UnknownCommand, Hosts.host_in, Hosts.node_in}
+use Rattle.std.proofs.Common.{if◌then◌else◌, ◌&&◌, ◌∷◌}
+use Rattle.script_commands.specs.Prelude.{[], bytes_eq, codes, Err, is_name, List, nat_le, None, number_of, Ok, Option, Result, Some, text_after, words_of, ℕ}
+use Rattle.script_commands.specs.{declared.commands.{Command.{Command, TheVariants.{Cat, Crowd, Files, Link, List as ListUnits, Merge, Node, Part, Plan, Put, Remove, Same, Send, Show, Sweep, Workers}}, LineRefusal.{LineRefusal, TheVariants.{Arguments, UnknownCommand}}}, Hosts.{host_in, node_in}}
 
 -- a command with a name and a word
 abbrev pub with_name_and_word : (List ℕ → List ℕ → Command) → List (List ℕ) → Result Command LineRefusal

@@ -1,6 +1,7 @@
 -- Parsing a list of texts, one by one.
 -- Source: this project's own.
-use Rattle.std.proofs.Common.{[], ◌++◌, ◌∷◌, Err, List, Ok, Result, ℕ}
+use Rattle.std.proofs.Common.{◌++◌, ◌∷◌}
+use Rattle.script_commands.specs.Prelude.{[], Err, List, Ok, Result, ℕ}
 
 module _ {A E : Type 0} where
   -- a parsed value before the values parsed from the rest

@@ -1,7 +1,7 @@
 -- The refusal for each fault of a lower layer.
 -- Source: this project's own.
 use Rattle.script_commands.specs.Prelude.{ContentFault, EditFault, HostFault, NameFault, PlaceFault}
-use Rattle.script_commands.specs.{declared.commands.Fault.Fault, declared.commands.Fault.TheVariants.Memory, declared.commands.Fault.TheVariants.Refused, declared.commands.LineRefusal.TheVariants.BadByte, declared.commands.LineRefusal.TheVariants.BadLink, declared.commands.LineRefusal.TheVariants.Component, declared.commands.LineRefusal.TheVariants.Depth, declared.commands.LineRefusal.TheVariants.Directory, declared.commands.LineRefusal.TheVariants.EmptyPrefix, declared.commands.LineRefusal.TheVariants.FileTooLarge, declared.commands.LineRefusal.TheVariants.HostName, declared.commands.LineRefusal.TheVariants.Kind, declared.commands.LineRefusal.TheVariants.Length, declared.commands.LineRefusal.TheVariants.Nothing, declared.commands.LineRefusal.TheVariants.VersionsSpent}
+use Rattle.script_commands.specs.declared.commands.{Fault.{Fault, TheVariants.{Memory, Refused}}, LineRefusal.TheVariants.{BadByte, BadLink, Component, Depth, Directory, EmptyPrefix, FileTooLarge, HostName, Kind, Length, Nothing, VersionsSpent}}
 use Rattle.edit_sums.specs.declared.contents.ContentFault.TheVariants as content
 use Rattle.load_places.specs.declared.hosts.HostFault.TheVariants as host
 use Rattle.load_places.specs.declared.texts.PlaceFault.TheVariants as place

@@ -1,8 +1,7 @@
 -- What a line must contain for its next field, and why a field is refused.
 -- Source: this project's own.
-use Rattle.std.proofs.Common.{[], ◌<◌, ◌∷◌, ◌≡◌, false, List, None, Option, Some, true, ℕ}
-use Rattle.script_commands.specs.Prelude.{is_name, number_of}
-use Rattle.script_commands.specs.Hosts.{host_in, node_in}
+use Rattle.std.proofs.Common.{◌<◌, ◌∷◌, ◌≡◌}
+use Rattle.script_commands.specs.{Hosts.{host_in, node_in}, Prelude.{[], false, is_name, List, None, number_of, Option, Some, true, ℕ}}
 
 -- there are no words, or the first fails
 abbrev FirstFails : (List ℕ → Type 0) → List (List ℕ) → Type 0

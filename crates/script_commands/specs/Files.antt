@@ -1,8 +1,8 @@
 -- The contents that words spell.
 -- Source: this project's own.
-use Rattle.std.proofs.Common.{◌≡◌, ◌⊎◌, false, List, true, ℕ}
-use Rattle.script_commands.specs.Prelude.{Content, File, is_file, is_target, IsBadText, Link, Spells}
-use Rattle.script_commands.specs.{declared.commands.Fault.Fault, declared.commands.Fault.TheVariants.Memory, declared.commands.Fault.TheVariants.Refused, declared.commands.LineRefusal.TheVariants.BadLink, declared.commands.LineRefusal.TheVariants.BadText, declared.commands.LineRefusal.TheVariants.FileTooLarge}
+use Rattle.std.proofs.Common.{◌≡◌, ◌⊎◌}
+use Rattle.script_commands.specs.Prelude.{Content, false, File, is_file, is_target, IsBadText, Link, List, Spells, true, ℕ}
+use Rattle.script_commands.specs.declared.commands.{Fault.{Fault, TheVariants.{Memory, Refused}}, LineRefusal.TheVariants.{BadLink, BadText, FileTooLarge}}
 
 -- the content is the file that a text spells, which isn't too large
 pub record IsFileOf (text : List ℕ) (content : Content) : Type 0 where

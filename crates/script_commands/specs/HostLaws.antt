@@ -1,7 +1,6 @@
 -- A node and a host written in one word are read back, and writing what is read gives the word.
-use Rattle.std.proofs.Common.{[], ◌+◌, ◌||◌, ◌∙◌, ◌∷◌, ◌≡◌, ◌≢◌, ap, arith, Bool, cond, drop, false, List, None, not, Option, refl, Some, suc, sym, take, true, ℕ}
-use Rattle.std.proofs.lemmas.Bool.{cond-false, cond-true, eqb-true, ne_eqb}
-use Rattle.std.specs.List.{after_first, AllByRecursion, list_any, position_or_len}
+use Rattle.std.proofs.Common.{◌+◌, ◌||◌, ◌∷◌, ◌≡◌, ◌≢◌}
+use Rattle.script_commands.specs.Prelude.{[], after_first, AllByRecursion, ap, arith, Bool, cond, cond-false, cond-true, drop, eqb-true, false, List, list_any, ne_eqb, None, not, Option, position_or_len, refl, Some, suc, sym, take, true, ℕ, ◌∙◌}
 use Rattle.script_commands.specs.Hosts.{host_in, is_at, node_in, node_word}
 
 one_more : (n : ℕ) → 1 + n ≡ suc n

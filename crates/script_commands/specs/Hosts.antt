@@ -1,9 +1,8 @@
 -- The node and the host in one word, NODE or NODE@HOST, and how the host is parsed.
 -- Source: this project's own.
-use Rattle.std.proofs.Common.{◌++◌, ◌==◌, ◌∷◌, ◌≡◌, ◌⊎◌, Bool, Err, if◌then◌else◌, List, None, Ok, Option, Result, Some, ℕ}
-use Rattle.std.specs.List.{after_first, before_first, list_any}
-use Rattle.script_commands.specs.Prelude.{host_of, HostFault}
-use Rattle.script_commands.specs.{declared.commands.Fault.Fault, declared.commands.Fault.TheVariants.Memory, Faults.fault_of_host}
+use Rattle.std.proofs.Common.{if◌then◌else◌, ◌++◌, ◌==◌, ◌∷◌, ◌≡◌, ◌⊎◌}
+use Rattle.script_commands.specs.Prelude.{after_first, before_first, Bool, Err, host_of, HostFault, List, list_any, None, Ok, Option, Result, Some, ℕ}
+use Rattle.script_commands.specs.{declared.commands.Fault.{Fault, TheVariants.{Memory}}, Faults.{fault_of_host}}
 
 abbrev pub is_at : ℕ → Bool
 is_at b = b == 64

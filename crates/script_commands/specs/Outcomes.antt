@@ -1,8 +1,6 @@
 -- The outcome of a command.
 -- Source: this project's own.
-use Rattle.std.proofs.Common.{Bool, Err, false, List, Ok, Result, true, ℕ}
-use Rattle.std.specs.Prelude.{⊤}
-use Rattle.script_commands.specs.{declared.commands.Fault.Fault, declared.commands.Fault.TheVariants.Memory, declared.commands.Fault.TheVariants.Refused, declared.commands.LineRefusal.LineRefusal, declared.commands.LineRefusal.TheVariants.VersionsSpent}
+use Rattle.script_commands.specs.{declared.commands.{Fault.{Fault, TheVariants.{Memory, Refused}}, LineRefusal.{LineRefusal, TheVariants.{VersionsSpent}}}, Prelude.{Bool, Err, false, List, Ok, Result, true, ℕ, ⊤}}
 
 -- the text of its answer, or a refusal
 abbrev pub Outcome : Type 0

@@ -1,8 +1,7 @@
 -- The places that words spell.
 -- Source: this project's own.
-use Rattle.std.proofs.Common.{◌≡◌, ◌⊎◌, Err, List, Result, ℕ}
-use Rattle.script_commands.specs.Prelude.{place_of, PlaceFault, PlaceParts}
-use Rattle.script_commands.specs.{declared.commands.Fault.Fault, declared.commands.Fault.TheVariants.Memory, Each.each_read, Faults.fault_of_place}
+use Rattle.std.proofs.Common.{◌≡◌, ◌⊎◌}
+use Rattle.script_commands.specs.{declared.commands.Fault.{Fault, TheVariants.{Memory}}, Each.{each_read}, Faults.{fault_of_place}, Prelude.{Err, List, place_of, PlaceFault, PlaceParts, Result, ℕ}}
 
 -- the places that some texts spell, or the first fault in the first that isn't a place
 abbrev pub places_of : List (List ℕ) → Result (List PlaceParts) PlaceFault

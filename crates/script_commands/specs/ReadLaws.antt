@@ -1,11 +1,8 @@
 -- A line is read as a command exactly if it has that command's words; any other line is refused for what is wrong with
 -- it.
-use Rattle.std.proofs.Common.{[], ◌&&◌, ◌∙◌, ◌∷◌, ◌≡◌, ◌⊎◌, ap, Bool, codes, cond, drop, Err, false, inl, inr, List, nat_le, None, Ok, Option, refl, Result, Some, subst, sym, true, ℕ}
-use Rattle.std.proofs.lemmas.Bool.{and_from, and_parts, cond-true, le-leb, leb-true, true≢false}
-use Rattle.std.proofs.lemmas.Slice.Eq.{bytes_eq-Decides}
-use Rattle.std.specs.Str.{bytes_eq}
-use Rattle.script_commands.specs.Prelude.{is_name, number_of, text_after, words_of}
-use Rattle.script_commands.specs.{Commands.command_of_words, Commands.crowd_command, Commands.crowd_with, Commands.files_command, Commands.link_command, Commands.node_command, Commands.node_with, Commands.part_command, Commands.plan_command, Commands.put_command, Commands.sweep_command, Commands.with_name_and_word, Commands.with_node_and_word, Commands.with_two_names, Commands.workers_command, Commands.workers_with, declared.commands.Command.Command, declared.commands.Command.TheVariants.Cat, declared.commands.Command.TheVariants.Crowd, declared.commands.Command.TheVariants.Files, declared.commands.Command.TheVariants.Link, declared.commands.Command.TheVariants.List as ListUnits, declared.commands.Command.TheVariants.Merge, declared.commands.Command.TheVariants.Node, declared.commands.Command.TheVariants.Part, declared.commands.Command.TheVariants.Plan, declared.commands.Command.TheVariants.Put, declared.commands.Command.TheVariants.Remove, declared.commands.Command.TheVariants.Same, declared.commands.Command.TheVariants.Send, declared.commands.Command.TheVariants.Show, declared.commands.Command.TheVariants.Sweep, declared.commands.Command.TheVariants.Workers, declared.commands.LineRefusal.LineRefusal, declared.commands.LineRefusal.TheVariants.Arguments, declared.commands.LineRefusal.TheVariants.UnknownCommand, HostLaws.node_word-read, Hosts.host_in, Hosts.node_in, Hosts.node_word, WrittenLaws.AreWordsOf, WrittenLaws.BeginsWithVerb, WrittenLaws.IsName, WrittenLaws.IsOneOf, WrittenLaws.JustItsWordsAreRead, WrittenLaws.node_word_is_cut, WrittenLaws.OthersAreRefused, WrittenLaws.verbs}
+use Rattle.std.proofs.Common.{◌&&◌, ◌∷◌, ◌≡◌, ◌⊎◌}
+use Rattle.script_commands.specs.Prelude.{[], and_from, and_parts, ap, Bool, bytes_eq, bytes_eq-Decides, codes, cond, cond-true, drop, Err, false, inl, inr, is_name, le-leb, leb-true, List, nat_le, None, number_of, Ok, Option, refl, Result, Some, subst, sym, text_after, true, true≢false, words_of, ℕ, ◌∙◌}
+use Rattle.script_commands.specs.{Commands.{command_of_words, crowd_command, crowd_with, files_command, link_command, node_command, node_with, part_command, plan_command, put_command, sweep_command, with_name_and_word, with_node_and_word, with_two_names, workers_command, workers_with}, declared.commands.{Command.{Command, TheVariants.{Cat, Crowd, Files, Link, List as ListUnits, Merge, Node, Part, Plan, Put, Remove, Same, Send, Show, Sweep, Workers}}, LineRefusal.{LineRefusal, TheVariants.{Arguments, UnknownCommand}}}, HostLaws.{node_word-read}, Hosts.{host_in, node_in, node_word}, WrittenLaws.{AreWordsOf, BeginsWithVerb, IsName, IsOneOf, JustItsWordsAreRead, node_word_is_cut, OthersAreRefused, verbs}}
 
 -- No other words.
 

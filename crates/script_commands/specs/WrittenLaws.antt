@@ -1,16 +1,8 @@
 -- A command is read back from its written form: its words, with one space between them.
-use Rattle.std.proofs.Common.{[], ◌&&◌, ◌++◌, ◌<◌, ◌^◌, ◌↔◌, ◌∙◌, ◌∷◌, ◌≡◌, ◌≢◌, ◌≤◌, ◌⊎◌, All, ap, append_assoc, arith, Bool, codes, cond, Err, false, length, length-append, List, nat_lt, None, Ok, Option, refl, Result, rules, Some, sym, true, ℕ}
-use Rattle.std.proofs.lemmas.Bool.{and_from, and_parts, cond-true, le-leb, true≢false}
-use Rattle.std.proofs.lemmas.Bool.Decides.{nat_tests}
-use Rattle.std.proofs.lemmas.Fmt.{decimal_nonempty, digits_decimal, length-decimal-le}
-use Rattle.std.proofs.lemmas.List.Elements.{All-append, All-cons, All-from_recursion, recursion_from_All}
-use Rattle.std.proofs.lemmas.Str.Parse.{IsDigitsTest, numerals_by_value}
-use Rattle.std.specs.Char.{is_ascii_alphanumeric, is_ascii_digit}
-use Rattle.std.specs.Fmt.{decimal}
-use Rattle.std.specs.List.{AllByRecursion, join_with_byte, list_all}
-use Rattle.script_commands.specs.Prelude.{IsWord, number_of, number_of-decimal, spaced, text_after, text_after-last, text_after-spaced, words_of, words_of-nil, words_of-spaced, words_of-word, words_of-word_space}
-use Rattle.script_commands.specs.{Commands.command_of, Commands.command_of_words, Commands.crowd_with, Commands.node_with, Commands.with_name_and_word, Commands.with_node_and_word, Commands.with_two_names, Commands.workers_with, declared.commands.Command.Command, declared.commands.Command.TheVariants.Cat, declared.commands.Command.TheVariants.Crowd, declared.commands.Command.TheVariants.Files, declared.commands.Command.TheVariants.Link, declared.commands.Command.TheVariants.List as ListUnits, declared.commands.Command.TheVariants.Merge, declared.commands.Command.TheVariants.Node, declared.commands.Command.TheVariants.Part, declared.commands.Command.TheVariants.Plan, declared.commands.Command.TheVariants.Put, declared.commands.Command.TheVariants.Remove, declared.commands.Command.TheVariants.Same, declared.commands.Command.TheVariants.Send, declared.commands.Command.TheVariants.Show, declared.commands.Command.TheVariants.Sweep, declared.commands.Command.TheVariants.Workers, declared.commands.LineRefusal.LineRefusal, declared.commands.LineRefusal.TheVariants.Arguments, declared.commands.LineRefusal.TheVariants.UnknownCommand, HostLaws.host_in-node_word, HostLaws.node_in-node_word, Hosts.host_in, Hosts.node_in, Hosts.node_word}
+use Rattle.std.proofs.Common.{◌&&◌, ◌++◌, ◌<◌, ◌^◌, ◌↔◌, ◌∷◌, ◌≡◌, ◌≢◌, ◌≤◌, ◌⊎◌}
 use Rattle.script_words.specs.Names.{is_name}
+use Rattle.script_commands.specs.Prelude.{[], All, All-append, All-cons, All-from_recursion, AllByRecursion, and_from, and_parts, ap, append_assoc, arith, Bool, codes, cond, cond-true, decimal, decimal_nonempty, digits_decimal, Err, false, is_ascii_alphanumeric, is_ascii_digit, IsDigitsTest, IsWord, join_with_byte, le-leb, length, length-append, length-decimal-le, List, list_all, nat_lt, nat_tests, None, number_of, number_of-decimal, numerals_by_value, Ok, Option, recursion_from_All, refl, Result, rules, Some, spaced, sym, text_after, text_after-last, text_after-spaced, true, true≢false, words_of, words_of-nil, words_of-spaced, words_of-word, words_of-word_space, ℕ, ◌∙◌}
+use Rattle.script_commands.specs.{Commands.{command_of, command_of_words, crowd_with, node_with, with_name_and_word, with_node_and_word, with_two_names, workers_with}, declared.commands.{Command.{Command, TheVariants.{Cat, Crowd, Files, Link, List as ListUnits, Merge, Node, Part, Plan, Put, Remove, Same, Send, Show, Sweep, Workers}}, LineRefusal.{LineRefusal, TheVariants.{Arguments, UnknownCommand}}}, HostLaws.{host_in-node_word, node_in-node_word}, Hosts.{host_in, node_in, node_word}}
 
 -- words with one space between them
 abbrev pub line_of : List (List ℕ) → List ℕ

@@ -1,7 +1,6 @@
 -- Steps of reading a source to its end.
-use Rattle.std.proofs.Common.{◌++◌, ◌+◌, ◌<◌, ◌≡◌, ◌≤◌, ◌⊎◌, arith, inl, inr, length, length-append, List, Option, subst, sym, true, ℕ, ⊎_elim}
-use Rattle.std.specs.Io.KnownBytes.{Consumes, Keeps}
-use Rattle.script_pipes.proofs.Prelude.{Consumes-append, Consumes-keeps, count_with, count_with-le, count_with-le_succ, FailedSince, FailedSince-before, FailedSince-count_with}
+use Rattle.std.proofs.Common.{◌++◌, ◌+◌, ◌<◌, ◌≡◌, ◌≤◌, ◌⊎◌}
+use Rattle.script_pipes.proofs.Prelude.{arith, Consumes, Consumes-append, Consumes-keeps, count_with, count_with-le, count_with-le_succ, FailedSince, FailedSince-before, FailedSince-count_with, inl, inr, Keeps, length, length-append, List, Option, subst, sym, true, ℕ, ⊎_elim}
 
 -- The state of the loop: the script so far was read, within the limits, and each turn that didn't fail returned a byte.
 pub record IsReadTo (old now : Option (List ℕ)) (reads_before reads failures_before failures turn : ℕ) (script : List ℕ) : Type 0 where

@@ -1,8 +1,6 @@
 -- Steps of writing all of some bytes.
-use Rattle.std.proofs.Common.{◌++◌, ◌∙◌, ◌≡◌, ap, append_assoc, drop, List, Option, subst, sym, take, ℕ}
-use Rattle.std.proofs.lemmas.List.{take-append-drop}
-use Rattle.std.specs.Io.KnownBytes.{Appends, Keeps}
-use Rattle.script_pipes.proofs.Prelude.{Appends-append, AppendsPrefix, AppendsPrefix-keeps}
+use Rattle.std.proofs.Common.{◌++◌, ◌≡◌}
+use Rattle.script_pipes.proofs.Prelude.{ap, append_assoc, Appends, Appends-append, AppendsPrefix, AppendsPrefix-keeps, drop, Keeps, List, Option, subst, sym, take, take-append-drop, ℕ, ◌∙◌}
 
 -- The state of the loop: some bytes were written, no write failed, and the rest remains.
 pub record IsWrittenTo (old now : Option (List ℕ)) (refused_before refused : ℕ) (bytes rest : List ℕ) : Type 0 where

@@ -1,6 +1,7 @@
 -- Counts of failed calls, and whether a call failed between two counts.
 -- Source: this project's own.
-use Rattle.std.proofs.Common.{◌+◌, ◌<◌, ◌==◌, Bool, Err, false, if◌then◌else◌, nat_lt, Ok, Result, true, ℕ}
+use Rattle.std.proofs.Common.{if◌then◌else◌, ◌+◌, ◌<◌, ◌==◌}
+use Rattle.script_pipes.specs.Prelude.{Bool, Err, false, nat_lt, Ok, Result, true, ℕ}
 
 -- The count plus one if the test holds. It saturates at the greatest 64-bit number.
 abbrev pub count_with : Bool → ℕ → ℕ

@@ -1,8 +1,6 @@
 -- Counts of failures over several calls.
-use Rattle.std.proofs.Common.{◌+◌, ◌≤◌, arith, true, ℕ, ⊎_elim}
-use Rattle.std.proofs.lemmas.Bool.{cases_lt}
-use Rattle.std.proofs.lemmas.Bool.Decides.{nat_tests}
-use Rattle.script_pipes.specs.Failures.{count_with, FailedSince}
+use Rattle.std.proofs.Common.{◌+◌, ◌≤◌}
+use Rattle.script_pipes.specs.{Failures.{count_with, FailedSince}, Prelude.{arith, cases_lt, nat_tests, true, ℕ, ⊎_elim}}
 
 -- a count never decreases
 pub count_with-le : (count : ℕ) → count ≤ count_with true count

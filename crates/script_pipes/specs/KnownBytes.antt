@@ -1,8 +1,7 @@
 -- How the remaining bytes of a source and the contents of a sink change, if they are known.
 -- Source: this project's own.
-use Rattle.std.proofs.Common.{◌<◌, ◌≡◌, length, List, None, Option, Some, take, ℕ}
-use Rattle.std.specs.Io.KnownBytes.{Appends, Consumes}
-use Rattle.std.specs.Prelude.{⊤}
+use Rattle.std.proofs.Common.{◌<◌, ◌≡◌}
+use Rattle.script_pipes.specs.Prelude.{Appends, Consumes, length, List, None, Option, Some, take, ℕ, ⊤}
 
 -- These are all of the known bytes.
 abbrev pub AreAll : Option (List ℕ) → List ℕ → Type 0

@@ -1,8 +1,6 @@
 -- Known bytes over several calls.
-use Rattle.std.proofs.Common.{[], ◌++◌, ◌+◌, ◌∙◌, ap, append-nil, append_assoc, length, List, None, Option, refl, Some, subst, sym, take, ℕ}
-use Rattle.std.proofs.Math.Seq.{take-append-add}
-use Rattle.std.proofs.lemmas.List.{take_at}
-use Rattle.std.specs.Io.KnownBytes.{Appends, Consumes, Keeps}
+use Rattle.std.proofs.Common.{◌++◌, ◌+◌}
+use Rattle.script_pipes.specs.Prelude.{[], ap, append-nil, append_assoc, Appends, Consumes, Keeps, length, List, None, Option, refl, Some, subst, sym, take, take-append-add, take_at, ℕ, ◌∙◌}
 use Rattle.script_pipes.specs.KnownBytes.{AppendsPrefix, AreAll}
 
 -- some bytes are all of the known ones

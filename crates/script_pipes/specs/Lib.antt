@@ -1,3 +1,4 @@
+pub mod Prelude
 pub mod Failures
 pub mod FailuresLaws
 pub mod KnownBytes

@@ -1,7 +1,6 @@
 -- Steps of reading a text.
-use Rattle.std.proofs.Common.{[], ◌++◌, ◌<◌, ◌==◌, ◌∙◌, ◌∷◌, ◌≡◌, ◌⊎◌, ap, append-nil, append_assoc, arith, Bool, cond, false, inl, inr, length, List, None, refl, Some, subst, sym, true, ℕ, ⊎_elim}
-use Rattle.std.proofs.lemmas.Bool.{and_parts, eqb-false, eqb-true, ltb-true}
-use Rattle.script_words.proofs.Prelude.{backslash, byte_read, escape_read, hex_read, IsBadText, IsSpelling, itself, line_feed, none_read, same_read, spells_none, spells_read, tab, two_digits}
+use Rattle.std.proofs.Common.{◌++◌, ◌<◌, ◌==◌, ◌∷◌, ◌≡◌, ◌⊎◌}
+use Rattle.script_words.proofs.Prelude.{[], and_parts, ap, append-nil, append_assoc, arith, backslash, Bool, byte_read, cond, eqb-false, eqb-true, escape_read, false, hex_read, inl, inr, IsBadText, IsSpelling, itself, length, line_feed, List, ltb-true, None, none_read, refl, same_read, Some, spells_none, spells_read, subst, sym, tab, true, two_digits, ℕ, ⊎_elim, ◌∙◌}
 use Rattle.script_words.specs.Text.{Spells}
 
 by_test : {A : Type 0} (t : Bool) (x y z : A) → cond t x y ≡ z → ((t ≡ true) × (x ≡ z)) ⊎ ((t ≡ false) × (y ≡ z))

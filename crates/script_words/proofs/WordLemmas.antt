@@ -1,10 +1,6 @@
 -- How the first word of a line is split off.
-use Rattle.std.proofs.Common.{[], ◌+◌, ◌<◌, ◌∙◌, ◌∷◌, ◌≡◌, ◌≢◌, ◌≤◌, ap, arith, drop, false, get_or, length, List, not, refl, subst, sym, take, true, ℕ, ⊎_elim}
-use Rattle.std.proofs.lemmas.Bool.{cases_Bool, cases_lt, cond-true, eqb-false, eqb-true}
-use Rattle.std.proofs.lemmas.List.{drop_all, drop_more, length-drop, length-take-le, nil_from_length, take_all}
-use Rattle.std.proofs.lemmas.List.Sums.{fails_before_first, passes_at_first, prefix_len-le-length}
-use Rattle.std.specs.List.{position_or_len, prefix_len}
-use Rattle.script_words.proofs.Prelude.{All-take_before, cut_around, is_space, IsWord, skip_spaces, skip_spaces-other, skip_spaces-space, skip_word, words_of, words_of-nil, words_of-space, words_of-word, words_of-word_space}
+use Rattle.std.proofs.Common.{◌+◌, ◌<◌, ◌∷◌, ◌≡◌, ◌≢◌, ◌≤◌}
+use Rattle.script_words.proofs.Prelude.{[], All-take_before, ap, arith, cases_Bool, cases_lt, cond-true, cut_around, drop, drop_all, drop_more, eqb-false, eqb-true, fails_before_first, false, get_or, is_space, IsWord, length, length-drop, length-take-le, List, nil_from_length, not, passes_at_first, position_or_len, prefix_len, prefix_len-le-length, refl, skip_spaces, skip_spaces-other, skip_spaces-space, skip_word, subst, sym, take, take_all, true, words_of, words_of-nil, words_of-space, words_of-word, words_of-word_space, ℕ, ⊎_elim, ◌∙◌}
 use Rattle.script_words.specs.Words.{after_word}
 
 words_of-skip : (line : List ℕ) → words_of line ≡ words_of (skip_spaces line)

@@ -1,8 +1,6 @@
 -- The laws of lines of texts, restated for scripts.
-use Rattle.std.proofs.Common.{[], ◌++◌, ◌<◌, ◌∷◌, ◌≡◌, length, List, refl, ℕ}
-use Rattle.std.specs.List.{AllByRecursion, flat_map}
-use Rattle.script_words.specs.Prelude.{HasNoLineFeed, IsPlainLine, lines-last, lines-line_feeds, lines-returns}
-use Rattle.script_words.specs.Lines.{lines_of}
+use Rattle.std.proofs.Common.{◌++◌, ◌<◌, ◌∷◌, ◌≡◌}
+use Rattle.script_words.specs.{Lines.{lines_of}, Prelude.{[], AllByRecursion, flat_map, HasNoLineFeed, IsPlainLine, length, lines-last, lines-line_feeds, lines-returns, List, refl, ℕ}}
 
 -- an empty script has no lines
 pub lines_of-nil : lines_of [] ≡ []

@@ -1,8 +1,7 @@
 -- The names in scripts.
 -- Source: this project's own.
-use Rattle.std.proofs.Common.{◌&&◌, Bool, length, List, nat_le, nat_lt, ℕ}
-use Rattle.std.specs.Char.{is_ascii_alphanumeric}
-use Rattle.std.specs.List.{list_all}
+use Rattle.std.proofs.Common.{◌&&◌}
+use Rattle.script_words.specs.Prelude.{Bool, is_ascii_alphanumeric, length, List, list_all, nat_le, nat_lt, ℕ}
 
 -- A name has 1 to 32 bytes, each an ASCII letter or digit.
 unfoldable pub is_name : List ℕ → Bool

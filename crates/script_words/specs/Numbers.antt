@@ -1,9 +1,7 @@
 -- The numbers that words spell.
 -- Source: this project's own.
-use Rattle.std.proofs.Common.{◌&&◌, Bool, if◌then◌else◌, length, List, nat_le, nat_lt, None, Option, Some, ℕ}
-use Rattle.std.specs.Char.{is_ascii_digit}
-use Rattle.std.specs.List.{list_all}
-use Rattle.std.specs.Str.Parse.{digits_value}
+use Rattle.std.proofs.Common.{if◌then◌else◌, ◌&&◌}
+use Rattle.script_words.specs.Prelude.{Bool, digits_value, is_ascii_digit, length, List, list_all, nat_le, nat_lt, None, Option, Some, ℕ}
 
 -- 1 to 10 decimal digits whose value fits in 32 bits
 abbrev pub is_number : List ℕ → Bool

@@ -1,13 +1,6 @@
 -- Numbers written in decimal are read back.
-use Rattle.std.proofs.Common.{◌++◌, ◌+◌, ◌<◌, ◌^◌, ◌∙◌, ◌≡◌, ◌≤◌, ap, arith, length, length-append, List, refl, replicate, rules, Some, suc, true, zero, ℕ}
-use Rattle.std.proofs.lemmas.Bool.{and_from, cond-true, le-leb, lt-ltb}
-use Rattle.std.proofs.lemmas.Fmt.{decimal_nonempty, digits_decimal, digits_value-decimal}
-use Rattle.std.proofs.lemmas.List.{length-replicate}
-use Rattle.std.proofs.lemmas.Str.Parse.{IsDigitsTest, IsNumeralModel, numerals_by_value}
-use Rattle.std.specs.Char.{is_ascii_digit}
-use Rattle.std.specs.Fmt.{decimal}
-use Rattle.std.specs.List.{list_all}
-use Rattle.std.specs.Str.Parse.{digits_value}
+use Rattle.std.proofs.Common.{◌++◌, ◌+◌, ◌<◌, ◌^◌, ◌≡◌, ◌≤◌}
+use Rattle.script_words.specs.Prelude.{and_from, ap, arith, cond-true, decimal, decimal_nonempty, digits_decimal, digits_value, digits_value-decimal, is_ascii_digit, IsDigitsTest, IsNumeralModel, le-leb, length, length-append, length-replicate, List, list_all, lt-ltb, numerals_by_value, refl, replicate, rules, Some, suc, true, zero, ℕ, ◌∙◌}
 use Rattle.script_words.specs.Numbers.{is_number, number_of}
 
 -- each byte is a decimal digit

@@ -1,8 +1,7 @@
 -- The bytes that a text with escapes spells.
 -- Source: this project's own.
-use Rattle.std.proofs.Common.{[], ◌&&◌, ◌*◌, ◌++◌, ◌+◌, ◌<◌, ◌==◌, ◌∷◌, ◌≡◌, ◌≢◌, All, codes, if◌then◌else◌, List, nat_lt, None, Option, Some, ℕ}
-use Rattle.std.specs.Char.{digit_value}
-use Rattle.std.specs.List.{flat_map}
+use Rattle.std.proofs.Common.{if◌then◌else◌, ◌&&◌, ◌*◌, ◌++◌, ◌+◌, ◌<◌, ◌==◌, ◌∷◌, ◌≡◌, ◌≢◌}
+use Rattle.script_words.specs.Prelude.{[], All, codes, digit_value, flat_map, List, nat_lt, None, Option, Some, ℕ}
 
 -- These bytes spell one byte: a byte spells itself, except the backslash, which begins an escape.
 pub data IsSpelling (part : List ℕ) (byte : ℕ) : Type 0 where

@@ -1,8 +1,6 @@
 -- A text spells at most one list of bytes, which is found byte by byte from the left, and any bytes can be spelled.
-use Rattle.std.proofs.Common.{[], ◌++◌, ◌==◌, ◌∙◌, ◌∷◌, ◌≡◌, ◌≢◌, ap, false, List, None, refl, Some, subst, sym, true, ℕ, ⊎_elim}
-use Rattle.std.proofs.lemmas.Bool.{and_from, cases_Bool, cond-false, cond-true, eqb-false, eqb-true, lt-ltb, ne_eqb}
-use Rattle.std.specs.Char.{digit_value}
-use Rattle.std.specs.List.{AllByRecursion}
+use Rattle.std.proofs.Common.{◌++◌, ◌==◌, ◌∷◌, ◌≡◌, ◌≢◌}
+use Rattle.script_words.specs.Prelude.{[], AllByRecursion, and_from, ap, cases_Bool, cond-false, cond-true, digit_value, eqb-false, eqb-true, false, List, lt-ltb, ne_eqb, None, refl, Some, subst, sym, true, ℕ, ⊎_elim, ◌∙◌}
 use Rattle.script_words.specs.Text.{backslash, byte_read, IsSpelling, itself, line_feed, Spells, tab, two_digits, with_doubled}
 
 -- a spelling is read as its byte, whatever follows it

@@ -1,7 +1,7 @@
 -- The words of a line, and the text that follows some of them.
 -- Source: this project's own.
-use Rattle.std.proofs.Common.{[], ◌++◌, ◌<◌, ◌==◌, ◌∷◌, ◌≢◌, All, Bool, drop, filter, length, List, nat_lt, suc, zero, ℕ}
-use Rattle.std.specs.List.{flat_map, position_or_len, prefix_len, slice_split}
+use Rattle.std.proofs.Common.{◌++◌, ◌<◌, ◌==◌, ◌∷◌, ◌≢◌}
+use Rattle.script_words.specs.Prelude.{[], All, Bool, drop, filter, flat_map, length, List, nat_lt, position_or_len, prefix_len, slice_split, suc, zero, ℕ}
 
 -- Only the space separates words: a tab or a carriage return is part of a word.
 abbrev pub is_space : ℕ → Bool

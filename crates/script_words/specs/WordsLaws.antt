@@ -1,9 +1,6 @@
 -- Which words a line has, described by how lines are built from words.
-use Rattle.std.proofs.Common.{[], ◌++◌, ◌+◌, ◌∙◌, ◌∷◌, ◌≡◌, ◌≢◌, All, ap, append-nil, append_assoc, arith, drop, false, filter, length, List, not, refl, suc, sym, true, ℕ}
-use Rattle.std.proofs.lemmas.Bool.{cond-false, cond-true, lt-ltb, ne_eqb}
-use Rattle.std.proofs.lemmas.List.Elements.{All-head, All-tail, All-weaker}
-use Rattle.std.proofs.lemmas.List.Splits.{slice_split_at, slice_split_none}
-use Rattle.std.specs.List.{AllByRecursion, position_or_len, prefix_len}
+use Rattle.std.proofs.Common.{◌++◌, ◌+◌, ◌∷◌, ◌≡◌, ◌≢◌}
+use Rattle.script_words.specs.Prelude.{[], All, All-head, All-tail, All-weaker, AllByRecursion, ap, append-nil, append_assoc, arith, cond-false, cond-true, drop, false, filter, length, List, lt-ltb, ne_eqb, not, position_or_len, prefix_len, refl, slice_split_at, slice_split_none, suc, sym, true, ℕ, ◌∙◌}
 use Rattle.script_words.specs.Words.{after_word, has_bytes, is_space, IsWord, skip_spaces, skip_word, spaced, text_after, words_of}
 
 -- an empty line has no words

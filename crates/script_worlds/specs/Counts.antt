@@ -1,8 +1,7 @@
 -- Upper bounds of the counters in a world.
 -- Source: this project's own.
-use Rattle.std.proofs.Common.{◌≤◌, ℕ}
-use Rattle.script_worlds.specs.Prelude.{Edit, high_of, IsAmong}
-use Rattle.script_worlds.specs.{Validity.puts, Worlds.held, Worlds.ScriptWorld}
+use Rattle.std.proofs.Common.{◌≤◌}
+use Rattle.script_worlds.specs.{Prelude.{Edit, high_of, IsAmong, ℕ}, Validity.{puts}, Worlds.{held, ScriptWorld}}
 
 -- each edit that was put has a counter of at most n
 abbrev pub IsPutUpTo : ℕ → ScriptWorld → Type 0

@@ -1,7 +1,7 @@
 -- The greatest counter of a world grows by at most one when a node puts its next edit, and otherwise stays.
-use Rattle.std.proofs.Common.{[], ◌+◌, ◌<◌, ◌∷◌, ◌≡◌, ◌≤◌, ap, arith, inl, inr, length, List, None, Option, refl, slice_get, Some, subst, suc, ℕ}
-use Rattle.script_worlds.specs.Prelude.{blank_sound, Content, Edit, Event, happens_keeps, high_among-least, high_of, high_of-sum_of, IsAmong, IsHonest, IsSound, PlaceParts, Put, puts_first, puts_of, puts_of-Put, puts_rest, took, took_by, world_of}
-use Rattle.script_worlds.specs.{Counts.IsCountedTo, Counts.IsPutUpTo, Validity.IsValid, Validity.puts, Worlds.blank, Worlds.happened, Worlds.held, Worlds.merged, Worlds.merged_all, Worlds.next_edit, Worlds.ScriptWorld, Worlds.state}
+use Rattle.std.proofs.Common.{◌+◌, ◌<◌, ◌∷◌, ◌≡◌, ◌≤◌}
+use Rattle.script_worlds.specs.Prelude.{[], ap, arith, blank_sound, Content, Edit, Event, happens_keeps, high_among-least, high_of, high_of-sum_of, inl, inr, IsAmong, IsHonest, IsSound, length, List, None, Option, PlaceParts, Put, puts_first, puts_of, puts_of-Put, puts_rest, refl, slice_get, Some, subst, suc, took, took_by, world_of, ℕ}
+use Rattle.script_worlds.specs.{Counts.{IsCountedTo, IsPutUpTo}, Validity.{IsValid, puts}, Worlds.{blank, happened, held, merged, merged_all, next_edit, ScriptWorld, state}}
 use Rattle.world_law.specs.Worlds as worlds
 
 -- What a node took was put.

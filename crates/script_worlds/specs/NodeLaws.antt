@@ -1,11 +1,6 @@
 -- Nodes by name and by writer number, after a node is added.
-use Rattle.std.proofs.Common.{[], ◌++◌, ◌+◌, ◌<◌, ◌==◌, ◌||◌, ◌∙◌, ◌∷◌, ◌≡◌, ap, arith, Bool, cond, false, length, List, nat_lt, None, Option, position, refl, Some, suc, sym, true, zero, ℕ}
-use Rattle.std.proofs.lemmas.Bool.Decides.{nat_tests}
-use Rattle.std.proofs.lemmas.Iterator.Adapters.{position_from-zero}
-use Rattle.std.proofs.lemmas.List.Folds.{list_any-append}
-use Rattle.std.proofs.lemmas.Slice.Eq.{bytes_eq-Decides}
-use Rattle.std.specs.List.{list_any, position_from, position_or_len}
-use Rattle.std.specs.Str.{bytes_eq}
+use Rattle.std.proofs.Common.{◌++◌, ◌+◌, ◌<◌, ◌==◌, ◌||◌, ◌∷◌, ◌≡◌}
+use Rattle.script_worlds.specs.Prelude.{[], ap, arith, Bool, bytes_eq, bytes_eq-Decides, cond, false, length, List, list_any, list_any-append, nat_lt, nat_tests, None, Option, position, position_from, position_from-zero, position_or_len, refl, Some, suc, sym, true, zero, ℕ, ◌∙◌}
 use Rattle.script_worlds.specs.Worlds.{has_writer, Member, node_named}
 
 -- the first index, or else the second

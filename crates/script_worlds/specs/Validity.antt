@@ -1,8 +1,7 @@
 -- Valid worlds, in which no version belongs to two edits.
 -- Source: this project's own.
-use Rattle.std.proofs.Common.{◌<◌, ◌≡◌, ◌≤◌, length, List, ℕ}
-use Rattle.script_worlds.specs.Prelude.{AreWithin, Edit, high_of, IsAmong, IsHonest, puts_of}
-use Rattle.script_worlds.specs.Worlds.{held, ScriptWorld, writer_at}
+use Rattle.std.proofs.Common.{◌<◌, ◌≡◌, ◌≤◌}
+use Rattle.script_worlds.specs.{Prelude.{AreWithin, Edit, high_of, IsAmong, IsHonest, length, List, puts_of, ℕ}, Worlds.{held, ScriptWorld, writer_at}}
 
 -- the edits that were put
 abbrev pub puts : ScriptWorld → List Edit

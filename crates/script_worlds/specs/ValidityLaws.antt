@@ -1,9 +1,7 @@
 -- Worlds of scripts: what nodes hold after each event, and that no version belongs to two edits.
-use Rattle.std.proofs.Common.{[], ◌++◌, ◌+◌, ◌<◌, ◌==◌, ◌||◌, ◌∙◌, ◌∷◌, ◌≡◌, ◌≢◌, ◌≤◌, ◌⊎◌, ap, arith, Bool, false, inl, inr, length, List, None, Option, refl, slice_get, Some, subst, suc, sym, true, zero, ℕ}
-use Rattle.std.proofs.lemmas.Bool.{eq-eqb, eqb-true, true≢false}
-use Rattle.std.proofs.lemmas.Option.{slice_get_past}
-use Rattle.script_worlds.specs.Prelude.{AreWithin, Ask, Content, counter_among, Cut, Edit, EntryMap, Event, Give, given_is_joined, happens, high_among, high_among-least, high_of, high_of-sum_of, IsAmong, IsAmong-append_right, join, merge_is_joined, node_count, one_node_more, PlaceParts, Put, puts_of, puts_of-one_more, puts_of-Put, sum_of, sum_of-push, took, took-Ask, took-Cut, took-Give_elsewhere, took-Put, took-Put_elsewhere, took-with_new_node, took_by, took_stays, with_edit, with_new_node, within_more, world_of}
-use Rattle.script_worlds.specs.{Validity.IsOwn, Validity.IsValid, Validity.puts, Worlds.answered, Worlds.blank, Worlds.happened, Worlds.has_writer, Worlds.held, Worlds.Member, Worlds.merged, Worlds.next_ask, Worlds.next_edit, Worlds.next_piece, Worlds.ScriptWorld, Worlds.state, Worlds.with_node, Worlds.writer_at}
+use Rattle.std.proofs.Common.{◌++◌, ◌+◌, ◌<◌, ◌==◌, ◌||◌, ◌∷◌, ◌≡◌, ◌≢◌, ◌≤◌, ◌⊎◌}
+use Rattle.script_worlds.specs.Prelude.{[], ap, AreWithin, arith, Ask, Bool, Content, counter_among, Cut, Edit, EntryMap, eq-eqb, eqb-true, Event, false, Give, given_is_joined, happens, high_among, high_among-least, high_of, high_of-sum_of, inl, inr, IsAmong, IsAmong-append_right, join, length, List, merge_is_joined, node_count, None, one_node_more, Option, PlaceParts, Put, puts_of, puts_of-one_more, puts_of-Put, refl, slice_get, slice_get_past, Some, subst, suc, sum_of, sum_of-push, sym, took, took-Ask, took-Cut, took-Give_elsewhere, took-Put, took-Put_elsewhere, took-with_new_node, took_by, took_stays, true, true≢false, with_edit, with_new_node, within_more, world_of, zero, ℕ, ◌∙◌}
+use Rattle.script_worlds.specs.{Validity.{IsOwn, IsValid, puts}, Worlds.{answered, blank, happened, has_writer, held, Member, merged, next_ask, next_edit, next_piece, ScriptWorld, state, with_node, writer_at}}
 use Rattle.world_law.specs.Worlds as worlds
 
 -- What nodes hold after an event.

@@ -1,10 +1,7 @@
 -- The world that a script builds: its nodes, the events so far, and the named pieces.
 -- Source: The events are those of `world_law`; names and writer numbers are this project's own.
-use Rattle.std.proofs.Common.{[], ◌++◌, ◌+◌, ◌-◌, ◌==◌, ◌∷◌, Bool, if◌then◌else◌, length, List, map, None, Option, position, slice_get, Some, suc, unwrap_or, zero, ℕ}
-use Rattle.std.specs.List.{list_any}
-use Rattle.std.specs.Option.{option_map}
-use Rattle.std.specs.Str.{bytes_eq}
-use Rattle.script_worlds.specs.Prelude.{Ask, Content, Cut, Edit, EntryMap, Event, Give, high_of, PlaceParts, sum_of, took, world_of}
+use Rattle.std.proofs.Common.{if◌then◌else◌, ◌++◌, ◌+◌, ◌-◌, ◌==◌, ◌∷◌}
+use Rattle.script_worlds.specs.Prelude.{[], Ask, Bool, bytes_eq, Content, Cut, Edit, EntryMap, Event, Give, high_of, length, List, list_any, map, None, Option, option_map, PlaceParts, position, slice_get, Some, suc, sum_of, took, unwrap_or, world_of, zero, ℕ}
 use Rattle.world_law.specs.Worlds as worlds
 
 -- a node: its name, and its writer number

@@ -1,9 +1,7 @@
 -- Lines that differ only by comments, blank lines and line numbers read the same.
-use Rattle.std.proofs.Common.{[], ◌++◌, ◌+◌, ◌-◌, ◌∙◌, ◌∷◌, ◌≡◌, ◌⊎◌, ap, append_assoc, arith, Bool, cond, false, filter, length, length-append, List, map, None, Option, refl, Some, sym, true, ℕ, ⊎_elim}
-use Rattle.std.proofs.lemmas.List.{map-append, take_at}
-use Rattle.std.specs.List.{flat_map}
-use Rattle.section_reader.proofs.Prelude.{ArePlainLines, Assignment, BadHeader, Blank, BlankLinesChangeNumbersAlone, Comment, CommentsChangeNumbersAlone, Continued, ContinuedLinesAreJoined, FirstBlankLineChangesNumbersAlone, form, going_on, going_on-line, has_bytes, has_text, header_name, is_bracketed, joined, joined_lines, joined_lines-line, kind_of, Line, LineForm, lines_following, lines_following-line, NoEquals, Note, note, OutsideSection, pair_of, physical_lines-file, said, SameButNumbers, section_items, section_notes, spaced, text_of_lines, trimmed, trimmed_line, Whole}
-use Rattle.section_reader.specs.{Lines.numbered, Logical.logical_lines, Logical.logical_of, Sections.assigned, Sections.assignments_in, Sections.assignments_of, Sections.notes_following, Sections.notes_in, Sections.notes_of, Sections.unassigned, Sections.up_to_bracket}
+use Rattle.std.proofs.Common.{◌++◌, ◌+◌, ◌-◌, ◌∷◌, ◌≡◌, ◌⊎◌}
+use Rattle.section_reader.proofs.Prelude.{[], ap, append_assoc, ArePlainLines, arith, Assignment, BadHeader, Blank, BlankLinesChangeNumbersAlone, Bool, Comment, CommentsChangeNumbersAlone, cond, Continued, ContinuedLinesAreJoined, false, filter, FirstBlankLineChangesNumbersAlone, flat_map, form, going_on, going_on-line, has_bytes, has_text, header_name, is_bracketed, joined, joined_lines, joined_lines-line, kind_of, length, length-append, Line, LineForm, lines_following, lines_following-line, List, map, map-append, NoEquals, None, Note, note, Option, OutsideSection, pair_of, physical_lines-file, refl, said, SameButNumbers, section_items, section_notes, Some, spaced, sym, take_at, text_of_lines, trimmed, trimmed_line, true, Whole, ℕ, ⊎_elim, ◌∙◌}
+use Rattle.section_reader.specs.{Lines.{numbered}, Logical.{logical_lines, logical_of}, Sections.{assigned, assignments_in, assignments_of, notes_following, notes_in, notes_of, unassigned, up_to_bracket}}
 
 abbrev text_of : Line → List ℕ
 text_of line = line.text

@@ -1,11 +1,8 @@
 -- Comments, blank lines and the byte order mark.
-use Rattle.std.proofs.Common.{[], ◌&&◌, ◌++◌, ◌+◌, ◌||◌, ◌∙◌, ◌∷◌, ◌≡◌, ap, arith, Bool, drop, eqb, false, List, refl, suc, sym, true, ℕ, ⊎_elim}
-use Rattle.std.proofs.lemmas.Bool.{and_parts, cond-false, cond-true}
-use Rattle.std.specs.List.{list_all, prefix_len}
-use Rattle.std.specs.Str.Lines.{lines}
-use Rattle.section_reader.proofs.Prelude.{assignments_in, Comment, CommentsAreMarked, is_blank, is_comment, is_white, logical_of, MarksChangeNothing, notes_in, numbered, trim_start, WhitespaceIsBlank, without_mark}
-use Rattle.section_reader.specs.{Lines.physical_lines, Logical.logical_lines, Parts.form, Sections.assignments_of, Sections.notes_of}
-use Rattle.section_reader.proofs.{OneLine.trim_start-bare, PartLemmas.and_nothing}
+use Rattle.std.proofs.Common.{◌&&◌, ◌++◌, ◌+◌, ◌||◌, ◌∷◌, ◌≡◌}
+use Rattle.section_reader.proofs.Prelude.{[], and_parts, ap, arith, assignments_in, Bool, Comment, CommentsAreMarked, cond-false, cond-true, drop, eqb, false, is_blank, is_comment, is_white, lines, List, list_all, logical_of, MarksChangeNothing, notes_in, numbered, prefix_len, refl, suc, sym, trim_start, true, WhitespaceIsBlank, without_mark, ℕ, ⊎_elim, ◌∙◌}
+use Rattle.section_reader.proofs.{OneLine.{trim_start-bare}, PartLemmas.{and_nothing}}
+use Rattle.section_reader.specs.{Lines.{physical_lines}, Logical.{logical_lines}, Parts.{form}, Sections.{assignments_of, notes_of}}
 
 one_more : (n : ℕ) → 1 + n ≡ suc n
 one_more n = omega arith

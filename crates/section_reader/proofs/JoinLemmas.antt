@@ -1,6 +1,6 @@
 -- The continuation of a line, read one line at a time.
-use Rattle.std.proofs.Common.{[], ◌++◌, ◌∙◌, ◌∷◌, ◌≡◌, ◌≤◌, ap, append-nil, arith, length, List, sym, ℕ}
-use Rattle.section_reader.proofs.Prelude.{going_on, going_on-nil, Line, lines_following}
+use Rattle.std.proofs.Common.{◌++◌, ◌∷◌, ◌≡◌, ◌≤◌}
+use Rattle.section_reader.proofs.Prelude.{[], ap, append-nil, arith, going_on, going_on-nil, length, Line, lines_following, List, sym, ℕ, ◌∙◌}
 
 -- the continuation, given by the first of the remaining lines
 pub recorded : (text whole more : List ℕ) (lines : List Line) (line : Line) (rest : List Line) → text ++ going_on lines ≡ whole → lines ≡ line ∷ rest → going_on (line ∷ rest) ≡ more

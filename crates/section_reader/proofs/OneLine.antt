@@ -1,14 +1,8 @@
 -- Lines that are logical lines by themselves, by their first and last bytes.
-use Rattle.std.proofs.Common.{[], ◌&&◌, ◌++◌, ◌+◌, ◌-◌, ◌<◌, ◌||◌, ◌∙◌, ◌∷◌, ◌≡◌, ◌≢◌, ap, append_assoc, arith, codes, drop, eqb, false, get_or, length, length-append, List, refl, Some, sym, take, true, ℕ}
-use Rattle.std.proofs.Math.Seq.{get_or-append_seam}
-use Rattle.std.proofs.lemmas.Bool.{and_from, cond-false, cond-true, eqb-true, lt-ltb, ne_eqb}
-use Rattle.std.proofs.lemmas.List.{drop_all, drop_at, drop_more, get_or-append-add, get_or_append_left, get_or_push, take_all, take_at}
-use Rattle.std.proofs.lemmas.List.Sums.{suffix_len_is}
-use Rattle.std.specs.List.{AllByRecursion, ends_with, suffix_len}
-use Rattle.std.specs.Prelude.{nat_eq}
-use Rattle.section_reader.proofs.Prelude.{first_of, HasBareEnds, header_line, is_blank, is_bracketed, is_comment, is_continued, is_white, IsKey, IsName, IsOneLine, IsValue, kept, last_of, Line, logical_of, logical_of-nil, logical_of-whole, pair_line, pair_of, trim_end, trim_start, Whole}
-use Rattle.section_reader.specs.{Lines.numbered, Parts.form, Parts.header_name, Parts.trimmed}
-use Rattle.section_reader.proofs.{PartLemmas.pair_of-both, PlaceLemmas.kept-some}
+use Rattle.std.proofs.Common.{◌&&◌, ◌++◌, ◌+◌, ◌-◌, ◌<◌, ◌||◌, ◌∷◌, ◌≡◌, ◌≢◌}
+use Rattle.section_reader.proofs.Prelude.{[], AllByRecursion, and_from, ap, append_assoc, arith, codes, cond-false, cond-true, drop, drop_all, drop_at, drop_more, ends_with, eqb, eqb-true, false, first_of, get_or, get_or-append-add, get_or-append_seam, get_or_append_left, get_or_push, HasBareEnds, header_line, is_blank, is_bracketed, is_comment, is_continued, is_white, IsKey, IsName, IsOneLine, IsValue, kept, last_of, length, length-append, Line, List, logical_of, logical_of-nil, logical_of-whole, lt-ltb, nat_eq, ne_eqb, pair_line, pair_of, refl, Some, suffix_len, suffix_len_is, sym, take, take_all, take_at, trim_end, trim_start, true, Whole, ℕ, ◌∙◌}
+use Rattle.section_reader.proofs.{PartLemmas.{pair_of-both}, PlaceLemmas.{kept-some}}
+use Rattle.section_reader.specs.{Lines.{numbered}, Parts.{form, header_name, trimmed}}
 
 -- Ends.
 

@@ -1,9 +1,6 @@
 -- The parts of a line, as searches find them.
-use Rattle.std.proofs.Common.{◌&&◌, ◌+◌, ◌<◌, ◌∙◌, ◌≡◌, ap, arith, Bool, drop, false, get_or, length, List, ltb, None, refl, Some, take, true, ℕ}
-use Rattle.std.proofs.lemmas.Bool.{and_from, cond-false, cond-true, le-ltb, lt-ltb}
-use Rattle.std.proofs.lemmas.List.Sums.{position_or_len_is}
-use Rattle.std.specs.List.{position_or_len}
-use Rattle.section_reader.proofs.Prelude.{is_equals, key_in, trimmed, value_in}
+use Rattle.std.proofs.Common.{◌&&◌, ◌+◌, ◌<◌, ◌≡◌}
+use Rattle.section_reader.proofs.Prelude.{and_from, ap, arith, Bool, cond-false, cond-true, drop, false, get_or, is_equals, key_in, le-ltb, length, List, lt-ltb, ltb, None, position_or_len, position_or_len_is, refl, Some, take, trimmed, true, value_in, ℕ, ◌∙◌}
 use Rattle.section_reader.specs.Parts.{pair_of}
 
 not_so : (b : Bool) → (b ≡ true → ⊥) → b ≡ false

@@ -1,11 +1,7 @@
 -- What the remaining lines give a reader, one line at a time.
-use Rattle.std.proofs.Common.{[], ◌&&◌, ◌++◌, ◌<◌, ◌∙◌, ◌∷◌, ◌≡◌, ap, append-nil, append_assoc, arith, codes, Err, false, length, List, ltb, None, Ok, OnOk, Option, refl, Result, Some, sym, true, ℕ}
-use Rattle.std.proofs.lemmas.Bool.{cond-false, cond-true, le-ltb, lt-ltb}
-use Rattle.std.proofs.lemmas.Bool.Decides.{nat_tests}
-use Rattle.std.specs.List.{ends_with, flat_map}
-use Rattle.std.specs.Prelude.{nat_eq}
-use Rattle.section_reader.proofs.Prelude.{Assignment, BadHeader, Inside, is_bracketed, kept, Line, NoEquals, Note, note, Outside, OutsideSection, pair_of, PassedOver, Place}
-use Rattle.section_reader.specs.{Parts.header_name, Places.header_notes, Places.items_at, Places.items_from, Places.notes_at, Places.notes_from, Places.place_following, Sections.assigned, Sections.assignments_in, Sections.notes_following, Sections.notes_in, Sections.unassigned, Sections.up_to_bracket}
+use Rattle.std.proofs.Common.{◌&&◌, ◌++◌, ◌<◌, ◌∷◌, ◌≡◌}
+use Rattle.section_reader.proofs.Prelude.{[], ap, append-nil, append_assoc, arith, Assignment, BadHeader, codes, cond-false, cond-true, ends_with, Err, false, flat_map, Inside, is_bracketed, kept, le-ltb, length, Line, List, lt-ltb, ltb, nat_eq, nat_tests, NoEquals, None, Note, note, Ok, OnOk, Option, Outside, OutsideSection, pair_of, PassedOver, Place, refl, Result, Some, sym, true, ℕ, ◌∙◌}
+use Rattle.section_reader.specs.{Parts.{header_name}, Places.{header_notes, items_at, items_from, notes_at, notes_from, place_following}, Sections.{assigned, assignments_in, notes_following, notes_in, unassigned, up_to_bracket}}
 
 -- Lists and assignments.
 

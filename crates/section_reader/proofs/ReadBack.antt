@@ -1,12 +1,8 @@
 -- Sections that are written line by line are read back.
-use Rattle.std.proofs.Common.{[], ◌++◌, ◌+◌, ◌-◌, ◌∙◌, ◌∷◌, ◌≡◌, ◌≢◌, ap, append-nil, arith, false, get_or, length, length-append, List, map, None, Option, refl, Some, sym, ℕ}
-use Rattle.std.proofs.lemmas.Bool.{cond-false, false≢true}
-use Rattle.std.proofs.lemmas.List.{get_or_push}
-use Rattle.std.proofs.lemmas.List.Elements.{All-append, All-cons, All-from_recursion, All-push, recursion_from_All}
-use Rattle.std.specs.List.{AllByRecursion, flat_map}
-use Rattle.section_reader.proofs.Prelude.{Assignment, BadHeader, EndsInReturn, HasNoMark, header_line, header_name, is_bracketed, is_white, IsName, IsOneLine, IsPair, IsPlainLine, IsSection, last_of, Line, logical_of, Note, note, OutsideSection, pair_line, pairs_from, physical_lines-file, Section, section_lines, sections_from, SectionsAreReadBack, written}
-use Rattle.section_reader.specs.{Lines.numbered, Logical.logical_lines, Sections.assigned, Sections.assignments_in, Sections.assignments_of, Sections.notes_following, Sections.notes_in, Sections.notes_of, Sections.unassigned, Sections.up_to_bracket}
-use Rattle.section_reader.proofs.{OneLine.header-name, OneLine.header-one, OneLine.one_by_one, OneLine.pair-of, OneLine.pair-one, OneLine.pair-plain, PlaceLemmas.assignments_in-entry, PlaceLemmas.notes_following-entry}
+use Rattle.std.proofs.Common.{◌++◌, ◌+◌, ◌-◌, ◌∷◌, ◌≡◌, ◌≢◌}
+use Rattle.section_reader.proofs.Prelude.{[], All-append, All-cons, All-from_recursion, All-push, AllByRecursion, ap, append-nil, arith, Assignment, BadHeader, cond-false, EndsInReturn, false, false≢true, flat_map, get_or, get_or_push, HasNoMark, header_line, header_name, is_bracketed, is_white, IsName, IsOneLine, IsPair, IsPlainLine, IsSection, last_of, length, length-append, Line, List, logical_of, map, None, Note, note, Option, OutsideSection, pair_line, pairs_from, physical_lines-file, recursion_from_All, refl, Section, section_lines, sections_from, SectionsAreReadBack, Some, sym, written, ℕ, ◌∙◌}
+use Rattle.section_reader.proofs.{OneLine.{header-name, header-one, one_by_one, pair-of, pair-one, pair-plain}, PlaceLemmas.{assignments_in-entry, notes_following-entry}}
+use Rattle.section_reader.specs.{Lines.{numbered}, Logical.{logical_lines}, Sections.{assigned, assignments_in, assignments_of, notes_following, notes_in, notes_of, unassigned, up_to_bracket}}
 
 -- the lines of all sections, one section after another
 abbrev all_lines : List Section → List (List ℕ)

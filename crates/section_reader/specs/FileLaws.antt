@@ -1,13 +1,8 @@
 -- Files put together from lines: comments change only line numbers, and so do blank lines that don't end a
 -- continuation.
-use Rattle.std.proofs.Common.{[], ◌++◌, ◌∙◌, ◌∷◌, ◌≡◌, ◌⊎◌, All, ap, append-nil, false, List, map, sym, true, ℕ}
-use Rattle.std.proofs.lemmas.Bool.{cond-false}
-use Rattle.std.proofs.lemmas.List.Elements.{recursion_from_All}
-use Rattle.std.specs.List.{flat_map, list_all, starts_with}
-use Rattle.std.specs.Prelude.{nat_eq}
-use Rattle.std.specs.Str.Lines.{lines}
-use Rattle.section_reader.specs.Prelude.{IsPlainLine, lines-line_feeds}
-use Rattle.section_reader.specs.{declared.assignments.Assignment.Assignment, declared.assignments.Note.Note, declared.assignments.NoteKind.NoteKind, declared.parts.LineForm.TheVariants.Blank, declared.parts.LineForm.TheVariants.Comment, declared.parts.LineForm.TheVariants.Continued, declared.parts.LineForm.TheVariants.Whole, Lines.byte_order_mark, Lines.numbered, Lines.physical_lines, Parts.form, Parts.is_white, Sections.assignments_of, Sections.notes_of}
+use Rattle.std.proofs.Common.{◌++◌, ◌∷◌, ◌≡◌, ◌⊎◌}
+use Rattle.section_reader.specs.Prelude.{[], All, ap, append-nil, cond-false, false, flat_map, IsPlainLine, lines, lines-line_feeds, List, list_all, map, nat_eq, recursion_from_All, starts_with, sym, true, ℕ, ◌∙◌}
+use Rattle.section_reader.specs.{declared.{assignments.{Assignment.{Assignment}, Note.{Note}, NoteKind.{NoteKind}}, parts.LineForm.TheVariants.{Blank, Comment, Continued, Whole}}, Lines.{byte_order_mark, numbered, physical_lines}, Parts.{form, is_white}, Sections.{assignments_of, notes_of}}
 
 -- the file of these lines, each followed by a line feed
 abbrev pub text_of_lines : List (List ℕ) → List ℕ

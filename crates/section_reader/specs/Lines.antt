@@ -1,9 +1,7 @@
 -- The physical lines of a file, with their numbers.
 -- Source: systemd.syntax(7), "Introduction"; the mark and the carriage return are this project's own.
-use Rattle.std.proofs.Common.{[], ◌+◌, ◌∷◌, drop, if◌then◌else◌, List, ℕ}
-use Rattle.std.specs.List.{starts_with}
-use Rattle.std.specs.Prelude.{nat_eq}
-use Rattle.std.specs.Str.Lines.{lines}
+use Rattle.std.proofs.Common.{if◌then◌else◌, ◌+◌, ◌∷◌}
+use Rattle.section_reader.specs.Prelude.{[], drop, lines, List, nat_eq, starts_with, ℕ}
 
 -- the byte order mark of UTF-8
 abbrev pub byte_order_mark : List ℕ

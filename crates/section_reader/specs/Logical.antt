@@ -1,8 +1,8 @@
 -- The logical lines of a file, defined from its physical lines by the form of each.
 -- Source: systemd.syntax(7), "Introduction"; what a blank line, the end of the file and several backslashes do is this
 -- project's own.
-use Rattle.std.proofs.Common.{[], ◌++◌, ◌∷◌, Bool, filter, if◌then◌else◌, List, map, ℕ}
-use Rattle.section_reader.specs.{declared.parts.LineForm.TheVariants.Blank, declared.parts.LineForm.TheVariants.Comment, declared.parts.LineForm.TheVariants.Continued, declared.parts.LineForm.TheVariants.Whole, Lines.Line, Lines.physical_lines, Parts.form, Parts.has_bytes, Parts.spaced, Parts.trimmed}
+use Rattle.std.proofs.Common.{if◌then◌else◌, ◌++◌, ◌∷◌}
+use Rattle.section_reader.specs.{declared.parts.LineForm.TheVariants.{Blank, Comment, Continued, Whole}, Lines.{Line, physical_lines}, Parts.{form, has_bytes, spaced, trimmed}, Prelude.{[], Bool, filter, List, map, ℕ}}
 
 -- The continuation of a continued line, taken from the lines after it: comments are skipped, and a blank line or the
 -- end of the file ends it.

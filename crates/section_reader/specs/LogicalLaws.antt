@@ -1,6 +1,7 @@
 -- How lines are joined, by the form of the first line.
-use Rattle.std.proofs.Common.{[], ◌++◌, ◌<◌, ◌∙◌, ◌∷◌, ◌≡◌, ◌⊎◌, ap, arith, filter, length, List, map, refl, ℕ, ⊎_elim}
-use Rattle.section_reader.specs.{declared.parts.LineForm.LineForm, declared.parts.LineForm.TheVariants.Blank, declared.parts.LineForm.TheVariants.Comment, declared.parts.LineForm.TheVariants.Continued, declared.parts.LineForm.TheVariants.Whole, Lines.Line, Logical.going_on, Logical.has_text, Logical.joined, Logical.joined_lines, Logical.kept, Logical.lines_following, Logical.logical_of, Logical.trimmed_line, Parts.form, Parts.spaced}
+use Rattle.std.proofs.Common.{◌++◌, ◌<◌, ◌∷◌, ◌≡◌, ◌⊎◌}
+use Rattle.section_reader.specs.Prelude.{[], ap, arith, filter, length, List, map, refl, ℕ, ⊎_elim, ◌∙◌}
+use Rattle.section_reader.specs.{declared.parts.LineForm.{LineForm, TheVariants.{Blank, Comment, Continued, Whole}}, Lines.{Line}, Logical.{going_on, has_text, joined, joined_lines, kept, lines_following, logical_of, trimmed_line}, Parts.{form, spaced}}
 
 -- a choice by the form of a line
 abbrev pub by_form : {A : Type 0} → LineForm → A → A → A → A → A

@@ -1,9 +1,8 @@
 -- The forms of lines: blank, comment, continued, header, assignment.
 -- Source: systemd.syntax(7), "Introduction"; which bytes are whitespace is this project's own.
-use Rattle.std.proofs.Common.{[], ◌&&◌, ◌++◌, ◌-◌, ◌==◌, ◌||◌, ◌∷◌, Bool, codes, drop, if◌then◌else◌, length, List, nat_lt, None, Option, Some, take, ℕ}
-use Rattle.std.specs.List.{after_first, before_first, ends_with, list_all, position_or_len, prefix_len, slice_range, starts_with, suffix_len}
-use Rattle.std.specs.Prelude.{nat_eq}
-use Rattle.section_reader.specs.{declared.parts.LineForm.LineForm, declared.parts.LineForm.TheVariants.Blank, declared.parts.LineForm.TheVariants.Comment, declared.parts.LineForm.TheVariants.Continued, declared.parts.LineForm.TheVariants.Whole}
+use Rattle.std.proofs.Common.{if◌then◌else◌, ◌&&◌, ◌++◌, ◌-◌, ◌==◌, ◌||◌, ◌∷◌}
+use Rattle.section_reader.specs.Prelude.{[], after_first, before_first, Bool, codes, drop, ends_with, length, List, list_all, nat_eq, nat_lt, None, Option, position_or_len, prefix_len, slice_range, Some, starts_with, suffix_len, take, ℕ}
+use Rattle.section_reader.specs.declared.parts.LineForm.{LineForm, TheVariants.{Blank, Comment, Continued, Whole}}
 
 -- whitespace is space, tab and carriage return
 abbrev pub is_white : ℕ → Bool

@@ -1,8 +1,8 @@
 -- What the remaining lines give a reader in some state.
 -- Source: this project's own.
-use Rattle.std.proofs.Common.{[], ◌++◌, ◌∷◌, List, map, None, Some, ℕ}
-use Rattle.std.specs.List.{flat_map}
-use Rattle.section_reader.specs.{declared.assignments.Assignment.Assignment, declared.assignments.Note.Note, declared.assignments.NoteKind.TheVariants.BadHeader, declared.assignments.NoteKind.TheVariants.OutsideSection, declared.places.Place.Place, declared.places.Place.TheVariants.Inside, declared.places.Place.TheVariants.Outside, declared.places.Place.TheVariants.PassedOver, Lines.Line, Parts.header_name, Sections.assigned, Sections.assignments_in, Sections.note, Sections.notes_following, Sections.unassigned, Sections.up_to_bracket}
+use Rattle.std.proofs.Common.{◌++◌, ◌∷◌}
+use Rattle.section_reader.specs.Prelude.{[], flat_map, List, map, None, Some, ℕ}
+use Rattle.section_reader.specs.{declared.{assignments.{Assignment.{Assignment}, Note.{Note}, NoteKind.TheVariants.{BadHeader, OutsideSection}}, places.Place.{Place, TheVariants.{Inside, Outside, PassedOver}}}, Lines.{Line}, Parts.{header_name}, Sections.{assigned, assignments_in, note, notes_following, unassigned, up_to_bracket}}
 
 -- what lines assign in this state, if none of them begins with a bracket
 unfoldable pub items_at : Place → List Line → List Assignment

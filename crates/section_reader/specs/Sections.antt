@@ -1,8 +1,8 @@
 -- The assignments and notes of a file, defined from its logical lines.
 -- Source: systemd.syntax(7), "Introduction"; that a file is read on behind a bad header is this project's own.
-use Rattle.std.proofs.Common.{[], ◌++◌, ◌∷◌, if◌then◌else◌, List, map, None, Some, ℕ}
-use Rattle.std.specs.List.{flat_map}
-use Rattle.section_reader.specs.{declared.assignments.Assignment.Assignment, declared.assignments.Note.Note, declared.assignments.NoteKind.NoteKind, declared.assignments.NoteKind.TheVariants.BadHeader, declared.assignments.NoteKind.TheVariants.NoEquals, declared.assignments.NoteKind.TheVariants.OutsideSection, Lines.Line, Logical.logical_lines, Parts.header_name, Parts.is_bracketed, Parts.pair_of}
+use Rattle.std.proofs.Common.{if◌then◌else◌, ◌++◌, ◌∷◌}
+use Rattle.section_reader.specs.Prelude.{[], flat_map, List, map, None, Some, ℕ}
+use Rattle.section_reader.specs.{declared.assignments.{Assignment.{Assignment}, Note.{Note}, NoteKind.{NoteKind, TheVariants.{BadHeader, NoEquals, OutsideSection}}}, Lines.{Line}, Logical.{logical_lines}, Parts.{header_name, is_bracketed, pair_of}}
 
 -- the lines up to the first that begins with a bracket
 unfoldable pub up_to_bracket : List Line → List Line

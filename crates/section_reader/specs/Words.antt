@@ -1,7 +1,6 @@
 -- The texts of notes.
 -- Source: this project's own.
-use Rattle.std.proofs.Common.{codes, List, ℕ}
-use Rattle.section_reader.specs.{declared.assignments.NoteKind.NoteKind, declared.assignments.NoteKind.TheVariants.BadHeader, declared.assignments.NoteKind.TheVariants.NoEquals, declared.assignments.NoteKind.TheVariants.OutsideSection}
+use Rattle.section_reader.specs.{declared.assignments.NoteKind.{NoteKind, TheVariants.{BadHeader, NoEquals, OutsideSection}}, Prelude.{codes, List, ℕ}}
 
 -- the code of a note
 abbrev pub code_of : NoteKind → List ℕ

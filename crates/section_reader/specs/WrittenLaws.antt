@@ -1,8 +1,7 @@
 -- Files that are written section by section are read back.
-use Rattle.std.proofs.Common.{[], ◌++◌, ◌+◌, ◌-◌, ◌<◌, ◌∷◌, ◌≡◌, ◌≢◌, All, false, length, List, map, slice_index, ℕ}
-use Rattle.std.specs.List.{flat_map}
-use Rattle.section_reader.specs.Prelude.{HasNoLineFeed}
-use Rattle.section_reader.specs.{declared.assignments.Assignment.Assignment, FileLaws.text_of_lines, Lines.numbered, Logical.logical_of, Parts.is_white, Sections.assignments_of, Sections.notes_of}
+use Rattle.std.proofs.Common.{◌++◌, ◌+◌, ◌-◌, ◌<◌, ◌∷◌, ◌≡◌, ◌≢◌}
+use Rattle.section_reader.specs.Prelude.{[], All, false, flat_map, HasNoLineFeed, length, List, map, slice_index, ℕ}
+use Rattle.section_reader.specs.{declared.assignments.Assignment.{Assignment}, FileLaws.{text_of_lines}, Lines.{numbered}, Logical.{logical_of}, Parts.{is_white}, Sections.{assignments_of, notes_of}}
 
 -- the first and the last byte, if any
 abbrev pub first_of : List ℕ → ℕ

@@ -1,9 +1,6 @@
 -- Keys at their first occurrence, and maps with values for each.
-use Rattle.std.proofs.Common.{[], ◌++◌, ◌||◌, ◌∙◌, ◌∷◌, ◌≡◌, ap, append-nil, Bool, cond, false, List, map, not, refl, sym, true}
-use Rattle.std.proofs.lemmas.Bool.{true≢false}
-use Rattle.std.proofs.lemmas.List.Elements.{filter-append}
-use Rattle.std.specs.List.{list_any}
-use Rattle.setting_rules.proofs.Prelude.{any_others, changed, firsts, others, same_key, same_key_is, same_key_turned, SettingKey, SettingMap, Text}
+use Rattle.std.proofs.Common.{◌++◌, ◌||◌, ◌∷◌, ◌≡◌}
+use Rattle.setting_rules.proofs.Prelude.{[], any_others, ap, append-nil, Bool, changed, cond, false, filter-append, firsts, List, list_any, map, not, others, refl, same_key, same_key_is, same_key_turned, SettingKey, SettingMap, sym, Text, true, true≢false, ◌∙◌}
 
 -- the keys, with one more at the end unless it is present
 abbrev pub with_last : List SettingKey → SettingKey → List SettingKey

@@ -1,14 +1,8 @@
 -- The values of each key that may still count so far, and how one more assignment changes them.
-use Rattle.std.proofs.Common.{[], ◌&&◌, ◌++◌, ◌<◌, ◌||◌, ◌∙◌, ◌∷◌, ◌≡◌, ◌≤◌, ap, append-nil, arith, Bool, cond, drop, false, filter, length, length-append, List, map, nat_le, not, refl, sym, true, ℕ}
-use Rattle.std.proofs.Math.Bool.{and-false}
-use Rattle.std.proofs.lemmas.Bool.{true≢false}
-use Rattle.std.proofs.lemmas.Bool.Decides.{nat_tests}
-use Rattle.std.proofs.lemmas.List.{drop-append-le, map-append}
-use Rattle.std.proofs.lemmas.List.Elements.{filter-append}
-use Rattle.std.specs.List.{list_any}
-use Rattle.setting_rules.proofs.Prelude.{Assertion, Assignment, changed, Condition, counted, counts, Dependency, emptied_by, filter-drop-none, filter-following_last-none, filter-none, firsts, following_last, following_last-push, given, given-append, gives, Ignored, is_empty, key_of, KeyRule, last_alone, Plain, resets, rule_at, rule_of, same_key, same_key_turned, SettingKey, Switch, Text}
+use Rattle.std.proofs.Common.{◌&&◌, ◌++◌, ◌<◌, ◌||◌, ◌∷◌, ◌≡◌, ◌≤◌}
+use Rattle.setting_rules.proofs.Prelude.{[], and-false, ap, append-nil, arith, Assertion, Assignment, Bool, changed, cond, Condition, counted, counts, Dependency, drop, drop-append-le, emptied_by, false, filter, filter-append, filter-drop-none, filter-following_last-none, filter-none, firsts, following_last, following_last-push, given, given-append, gives, Ignored, is_empty, key_of, KeyRule, last_alone, length, length-append, List, list_any, map, map-append, nat_le, nat_tests, not, Plain, refl, resets, rule_at, rule_of, same_key, same_key_turned, SettingKey, Switch, sym, Text, true, true≢false, ℕ, ◌∙◌}
+use Rattle.setting_rules.proofs.{Firsts.{any_firsts, apart_firsts, changed_pairs, firsts-push, pairs, pairs_alike}, Starts.{drop_past}}
 use Rattle.setting_rules.specs.Settings.{keys_of}
-use Rattle.setting_rules.proofs.{Firsts.any_firsts, Firsts.apart_firsts, Firsts.changed_pairs, Firsts.firsts-push, Firsts.pairs, Firsts.pairs_alike, Starts.drop_past}
 
 pub given_passed : (k : SettingKey) (x : Assignment) (l : List Assignment) → gives k x ≡ false → given k (l ++ x ∷ []) ≡ given k l
 given_passed k x l h =

@@ -1,13 +1,7 @@
 -- Maps that are searched by key and indexed.
-use Rattle.indexmap.specs.IndexMap.{insert_entry}
-use Rattle.indexmap.specs.Layout.{set_value_at}
-use Rattle.std.proofs.Common.{[], ◌+◌, ◌<◌, ◌∙◌, ◌∷◌, ◌≡◌, ◌≤◌, ap, arith, Bool, cond, false, length, List, nat_lt, None, not, position, refl, slice_get, Some, suc, sym, true, ℕ}
-use Rattle.std.proofs.lemmas.Bool.Decides.{nat_tests}
-use Rattle.std.proofs.lemmas.Option.{none-some}
-use Rattle.std.specs.List.{position_or_len}
-use Rattle.std.specs.Map.{values_of}
-use Rattle.setting_rules.proofs.Prelude.{changed, place_of, same_key, SettingKey, SettingMap, Text, with_key}
-use Rattle.std.specs.Map.{keys_of}
+use Rattle.std.{proofs.Common.{◌+◌, ◌<◌, ◌∷◌, ◌≡◌, ◌≤◌}, specs.Map.{keys_of}}
+use Rattle.indexmap.specs.{IndexMap.{insert_entry}, Layout.{set_value_at}}
+use Rattle.setting_rules.proofs.Prelude.{[], ap, arith, Bool, changed, cond, false, length, List, nat_lt, nat_tests, None, none-some, not, place_of, position, position_or_len, refl, same_key, SettingKey, SettingMap, slice_get, Some, suc, sym, Text, true, values_of, with_key, ℕ, ◌∙◌}
 
 -- a comparison of keys that decides equality
 module _ (test : SettingKey → SettingKey → Bool) (same : (k q : SettingKey) → test k q ≡ same_key k q) (k : SettingKey) where

@@ -1,11 +1,6 @@
 -- Names and notes, one word or one value at a time.
-use Rattle.std.proofs.Common.{◌++◌, ◌∙◌, ◌≡◌, ap, List, map}
-use Rattle.std.proofs.lemmas.Grind.{flat_map-append}
-use Rattle.std.proofs.lemmas.List.{map-append}
-use Rattle.std.proofs.lemmas.List.Elements.{filter_map-append}
-use Rattle.std.specs.List.{flat_map}
-use Rattle.std.specs.Result.{result_ok}
-use Rattle.setting_rules.proofs.Prelude.{DepKind, faults_by, key_for, Name, named_by, names_by, note_on, result_err, SettingNote, Text, words_of}
+use Rattle.std.proofs.Common.{◌++◌, ◌≡◌}
+use Rattle.setting_rules.proofs.Prelude.{ap, DepKind, faults_by, filter_map-append, flat_map, flat_map-append, key_for, List, map, map-append, Name, named_by, names_by, note_on, result_err, result_ok, SettingNote, Text, words_of, ◌∙◌}
 
 abbrev pub noted_by : Name → DepKind → List Text → List SettingNote
 noted_by unit kind ws = map (note_on (key_for kind)) (faults_by unit ws)

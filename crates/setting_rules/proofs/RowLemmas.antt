@@ -1,11 +1,6 @@
 -- Rows and notes, one value or one key at a time.
-use Rattle.std.proofs.Common.{[], ◌++◌, ◌+◌, ◌<◌, ◌∙◌, ◌∷◌, ◌≡◌, add-one, ap, append-nil, append_assoc, cond, drop, false, filter, find, get_or, is_none, length, List, map, slice_get, Some, suc, sym, take, true, zero, ℕ}
-use Rattle.std.proofs.lemmas.Grind.{flat_map-append}
-use Rattle.std.proofs.lemmas.List.{map-append, take_more}
-use Rattle.std.proofs.lemmas.List.Elements.{filter-append, filter_map-append}
-use Rattle.std.proofs.lemmas.Option.{none-some}
-use Rattle.std.specs.List.{filter_map, flat_map}
-use Rattle.setting_rules.proofs.Prelude.{BadEscape, escape_notes_at, expand, is_dependency, Name, note_on, row, rows_at, same_key, SettingKey, SettingMap, Text, texts_or_none, values_at}
+use Rattle.std.proofs.Common.{◌++◌, ◌+◌, ◌<◌, ◌∷◌, ◌≡◌}
+use Rattle.setting_rules.proofs.Prelude.{[], add-one, ap, append-nil, append_assoc, BadEscape, cond, drop, escape_notes_at, expand, false, filter, filter-append, filter_map, filter_map-append, find, flat_map, flat_map-append, get_or, is_dependency, is_none, length, List, map, map-append, Name, none-some, note_on, row, rows_at, same_key, SettingKey, SettingMap, slice_get, Some, suc, sym, take, take_more, Text, texts_or_none, true, values_at, zero, ℕ, ◌∙◌}
 
 module _ {X : Type 0} where
   -- the elements up to and including the one at an index

@@ -1,7 +1,6 @@
 -- The index from which a family's values count.
-use Rattle.std.proofs.Common.{[], ◌++◌, ◌+◌, ◌<◌, ◌∙◌, ◌∷◌, ◌≡◌, ◌≤◌, ◌⊎◌, ap, arith, Bool, cond, drop, false, get_or, inl, inr, length, List, refl, suc, sym, take, true, zero, ℕ}
-use Rattle.std.proofs.lemmas.List.{drop-append-le, length-take-le, take_more}
-use Rattle.setting_rules.proofs.Prelude.{following_last, following_last-push}
+use Rattle.std.proofs.Common.{◌++◌, ◌+◌, ◌<◌, ◌∷◌, ◌≡◌, ◌≤◌, ◌⊎◌}
+use Rattle.setting_rules.proofs.Prelude.{[], ap, arith, Bool, cond, drop, drop-append-le, false, following_last, following_last-push, get_or, inl, inr, length, length-take-le, List, refl, suc, sym, take, take_more, true, zero, ℕ, ◌∙◌}
 
 module _ {X : Type 0} where
   -- dropping at least the whole list leaves nothing

@@ -1,14 +1,8 @@
 -- One more assignment, and all of them.
-use Rattle.std.proofs.Common.{[], ◌&&◌, ◌++◌, ◌+◌, ◌-◌, ◌<◌, ◌∙◌, ◌∷◌, ◌≡◌, ◌≤◌, ap, arith, Bool, cond, drop, false, filter, get_or, is_some, length, length-append, List, map, nat_le, None, not, refl, Some, sym, take, true, ℕ}
-use Rattle.std.proofs.Math.Bool.{and-false}
-use Rattle.std.proofs.Math.Seq.{drop-append_seam}
-use Rattle.std.proofs.lemmas.Bool.{and_from, true≢false}
-use Rattle.std.proofs.lemmas.Bool.Decides.{nat_tests}
-use Rattle.std.proofs.lemmas.List.{drop-append-le, length-take-le, map-append, take_more}
-use Rattle.std.proofs.lemmas.List.Elements.{filter-append}
-use Rattle.setting_rules.proofs.Prelude.{Assertion, Assignment, BadBoolean, changed_by, Condition, counted, counts, counts_by, Dependency, effect, emptied_by, following_last, following_last-none, following_last-push, given, gives, Ignored, is_bad, is_bad_by, is_empty, is_never_emptied, key_of, KeyRule, keys_of, last_alone, none_resets, note_on, Plain, resets, resets_family, rule_at, rule_of, same_key, same_key_itself, same_rule, SettingKey, SettingMap, SettingNote, start_of, Switch, Text}
-use Rattle.setting_rules.specs.{Rules.boolean, Settings.boolean_notes, Settings.settings_of, Settings.values_of}
-use Rattle.setting_rules.proofs.{Firsts.pairs, Firsts.pairs_alike, Kept.change, Kept.drop_later, Kept.given_passed, Kept.given_taken, Kept.kept, Kept.live_by, Kept.no_change}
+use Rattle.std.proofs.Common.{◌&&◌, ◌++◌, ◌+◌, ◌-◌, ◌<◌, ◌∷◌, ◌≡◌, ◌≤◌}
+use Rattle.setting_rules.proofs.Prelude.{[], and-false, and_from, ap, arith, Assertion, Assignment, BadBoolean, Bool, changed_by, cond, Condition, counted, counts, counts_by, Dependency, drop, drop-append-le, drop-append_seam, effect, emptied_by, false, filter, filter-append, following_last, following_last-none, following_last-push, get_or, given, gives, Ignored, is_bad, is_bad_by, is_empty, is_never_emptied, is_some, key_of, KeyRule, keys_of, last_alone, length, length-append, length-take-le, List, map, map-append, nat_le, nat_tests, None, none_resets, not, note_on, Plain, refl, resets, resets_family, rule_at, rule_of, same_key, same_key_itself, same_rule, SettingKey, SettingMap, SettingNote, Some, start_of, Switch, sym, take, take_more, Text, true, true≢false, ℕ, ◌∙◌}
+use Rattle.setting_rules.proofs.{Firsts.{pairs, pairs_alike}, Kept.{change, drop_later, given_passed, given_taken, kept, live_by, no_change}}
+use Rattle.setting_rules.specs.{Rules.{boolean}, Settings.{boolean_notes, settings_of, values_of}}
 
 last_alone-push : (values : List Text) (v : Text) → last_alone (values ++ v ∷ []) ≡ v ∷ []
 last_alone-push values v =

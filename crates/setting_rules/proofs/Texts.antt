@@ -1,6 +1,6 @@
 -- Empty texts.
-use Rattle.std.proofs.Common.{[], ◌==◌, ◌∷◌, ◌≡◌, arith, length, ne_eqb, refl}
-use Rattle.setting_rules.proofs.Prelude.{is_empty, Text}
+use Rattle.std.proofs.Common.{◌==◌, ◌∷◌, ◌≡◌}
+use Rattle.setting_rules.proofs.Prelude.{[], arith, is_empty, length, ne_eqb, refl, Text}
 
 pub none_left : (text : Text) → (length text == 0) ≡ is_empty text
 none_left [] = refl

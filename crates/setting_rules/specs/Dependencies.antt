@@ -1,11 +1,9 @@
 -- The units that a unit's settings name.
 -- Source: systemd.unit(5), "[Unit] Section Options"; that a template takes the instance or the prefix is this project's
 -- own.
-use Rattle.std.proofs.Common.{codes, Err, if◌then◌else◌, List, map, None, Ok, Option, Result, Some}
-use Rattle.std.specs.List.{filter_map, flat_map}
-use Rattle.std.specs.Result.{result_ok}
-use Rattle.setting_rules.specs.Prelude.{expand, is_name, Name, name_cmp}
-use Rattle.setting_rules.specs.{declared.dependency_lists.DependencyList.DependencyList, declared.keys.SettingKey.SettingKey, declared.kinds.DepKind.DepKind, declared.notes.SettingNote.SettingNote, declared.notes.SettingNoteKind.SettingNoteKind, declared.notes.SettingNoteKind.TheVariants.BadEscape, declared.notes.SettingNoteKind.TheVariants.BadName, Kinds.settable, Kinds.word, Maps.SettingMap, Maps.values_at, Rules.Text, Settings.note_on, Words.for_unit, Words.words_of}
+use Rattle.std.proofs.Common.{if◌then◌else◌}
+use Rattle.setting_rules.specs.Prelude.{codes, Err, expand, filter_map, flat_map, is_name, List, map, Name, name_cmp, None, Ok, Option, Result, result_ok, Some}
+use Rattle.setting_rules.specs.{declared.{dependency_lists.DependencyList.{DependencyList}, keys.SettingKey.{SettingKey}, kinds.DepKind.{DepKind}, notes.{SettingNote.{SettingNote}, SettingNoteKind.{SettingNoteKind, TheVariants.{BadEscape, BadName}}}}, Kinds.{settable, word}, Maps.{SettingMap, values_at}, Rules.{Text}, Settings.{note_on}, Words.{for_unit, words_of}}
 use Rattle.std.specs.FinMap as finmap
 
 -- the name, or `BadName` if there is none

@@ -1,8 +1,8 @@
 -- How one assignment changes the values of its key, and which values before an assignment still count.
 -- Source: this project's own.
-use Rattle.std.proofs.Common.{[], ◌&&◌, ◌++◌, ◌∷◌, Bool, if◌then◌else◌, is_some, List, None, not, Option, Some, ℕ}
-use Rattle.setting_rules.specs.Prelude.{Assignment}
-use Rattle.setting_rules.specs.{declared.keys.SettingKey.SettingKey, declared.rules.KeyRule.KeyRule, declared.rules.KeyRule.TheVariants.Assertion, declared.rules.KeyRule.TheVariants.Condition, declared.rules.KeyRule.TheVariants.Dependency, declared.rules.KeyRule.TheVariants.Ignored, declared.rules.KeyRule.TheVariants.Plain, declared.rules.KeyRule.TheVariants.Switch, Maps.changed, Maps.SettingMap, Rules.boolean, Rules.is_empty, Rules.rule_of, Rules.same_rule, Rules.Text}
+use Rattle.std.proofs.Common.{if◌then◌else◌, ◌&&◌, ◌++◌, ◌∷◌}
+use Rattle.setting_rules.specs.Prelude.{[], Assignment, Bool, is_some, List, None, not, Option, Some, ℕ}
+use Rattle.setting_rules.specs.{declared.{keys.SettingKey.{SettingKey}, rules.KeyRule.{KeyRule, TheVariants.{Assertion, Condition, Dependency, Ignored, Plain, Switch}}}, Maps.{changed, SettingMap}, Rules.{boolean, is_empty, rule_of, same_rule, Text}}
 
 -- how a value changes the earlier values of its key; `None` if it doesn't count. A value of a family counts only if it
 -- is live: no later assignment empties the family.

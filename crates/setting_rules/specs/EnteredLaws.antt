@@ -1,11 +1,8 @@
 -- Which keys enter the map, and in what order.
 -- Source: this project's own.
-use Rattle.std.proofs.Common.{[], ◌++◌, ◌||◌, ◌∙◌, ◌∷◌, ◌≡◌, ap, Bool, cond, false, filter, if◌then◌else◌, List, map, not, refl, sym, true}
-use Rattle.std.proofs.lemmas.List.{map-append}
-use Rattle.std.proofs.lemmas.List.Elements.{filter-append, filter_agree}
-use Rattle.std.specs.List.{list_any}
-use Rattle.setting_rules.specs.Prelude.{Assignment, filter_twice}
-use Rattle.setting_rules.specs.{declared.keys.SettingKey.SettingKey, KeyLaws.same_key_is, Maps.keys_in, Maps.same_key, Rules.Text, Settings.counts, Settings.firsts, Settings.key_of, Settings.keys_of, Settings.settings_of, Settings.values_of}
+use Rattle.std.proofs.Common.{if◌then◌else◌, ◌++◌, ◌||◌, ◌∷◌, ◌≡◌}
+use Rattle.setting_rules.specs.Prelude.{[], ap, Assignment, Bool, cond, false, filter, filter-append, filter_agree, filter_twice, List, list_any, map, map-append, not, refl, sym, true, ◌∙◌}
+use Rattle.setting_rules.specs.{declared.keys.SettingKey.{SettingKey}, KeyLaws.{same_key_is}, Maps.{keys_in, same_key}, Rules.{Text}, Settings.{counts, firsts, key_of, keys_of, settings_of, values_of}}
 
 -- those of some keys that aren't among others
 abbrev pub not_among : List SettingKey → List SettingKey → List SettingKey

@@ -1,10 +1,8 @@
 -- What an empty condition or assertion empties, stated for all keys with the same beginning.
 -- Source: systemd.unit(5), "Conditions and Asserts".
-use Rattle.std.proofs.Common.{[], ◌&&◌, ◌++◌, ◌||◌, ◌∙◌, ◌∷◌, ◌≡◌, All, ap, Bool, codes, false, List, map, not, refl, subst, true}
-use Rattle.std.proofs.lemmas.List.Elements.{All-head, All-tail}
-use Rattle.std.specs.List.{list_any}
-use Rattle.setting_rules.specs.Prelude.{Assignment}
-use Rattle.setting_rules.specs.{declared.keys.SettingKey.SettingKey, declared.rules.KeyRule.KeyRule, declared.rules.KeyRule.TheVariants.Assertion, declared.rules.KeyRule.TheVariants.Condition, KeyLaws.same_key_is, Kinds.settable_kind, Maps.same_key, Maps.values_at, ResetLaws.filter-following_last-none, ResetLaws.resets_forget, ResetLaws.settings_show_values, Rules.is_empty, Rules.rule_of, Rules.Text, Settings.counted, Settings.counts, Settings.emptied_by, Settings.gives, Settings.key_of, Settings.resets, Settings.rule_at, Settings.settings_of, Settings.values_of}
+use Rattle.std.proofs.Common.{◌&&◌, ◌++◌, ◌||◌, ◌∷◌, ◌≡◌}
+use Rattle.setting_rules.specs.Prelude.{[], All, All-head, All-tail, ap, Assignment, Bool, codes, false, List, list_any, map, not, refl, subst, true, ◌∙◌}
+use Rattle.setting_rules.specs.{declared.{keys.SettingKey.{SettingKey}, rules.KeyRule.{KeyRule, TheVariants.{Assertion, Condition}}}, KeyLaws.{same_key_is}, Kinds.{settable_kind}, Maps.{same_key, values_at}, ResetLaws.{filter-following_last-none, resets_forget, settings_show_values}, Rules.{is_empty, rule_of, Text}, Settings.{counted, counts, emptied_by, gives, key_of, resets, rule_at, settings_of, values_of}}
 
 -- a key of `[Unit]` that begins with this word
 abbrev pub BeginsWith : Text → SettingKey → Type 0

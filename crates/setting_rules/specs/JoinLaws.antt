@@ -1,9 +1,7 @@
 -- The settings of concatenated lists, such as the assignments of a fragment and of its drop-ins.
-use Rattle.std.proofs.Common.{[], ◌++◌, ◌+◌, ◌-◌, ◌∙◌, ◌∷◌, ◌≡◌, ap, append-nil, arith, Bool, cond, drop, false, length, length-append, List, refl, sym, true}
-use Rattle.std.proofs.Math.Seq.{drop-append-add}
-use Rattle.std.specs.List.{list_any}
-use Rattle.setting_rules.specs.Prelude.{Assignment}
-use Rattle.setting_rules.specs.{declared.keys.SettingKey.SettingKey, declared.rules.KeyRule.KeyRule, declared.rules.KeyRule.TheVariants.Assertion, declared.rules.KeyRule.TheVariants.Condition, declared.rules.KeyRule.TheVariants.Dependency, declared.rules.KeyRule.TheVariants.Ignored, declared.rules.KeyRule.TheVariants.Plain, declared.rules.KeyRule.TheVariants.Switch, ResetLaws.following_last-append, ResetLaws.following_last-none, ResetLaws.given-append, Rules.Text, Settings.counted, Settings.following_last, Settings.given, Settings.last_alone, Settings.resets, Settings.rule_at, Settings.values_of}
+use Rattle.std.proofs.Common.{◌++◌, ◌+◌, ◌-◌, ◌∷◌, ◌≡◌}
+use Rattle.setting_rules.specs.Prelude.{[], ap, append-nil, arith, Assignment, Bool, cond, drop, drop-append-add, false, length, length-append, List, list_any, refl, sym, true, ◌∙◌}
+use Rattle.setting_rules.specs.{declared.{keys.SettingKey.{SettingKey}, rules.KeyRule.{KeyRule, TheVariants.{Assertion, Condition, Dependency, Ignored, Plain, Switch}}}, ResetLaws.{following_last-append, following_last-none, given-append}, Rules.{Text}, Settings.{counted, following_last, given, last_alone, resets, rule_at, values_of}}
 
 -- the last value of two lists is that of the second, if it has any
 pub last_following : (xs : List Text) (y : Text) (ys : List Text) → last_alone (xs ++ y ∷ ys) ≡ last_alone (y ∷ ys)

@@ -1,9 +1,6 @@
 -- Comparing keys is equality.
-use Rattle.std.proofs.Common.{◌∙◌, ◌≡◌, ap, Bool, false, refl, sym, true}
-use Rattle.std.proofs.lemmas.Bool.{and_from, and_parts, true≢false}
-use Rattle.std.proofs.lemmas.Slice.Eq.{bytes_eq-Decides}
-use Rattle.std.specs.Str.{bytes_eq}
-use Rattle.setting_rules.specs.{declared.keys.SettingKey.SettingKey, Maps.same_key}
+use Rattle.std.proofs.Common.{◌≡◌}
+use Rattle.setting_rules.specs.{declared.keys.SettingKey.{SettingKey}, Maps.{same_key}, Prelude.{and_from, and_parts, ap, Bool, bytes_eq, bytes_eq-Decides, false, refl, sym, true, true≢false, ◌∙◌}}
 
 pub same_key_is : (k q : SettingKey) → same_key k q ≡ true → k ≡ q
 same_key_is k q h =

@@ -1,10 +1,8 @@
 -- The kinds of dependencies.
 -- Source: systemd.unit(5), "Mapping of unit properties to their inverses".
-use Rattle.std.proofs.Common.{[], ◌∷◌, Bool, codes, false, filter, List, Option, true, ℕ}
-use Rattle.std.specs.List.{flat_map}
-use Rattle.std.specs.Prelude.{find}
-use Rattle.std.specs.Str.{bytes_eq}
-use Rattle.setting_rules.specs.{declared.kinds.DepKind.DepKind, declared.kinds.DepKind.TheVariants.After, declared.kinds.DepKind.TheVariants.Before, declared.kinds.DepKind.TheVariants.BindsTo, declared.kinds.DepKind.TheVariants.BoundBy, declared.kinds.DepKind.TheVariants.ConflictedBy, declared.kinds.DepKind.TheVariants.Conflicts, declared.kinds.DepKind.TheVariants.ConsistsOf, declared.kinds.DepKind.TheVariants.OnFailure, declared.kinds.DepKind.TheVariants.OnFailureOf, declared.kinds.DepKind.TheVariants.PartOf, declared.kinds.DepKind.TheVariants.PropagatesReloadTo, declared.kinds.DepKind.TheVariants.ReloadPropagatedFrom, declared.kinds.DepKind.TheVariants.RequiredBy, declared.kinds.DepKind.TheVariants.Requires, declared.kinds.DepKind.TheVariants.Requisite, declared.kinds.DepKind.TheVariants.RequisiteOf, declared.kinds.DepKind.TheVariants.WantedBy, declared.kinds.DepKind.TheVariants.Wants}
+use Rattle.std.proofs.Common.{◌∷◌}
+use Rattle.setting_rules.specs.Prelude.{[], Bool, bytes_eq, codes, false, filter, find, flat_map, List, Option, true, ℕ}
+use Rattle.setting_rules.specs.declared.kinds.DepKind.{DepKind, TheVariants.{After, Before, BindsTo, BoundBy, ConflictedBy, Conflicts, ConsistsOf, OnFailure, OnFailureOf, PartOf, PropagatesReloadTo, ReloadPropagatedFrom, RequiredBy, Requires, Requisite, RequisiteOf, WantedBy, Wants}}
 
 -- the kind that states the same relation from the other unit
 abbrev pub inverse : DepKind → DepKind

@@ -1,9 +1,7 @@
 -- Maps from keys to their values, as lists of pairs without duplicate keys.
 -- Source: this project's own.
-use Rattle.std.proofs.Common.{[], ◌&&◌, ◌∷◌, Bool, if◌then◌else◌, List, map, None, Option, Some, suc, ℕ}
-use Rattle.std.specs.Prelude.{find}
-use Rattle.std.specs.Str.{bytes_eq}
-use Rattle.setting_rules.specs.{declared.keys.SettingKey.SettingKey, Rules.Text}
+use Rattle.std.proofs.Common.{if◌then◌else◌, ◌&&◌, ◌∷◌}
+use Rattle.setting_rules.specs.{declared.keys.SettingKey.{SettingKey}, Prelude.{[], Bool, bytes_eq, find, List, map, None, Option, Some, suc, ℕ}, Rules.{Text}}
 
 -- the keys with their values, in the order of the keys
 abbrev pub SettingMap : Type 0

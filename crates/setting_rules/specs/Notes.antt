@@ -1,7 +1,6 @@
 -- The texts of notes on settings.
 -- Source: this project's own.
-use Rattle.std.proofs.Common.{codes, List, ℕ}
-use Rattle.setting_rules.specs.{declared.notes.SettingNoteKind.SettingNoteKind, declared.notes.SettingNoteKind.TheVariants.BadBoolean, declared.notes.SettingNoteKind.TheVariants.BadEscape, declared.notes.SettingNoteKind.TheVariants.BadName}
+use Rattle.setting_rules.specs.{declared.notes.SettingNoteKind.{SettingNoteKind, TheVariants.{BadBoolean, BadEscape, BadName}}, Prelude.{codes, List, ℕ}}
 
 -- the code of a note
 abbrev pub code_of : SettingNoteKind → List ℕ

@@ -1,16 +1,7 @@
 -- Names in byte order, without duplicates.
-use Rattle.std.proofs.Common.{[], ◌||◌, ◌↔◌, ◌∙◌, ◌∷◌, ◌≡◌, ◌⊎◌, ap, Bool, false, inl, inr, is_some, IsTrue, List, map, refl, sym, T, true}
-use Rattle.std.proofs.lemmas.Bool.{and_parts, true≢false}
-use Rattle.std.proofs.lemmas.Cmp.{tied_itself}
-use Rattle.std.specs.Cmp.Lexicographic.{nat_list_cmp_total}
-use Rattle.std.specs.FinMap.{contains_key-keys, entries_sorted, get-from_entries, is_sorted}
-use Rattle.std.specs.FinMap.Entries.{below_all, is_some-find}
-use Rattle.std.specs.List.{AllByRecursion, Contains, list_any}
-use Rattle.std.specs.Ordering.{eq_by_cmp, is_eq}
-use Rattle.std.specs.declared.cmp.Ordering.TheVariants.{Less}
-use Rattle.setting_rules.specs.Prelude.{among_from_contains, contains_from_among, is_equal, is_less, IsAmong, Name, name_cmp, name_cmp-IsAntisymmetric}
+use Rattle.std.proofs.Common.{◌||◌, ◌↔◌, ◌∷◌, ◌≡◌, ◌⊎◌}
+use Rattle.setting_rules.specs.Prelude.{[], AllByRecursion, among_from_contains, and_parts, ap, below_all, Bool, Contains, contains_from_among, contains_key-keys, entries_sorted, eq_by_cmp, false, get-from_entries, inl, inr, is_eq, is_equal, is_less, is_some, is_some-find, is_sorted, IsAmong, IsStrictlySortedBy, IsTrue, Less, List, list_any, map, Name, name_cmp, name_cmp-IsAntisymmetric, nat_list_cmp_total, refl, sym, T, tied_itself, true, true≢false, ◌∙◌}
 use Rattle.setting_rules.specs.Dependencies.{in_byte_order}
-use Rattle.std.specs.List.Sorted.{IsStrictlySortedBy}
 use Rattle.std.specs.FinMap as finmap
 
 -- a name that compares as equal to a member is a member

@@ -1,14 +1,7 @@
 -- The values that remain after resets.
-use Rattle.std.proofs.Common.{[], ◌&&◌, ◌++◌, ◌||◌, ◌∙◌, ◌∷◌, ◌≡◌, ap, Bool, cond, drop, false, filter, List, map, not, refl, Some, suc, sym, true, zero, ℕ}
-use Rattle.std.proofs.Math.Bool.{and-false}
-use Rattle.std.proofs.lemmas.Bool.{true≢false}
-use Rattle.std.proofs.lemmas.List.{map-append}
-use Rattle.std.proofs.lemmas.List.Elements.{filter-append}
-use Rattle.std.proofs.lemmas.List.Folds.{list_any-append}
-use Rattle.std.specs.List.{list_any}
-use Rattle.setting_rules.specs.Prelude.{Assignment}
-use Rattle.setting_rules.specs.{declared.keys.SettingKey.SettingKey, declared.rules.KeyRule.KeyRule, declared.rules.KeyRule.TheVariants.Assertion, declared.rules.KeyRule.TheVariants.Condition, declared.rules.KeyRule.TheVariants.Dependency, declared.rules.KeyRule.TheVariants.Ignored, declared.rules.KeyRule.TheVariants.Plain, declared.rules.KeyRule.TheVariants.Switch, KeyLaws.same_key_is, Maps.same_key, Maps.SettingMap, Maps.texts_or_none, Maps.values_at, Rules.is_empty, Rules.rule_of, Rules.Text, Settings.counted, Settings.counts, Settings.counts_by, Settings.emptied_by, Settings.firsts, Settings.following_last, Settings.given, Settings.gives, Settings.key_of, Settings.keys_of, Settings.resets, Settings.rule_at, Settings.settings_of, Settings.values_of}
-use Rattle.std.proofs.Common.{find}
+use Rattle.std.proofs.Common.{find, ◌&&◌, ◌++◌, ◌||◌, ◌∷◌, ◌≡◌}
+use Rattle.setting_rules.specs.Prelude.{[], and-false, ap, Assignment, Bool, cond, drop, false, filter, filter-append, List, list_any, list_any-append, map, map-append, not, refl, Some, suc, sym, true, true≢false, zero, ℕ, ◌∙◌}
+use Rattle.setting_rules.specs.{declared.{keys.SettingKey.{SettingKey}, rules.KeyRule.{KeyRule, TheVariants.{Assertion, Condition, Dependency, Ignored, Plain, Switch}}}, KeyLaws.{same_key_is}, Maps.{same_key, SettingMap, texts_or_none, values_at}, Rules.{is_empty, rule_of, Text}, Settings.{counted, counts, counts_by, emptied_by, firsts, following_last, given, gives, key_of, keys_of, resets, rule_at, settings_of, values_of}}
 
 module _ {X : Type 0} (p : X → Bool) where
   -- if no element passes, all of the list remains

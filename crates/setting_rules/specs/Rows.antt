@@ -1,9 +1,8 @@
 -- The rows of a unit's settings: the values with the specifiers of its name expanded.
 -- Source: systemd.unit(5), "Specifiers".
-use Rattle.std.proofs.Common.{[], Bool, filter, if◌then◌else◌, is_none, List, map}
-use Rattle.std.specs.List.{filter_map, flat_map}
-use Rattle.setting_rules.specs.Prelude.{expand, Name}
-use Rattle.setting_rules.specs.{declared.keys.SettingKey.SettingKey, declared.notes.SettingNote.SettingNote, declared.notes.SettingNoteKind.TheVariants.BadEscape, declared.rows.Row.Row, declared.rules.KeyRule.TheVariants.Dependency, Maps.SettingMap, Rules.same_rule, Rules.Text, Settings.note_on, Settings.rule_at}
+use Rattle.std.proofs.Common.{if◌then◌else◌}
+use Rattle.setting_rules.specs.Prelude.{[], Bool, expand, filter, filter_map, flat_map, is_none, List, map, Name}
+use Rattle.setting_rules.specs.{declared.{keys.SettingKey.{SettingKey}, notes.{SettingNote.{SettingNote}, SettingNoteKind.TheVariants.{BadEscape}}, rows.Row.{Row}, rules.KeyRule.TheVariants.{Dependency}}, Maps.{SettingMap}, Rules.{same_rule, Text}, Settings.{note_on, rule_at}}
 
 -- the key sets dependencies
 abbrev pub is_dependency : SettingKey → Bool

@@ -1,11 +1,9 @@
 -- How the values of a key are evaluated, and the texts of booleans.
 -- Source: systemd.unit(5), "[Unit] Section Options" and "Conditions and Asserts"; systemd.syntax(7), "Introduction",
 -- for booleans.
-use Rattle.std.proofs.Common.{[], ◌||◌, ◌∷◌, Bool, codes, false, if◌then◌else◌, is_some, List, None, Option, Some, true, ℕ}
-use Rattle.std.specs.List.{starts_with}
-use Rattle.std.specs.Prelude.{nat_eq}
-use Rattle.std.specs.Str.{bytes_eq, str_eq_ignore_ascii_case}
-use Rattle.setting_rules.specs.{declared.rules.KeyRule.KeyRule, declared.rules.KeyRule.TheVariants.Assertion, declared.rules.KeyRule.TheVariants.Condition, declared.rules.KeyRule.TheVariants.Dependency, declared.rules.KeyRule.TheVariants.Ignored, declared.rules.KeyRule.TheVariants.Plain, declared.rules.KeyRule.TheVariants.Switch, Kinds.settable_kind}
+use Rattle.std.proofs.Common.{if◌then◌else◌, ◌||◌, ◌∷◌}
+use Rattle.setting_rules.specs.Prelude.{[], Bool, bytes_eq, codes, false, is_some, List, nat_eq, None, Option, Some, starts_with, str_eq_ignore_ascii_case, true, ℕ}
+use Rattle.setting_rules.specs.{declared.rules.KeyRule.{KeyRule, TheVariants.{Assertion, Condition, Dependency, Ignored, Plain, Switch}}, Kinds.{settable_kind}}
 
 abbrev pub Text : Type 0
 Text = List ℕ

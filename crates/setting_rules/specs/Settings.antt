@@ -1,9 +1,8 @@
 -- The effective values, defined from the whole list of a unit's assignments and the last reset in it.
 -- Source: systemd.syntax(7), "Introduction", for empty values; systemd.unit(5), "Conditions and Asserts", for families.
-use Rattle.std.proofs.Common.{[], ◌&&◌, ◌-◌, ◌∷◌, Bool, drop, false, filter, if◌then◌else◌, is_none, is_some, length, List, map, not, true}
-use Rattle.std.specs.List.{list_any}
-use Rattle.setting_rules.specs.Prelude.{Assignment}
-use Rattle.setting_rules.specs.{declared.keys.SettingKey.SettingKey, declared.notes.SettingNote.SettingNote, declared.notes.SettingNoteKind.SettingNoteKind, declared.notes.SettingNoteKind.TheVariants.BadBoolean, declared.rules.KeyRule.KeyRule, declared.rules.KeyRule.TheVariants.Assertion, declared.rules.KeyRule.TheVariants.Condition, declared.rules.KeyRule.TheVariants.Dependency, declared.rules.KeyRule.TheVariants.Ignored, declared.rules.KeyRule.TheVariants.Plain, declared.rules.KeyRule.TheVariants.Switch, Maps.same_key, Maps.SettingMap, Rules.boolean, Rules.is_empty, Rules.rule_of, Rules.Text}
+use Rattle.std.proofs.Common.{if◌then◌else◌, ◌&&◌, ◌-◌, ◌∷◌}
+use Rattle.setting_rules.specs.Prelude.{[], Assignment, Bool, drop, false, filter, is_none, is_some, length, List, list_any, map, not, true}
+use Rattle.setting_rules.specs.{declared.{keys.SettingKey.{SettingKey}, notes.{SettingNote.{SettingNote}, SettingNoteKind.{SettingNoteKind, TheVariants.{BadBoolean}}}, rules.KeyRule.{KeyRule, TheVariants.{Assertion, Condition, Dependency, Ignored, Plain, Switch}}}, Maps.{same_key, SettingMap}, Rules.{boolean, is_empty, rule_of, Text}}
 
 -- the key that an assignment sets
 abbrev pub key_of : Assignment → SettingKey

@@ -1,15 +1,7 @@
 -- Names that are sorted and deduplicated.
-use Rattle.std.proofs.Common.{[], ◌<◌, ◌∙◌, ◌∷◌, ◌≡◌, arith, length, List, refl, subst, sym}
-use Rattle.std.proofs.lemmas.List.Kept.{Contains-dedup, Contains-from_dedup, IsStrictlySortedBy-dedup}
-use Rattle.std.proofs.lemmas.List.Sorted.{list_any-IsPermutation}
-use Rattle.std.specs.Cmp.{eq_by_cmp_equiv}
-use Rattle.std.specs.Cmp.Lexicographic.{nat_list_cmp_total}
-use Rattle.std.specs.List.{dedup, list_any}
-use Rattle.std.specs.Ordering.{eq_by_cmp}
-use Rattle.std.specs.Prelude.{IsPermutation, IsSorted}
-use Rattle.setting_rules.specs.Prelude.{among_from_contains, contains_from_among, is_equal, IsAmong, Name, name_cmp, name_cmp-IsAntisymmetric, one_ascending_list}
-use Rattle.setting_rules.specs.{Dependencies.in_byte_order, OrderLaws.any-from_IsAmong, OrderLaws.any-in_byte_order, OrderLaws.IsAmong-from_any, OrderLaws.names_ascend}
-use Rattle.std.specs.List.Sorted.{IsStrictlySortedBy}
+use Rattle.std.proofs.Common.{◌<◌, ◌∷◌, ◌≡◌}
+use Rattle.setting_rules.specs.Prelude.{[], among_from_contains, arith, Contains-dedup, Contains-from_dedup, contains_from_among, dedup, eq_by_cmp, eq_by_cmp_equiv, is_equal, IsAmong, IsPermutation, IsSorted, IsStrictlySortedBy, IsStrictlySortedBy-dedup, length, List, list_any, list_any-IsPermutation, Name, name_cmp, name_cmp-IsAntisymmetric, nat_list_cmp_total, one_ascending_list, refl, subst, sym, ◌∙◌}
+use Rattle.setting_rules.specs.{Dependencies.{in_byte_order}, OrderLaws.{any-from_IsAmong, any-in_byte_order, IsAmong-from_any, names_ascend}}
 
 -- sorting changes nothing in names that are strictly ascending
 ascending_in_order : (names : List Name) → IsStrictlySortedBy name_cmp names → in_byte_order names ≡ names

@@ -1,10 +1,8 @@
 -- Which boolean decides whether a unit refuses a manual start.
 -- Source: systemd.unit(5), "[Unit] Section Options".
-use Rattle.std.proofs.Common.{[], ◌&&◌, ◌++◌, ◌||◌, ◌∙◌, ◌∷◌, ◌≡◌, All, ap, Bool, cond, false, filter, is_some, List, map, None, not, refl, Some, sym, true, unwrap_or}
-use Rattle.std.proofs.lemmas.List.Elements.{All-head, All-tail}
-use Rattle.std.specs.List.{list_any}
-use Rattle.setting_rules.specs.Prelude.{Assignment}
-use Rattle.setting_rules.specs.{declared.rules.KeyRule.TheVariants.Switch, JoinLaws.last_following, KeyLaws.same_key_is, KeyLaws.same_key_itself, Kinds.settable_kind, Maps.same_key, Maps.values_at, ResetLaws.filter-none, ResetLaws.given-append, ResetLaws.is_never_emptied, ResetLaws.settings_keep_all, Rules.boolean, Rules.is_empty, Rules.rule_of, Rules.Text, Settings.counted, Settings.counts, Settings.counts_by, Settings.given, Settings.gives, Settings.key_of, Settings.last_alone, Settings.rule_at, Settings.settings_of, Switches.last_value, Switches.manual_start_key, Switches.refuses, Switches.says_yes}
+use Rattle.std.proofs.Common.{◌&&◌, ◌++◌, ◌||◌, ◌∷◌, ◌≡◌}
+use Rattle.setting_rules.specs.Prelude.{[], All, All-head, All-tail, ap, Assignment, Bool, cond, false, filter, is_some, List, list_any, map, None, not, refl, Some, sym, true, unwrap_or, ◌∙◌}
+use Rattle.setting_rules.specs.{declared.rules.KeyRule.TheVariants.{Switch}, JoinLaws.{last_following}, KeyLaws.{same_key_is, same_key_itself}, Kinds.{settable_kind}, Maps.{same_key, values_at}, ResetLaws.{filter-none, given-append, is_never_emptied, settings_keep_all}, Rules.{boolean, is_empty, rule_of, Text}, Settings.{counted, counts, counts_by, given, gives, key_of, last_alone, rule_at, settings_of}, Switches.{last_value, manual_start_key, refuses, says_yes}}
 
 -- an assignment doesn't give the switch a valid boolean
 abbrev pub GivesNoBoolean : Assignment → Type 0

@@ -1,7 +1,7 @@
 -- Whether a unit refuses a manual start.
 -- Source: systemd.unit(5), "[Unit] Section Options".
-use Rattle.std.proofs.Common.{◌-◌, Bool, codes, false, length, List, None, Option, slice_get, Some, unwrap_or}
-use Rattle.setting_rules.specs.{declared.keys.SettingKey.SettingKey, Maps.SettingMap, Maps.values_at, Rules.boolean, Rules.Text}
+use Rattle.std.proofs.Common.{◌-◌}
+use Rattle.setting_rules.specs.{declared.keys.SettingKey.{SettingKey}, Maps.{SettingMap, values_at}, Prelude.{Bool, codes, false, length, List, None, Option, slice_get, Some, unwrap_or}, Rules.{boolean, Text}}
 
 -- the key of the switch
 abbrev pub manual_start_key : SettingKey

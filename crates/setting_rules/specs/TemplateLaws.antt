@@ -1,8 +1,7 @@
 -- What a unit means by a template that it names.
 -- Source: systemd.unit(5), "Description"; that a unit without an instance gives its prefix is this project's own.
-use Rattle.std.proofs.Common.{◌<◌, ◌∙◌, ◌≡◌, ◌≢◌, ◌≤◌, ap, arith, Bool, cond, false, le-leb, leb, length, None, refl, Some, true}
-use Rattle.std.proofs.lemmas.Bool.{and_parts, leb-true, not-true}
-use Rattle.setting_rules.specs.Prelude.{fits, if_short, Instance, instance, instance_at, instance_is_instance, instance_name, is_empty, is_instance, IsName, Name, parts_of_names_fit, Plain, prefix, prefix_is_instance, Shape, shape, suffix, Template}
+use Rattle.std.proofs.Common.{◌<◌, ◌≡◌, ◌≢◌, ◌≤◌}
+use Rattle.setting_rules.specs.Prelude.{and_parts, ap, arith, Bool, cond, false, fits, if_short, Instance, instance, instance_at, instance_is_instance, instance_name, is_empty, is_instance, IsName, le-leb, leb, leb-true, length, Name, None, not-true, parts_of_names_fit, Plain, prefix, prefix_is_instance, refl, Shape, shape, Some, suffix, Template, true, ◌∙◌}
 use Rattle.setting_rules.specs.Words.{argument, for_unit, named_at}
 
 -- a template that the unit names means its instance with this i; none if that name has more than 255 bytes

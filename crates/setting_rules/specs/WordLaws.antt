@@ -1,8 +1,7 @@
 -- Laws of words and kinds.
-use Rattle.std.proofs.Common.{◌≡◌, ap, false, if◌then◌else◌, None, refl, Some}
-use Rattle.std.specs.List.{list_any}
-use Rattle.setting_rules.specs.Prelude.{is_percent, Name, plain_texts_stay}
-use Rattle.setting_rules.specs.{declared.kinds.DepKind.DepKind, declared.kinds.DepKind.TheVariants.After, declared.kinds.DepKind.TheVariants.Before, declared.kinds.DepKind.TheVariants.BindsTo, declared.kinds.DepKind.TheVariants.BoundBy, declared.kinds.DepKind.TheVariants.ConflictedBy, declared.kinds.DepKind.TheVariants.Conflicts, declared.kinds.DepKind.TheVariants.ConsistsOf, declared.kinds.DepKind.TheVariants.OnFailure, declared.kinds.DepKind.TheVariants.OnFailureOf, declared.kinds.DepKind.TheVariants.PartOf, declared.kinds.DepKind.TheVariants.PropagatesReloadTo, declared.kinds.DepKind.TheVariants.ReloadPropagatedFrom, declared.kinds.DepKind.TheVariants.RequiredBy, declared.kinds.DepKind.TheVariants.Requires, declared.kinds.DepKind.TheVariants.Requisite, declared.kinds.DepKind.TheVariants.RequisiteOf, declared.kinds.DepKind.TheVariants.WantedBy, declared.kinds.DepKind.TheVariants.Wants, Dependencies.named_by, Dependencies.named_by_text, Kinds.inverse, Kinds.is_settable, Kinds.settable_kind, Kinds.word, Rules.Text}
+use Rattle.std.proofs.Common.{if◌then◌else◌, ◌≡◌}
+use Rattle.setting_rules.specs.Prelude.{ap, false, is_percent, list_any, Name, None, plain_texts_stay, refl, Some}
+use Rattle.setting_rules.specs.{declared.kinds.DepKind.{DepKind, TheVariants.{After, Before, BindsTo, BoundBy, ConflictedBy, Conflicts, ConsistsOf, OnFailure, OnFailureOf, PartOf, PropagatesReloadTo, ReloadPropagatedFrom, RequiredBy, Requires, Requisite, RequisiteOf, WantedBy, Wants}}, Dependencies.{named_by, named_by_text}, Kinds.{inverse, is_settable, settable_kind, word}, Rules.{Text}}
 
 -- A word without a percent sign is read unchanged.
 abbrev pub PlainWordsStay : Type 0

@@ -1,8 +1,7 @@
 -- What the words in a dependency's values name.
 -- Source: systemd.unit(5), "[Unit] Section Options"; that quotes mean nothing is this project's own.
-use Rattle.std.proofs.Common.{filter, if◌then◌else◌, List, Option, Some, ℕ}
-use Rattle.std.specs.List.{slice_split}
-use Rattle.setting_rules.specs.Prelude.{has_bytes, Instance, instance, is_empty, is_white, Name, Plain, prefix, Shape, shape, Template, with_instance}
+use Rattle.std.proofs.Common.{if◌then◌else◌}
+use Rattle.setting_rules.specs.Prelude.{filter, has_bytes, Instance, instance, is_empty, is_white, List, Name, Option, Plain, prefix, Shape, shape, slice_split, Some, Template, with_instance, ℕ}
 
 -- the words of a value: the parts between its whitespace that aren't empty
 unfoldable pub words_of : List ℕ → List (List ℕ)

@@ -1,9 +1,7 @@
 -- The audit of the seats.
-use Rattle.std.proofs.Common.{[], ◌+◌, ◌<◌, ◌∙◌, ◌∷◌, ◌≡◌, ◌≢◌, ◌≤◌, ap, arith, get_or, length, List, refl, slice_get, Some, subst, suc, sym, take, zero, ℕ}
-use Rattle.std.proofs.Math.Decide.{ℕ_discrete}
-use Rattle.std.proofs.lemmas.List.Sums.{sum_by_more}
-use Rattle.std.specs.List.{sum_by}
+use Rattle.std.proofs.Common.{◌+◌, ◌<◌, ◌∷◌, ◌≡◌, ◌≢◌, ◌≤◌}
 use mathlib.Core.Logic.{dite}
+use Rattle.shared_node.proofs.Prelude.{[], ap, arith, get_or, length, List, refl, slice_get, Some, subst, suc, sum_by, sum_by_more, sym, take, zero, ℕ, ℕ_discrete, ◌∙◌}
 
 module _ {A : Type 0} where
   -- the item at a place, by both look-ups

@@ -1,9 +1,7 @@
 -- The counts of each seat's takes.
-use Rattle.std.proofs.Common.{[], ◌++◌, ◌+◌, ◌<◌, ◌==◌, ◌∙◌, ◌∷◌, ◌≡◌, ◌≢◌, ap, arith, cond, eq-eqb, get_or-set_other, get_or-set_same, length, length-set, List, refl, slice_index, slice_set, sym, ℕ}
-use Rattle.std.proofs.Math.Decide.{ℕ_discrete}
-use Rattle.std.proofs.lemmas.Bool.{ne_eqb}
+use Rattle.std.proofs.Common.{◌++◌, ◌+◌, ◌<◌, ◌==◌, ◌∷◌, ◌≡◌, ◌≢◌}
 use mathlib.Core.Logic.{dite}
-use Rattle.shared_node.proofs.Prelude.{HistoryEvent, is_take_of, takes_of, takes_of-snoc}
+use Rattle.shared_node.proofs.Prelude.{[], ap, arith, cond, eq-eqb, get_or-set_other, get_or-set_same, HistoryEvent, is_take_of, length, length-set, List, ne_eqb, refl, slice_index, slice_set, sym, takes_of, takes_of-snoc, ℕ, ℕ_discrete, ◌∙◌}
 
 pub counted : (counts : List ℕ) (h : List HistoryEvent) (x : HistoryEvent) (seat : ℕ) → ((s : ℕ) → is_take_of s x ≡ (seat == s)) → seat < length counts → ((s : ℕ) → s < length counts → slice_index counts s ≡ takes_of s h)
     → (s : ℕ) → s < length (slice_set counts seat (slice_index counts seat + 1)) → slice_index (slice_set counts seat (slice_index counts seat + 1)) s ≡ takes_of s (h ++ x ∷ [])

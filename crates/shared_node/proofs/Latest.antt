@@ -1,9 +1,8 @@
 -- The last copy, and what publishing preserves.
-use Rattle.logbook.specs.Pages.{Book}
-use Rattle.logbook.specs.declared.tokens.Seen.{Seen}
-use Rattle.std.proofs.Common.{[], ◌++◌, ◌∙◌, ◌∷◌, ◌≡◌, ap, Err, List, MatchResult, Ok, refl, Result, subst, sym, ℕ}
+use Rattle.std.proofs.Common.{◌++◌, ◌∷◌, ◌≡◌}
+use Rattle.logbook.specs.{declared.tokens.Seen.{Seen}, Pages.{Book}}
 use mathlib.Core.List.{IsPrefix}
-use Rattle.shared_node.proofs.Prelude.{HistoryEvent, latest, Law, opening_of, prefix_self, reader_view_of, ReaderView, Replicated}
+use Rattle.shared_node.proofs.Prelude.{[], ap, Err, HistoryEvent, latest, Law, List, MatchResult, Ok, opening_of, prefix_self, reader_view_of, ReaderView, refl, Replicated, Result, subst, sym, ℕ, ◌∙◌}
 
 abbrev pub History : Type 0
 History = Seen HistoryEvent ℕ Law

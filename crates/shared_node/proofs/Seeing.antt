@@ -1,12 +1,11 @@
 -- Each step preserves the invariant of the published copies.
+use Rattle.std.proofs.Common.{◌≡◌, ◌≢◌}
 use Rattle.atomic_table.proofs.Lists.{at_set, at_snoc}
 use Rattle.left_right.specs.Register.{Admits, Forks, Merges, Turns, TurnsAt}
 use Rattle.logbook.specs.Pages.{Book}
-use Rattle.std.proofs.Common.{◌∙◌, ◌≡◌, ◌≢◌, List, refl, set, subst, sym, ℕ, ⊎_elim}
 use lib.ListN.{get_elem?}
-use mathlib.Core.List.{IsPrefix}
-use mathlib.Core.Option.{some}
-use Rattle.shared_node.proofs.Prelude.{Fits, HistoryEvent, Knows, nothing, prefix_self, prefix_trans, PublishedCopy, reader_view_of, Shows, ReaderView}
+use mathlib.Core.{List.{IsPrefix}, Option.{some}}
+use Rattle.shared_node.proofs.Prelude.{Fits, HistoryEvent, Knows, List, nothing, prefix_self, prefix_trans, PublishedCopy, reader_view_of, ReaderView, refl, set, Shows, subst, sym, ℕ, ⊎_elim, ◌∙◌}
 
 abbrev holds : PublishedCopy → List ReaderView → Type 0
 holds p = Knows p.seen.book p.seen.log

@@ -1,7 +1,7 @@
 -- What the answer to a take says of its seat.
-use Rattle.std.proofs.Common.{[], ◌++◌, ◌+◌, ◌∷◌, ◌≡◌, ap, arith, Err, IfErr, IfOk, List, Ok, refl, Result, subst, sym, ℕ}
+use Rattle.std.proofs.Common.{◌++◌, ◌+◌, ◌∷◌, ◌≡◌}
 use mathlib.Core.List.{IsPrefix}
-use Rattle.shared_node.proofs.Prelude.{AtFault, calls_of, Disagree, EndsChanging, EndsWith, HistoryEvent, Memory, NodeFault, NoSeat, Pending, prefix_self, prefix_trans, Replicated, SeatNow, step_at, step_at_fault, TakesSpent, VersionsSpent}
+use Rattle.shared_node.proofs.Prelude.{[], ap, arith, AtFault, calls_of, Disagree, EndsChanging, EndsWith, Err, HistoryEvent, IfErr, IfOk, List, Memory, NodeFault, NoSeat, Ok, Pending, prefix_self, prefix_trans, refl, Replicated, Result, SeatNow, step_at, step_at_fault, subst, sym, TakesSpent, VersionsSpent, ℕ}
 
 -- a history that ends with a take extends what was seen before it
 pub goes_on : (seen before h : List HistoryEvent) (x : HistoryEvent) → IsPrefix seen before → h ≡ before ++ x ∷ [] → IsPrefix seen h

@@ -1,7 +1,7 @@
 -- What contracts see of an account: the takes, and the number of seats that it counts for.
 -- Source: this project's own.
-use Rattle.std.proofs.Common.{[], ◌++◌, ◌==◌, ◌∷◌, ◌≡◌, List, ℕ}
-use Rattle.shared_node.specs.Prelude.{HistoryEvent, is_take_of}
+use Rattle.std.proofs.Common.{◌++◌, ◌==◌, ◌∷◌, ◌≡◌}
+use Rattle.shared_node.specs.Prelude.{[], HistoryEvent, is_take_of, List, ℕ}
 
 pub record AccountNow : Type 0 where
   pub takes : List HistoryEvent

@@ -1,8 +1,7 @@
 -- Why there is no blank.
 -- Source: this project's own.
-use Rattle.std.proofs.Common.{◌<◌, ◌≡◌, ◌≤◌, ◌⊎◌, ℕ}
-use Rattle.shared_node.specs.Prelude.{Replicated}
-use Rattle.shared_node.specs.{declared.blank.BlankFault.BlankFault, declared.blank.BlankFault.TheVariants.Memory, declared.blank.BlankFault.TheVariants.Seats}
+use Rattle.std.proofs.Common.{◌<◌, ◌≡◌, ◌≤◌, ◌⊎◌}
+use Rattle.shared_node.specs.{declared.blank.BlankFault.{BlankFault, TheVariants.{Memory, Seats}}, Prelude.{Replicated, ℕ}}
 
 -- the number of seats isn't 1 to 64; or it is, and the replica is returned
 abbrev pub AtBlankFault : Replicated → ℕ → BlankFault → Type 0

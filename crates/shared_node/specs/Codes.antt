@@ -1,10 +1,8 @@
 -- Codes of what contracts see of a node's parts.
 -- Source: this project's own.
 use Rattle.logbook.specs.Pages.{Book, book_coded}
-use Rattle.std.proofs.Common.{List, refl, ℕ}
-use Rattle.std.specs.Coded.{code_by, Coded, coded_ℕ, coded×}
-use Rattle.shared_node.specs.Prelude.{coded_history, coded_replicated, HistoryEvent, Replicated}
-use Rattle.shared_node.specs.{Accounts.AccountNow, Blanks.BlankNow, Keepers.KeeperNow, Posts.PostNow, Seats.SeatNow}
+use Rattle.shared_node.specs.Prelude.{code_by, Coded, coded_history, coded_replicated, coded_ℕ, coded×, HistoryEvent, List, refl, Replicated, ℕ}
+use Rattle.shared_node.specs.{Accounts.{AccountNow}, Blanks.{BlankNow}, Keepers.{KeeperNow}, Posts.{PostNow}, Seats.{SeatNow}}
 
 abbrev pub coded_seat : Coded SeatNow
 coded_seat = code_by (List HistoryEvent × (ℕ × ℕ)) (coded× coded_history (coded× coded_ℕ coded_ℕ)) (λ s. (s.seen, (s.calls, s.number))) (λ p. record { seen = p.0; calls = p.1.0; number = p.1.1 }) (λ _. refl)

@@ -1,8 +1,8 @@
 -- What a refusal of a node leaves.
 -- Source: this project's own.
-use Rattle.std.proofs.Common.{[], ◌++◌, ◌+◌, ◌<◌, ◌∷◌, ◌≡◌, ◌≢◌, ◌≤◌, ◌⊎◌, List, None, Some, ℕ}
-use Rattle.shared_node.specs.Prelude.{Absorbed, Content, Edited, EntryMap, HistoryEvent, IsLegal, PlaceParts, Replicated, takes_in}
-use Rattle.shared_node.specs.{declared.faults.CloseCause.CloseCause, declared.faults.NodeFault.NodeFault, declared.faults.NodeFault.TheVariants.Disagree, declared.faults.NodeFault.TheVariants.Memory, declared.faults.NodeFault.TheVariants.NoSeat, declared.faults.NodeFault.TheVariants.Pending, declared.faults.NodeFault.TheVariants.TakesSpent, declared.faults.NodeFault.TheVariants.VersionsSpent, Keepers.KeeperNow, Seats.SeatNow}
+use Rattle.std.proofs.Common.{◌++◌, ◌+◌, ◌<◌, ◌∷◌, ◌≡◌, ◌≢◌, ◌≤◌, ◌⊎◌}
+use Rattle.shared_node.specs.Prelude.{[], Absorbed, Content, Edited, EntryMap, HistoryEvent, IsLegal, List, None, PlaceParts, Replicated, Some, takes_in, ℕ}
+use Rattle.shared_node.specs.{declared.faults.{CloseCause.{CloseCause}, NodeFault.{NodeFault, TheVariants.{Disagree, Memory, NoSeat, Pending, TakesSpent, VersionsSpent}}}, Keepers.{KeeperNow}, Seats.{SeatNow}}
 use Rattle.shared_node.specs.declared.faults.CloseCause.TheVariants as causes
 
 abbrev pub max : ℕ

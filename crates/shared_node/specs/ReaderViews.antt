@@ -1,12 +1,10 @@
 -- The invariant of the published copies: their history, and what each seat knows of it.
 -- Source: this project's own.
+use Rattle.std.proofs.Common.{◌≡◌}
 use Rattle.logbook.specs.Pages.{Book}
-use Rattle.std.proofs.Common.{[], ◌≡◌, false, fold, List, None, Option, Some, true, ℕ}
 use lib.ListN.{get_elem?}
-use mathlib.Core.List.{IsPrefix}
-use mathlib.Core.Option.{some}
-use Rattle.shared_node.specs.Prelude.{HistoryEvent}
-use Rattle.shared_node.specs.declared.reader_view.ReaderView.{ReaderView}
+use mathlib.Core.{List.{IsPrefix}, Option.{some}}
+use Rattle.shared_node.specs.{declared.reader_view.ReaderView.{ReaderView}, Prelude.{[], false, fold, HistoryEvent, List, None, Option, Some, true, ℕ}}
 
 abbrev pub nothing : ReaderView
 nothing = record { known = false; number = 0; log_name = 0; cells_name = 0; seen = [] }

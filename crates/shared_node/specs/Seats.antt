@@ -1,8 +1,8 @@
 -- What contracts see of a seat.
 -- Source: this project's own.
-use Rattle.std.proofs.Common.{◌+◌, ◌≡◌, List, slice_get, Some, ℕ}
+use Rattle.std.proofs.Common.{◌+◌, ◌≡◌}
 use mathlib.Core.List.{IsPrefix}
-use Rattle.shared_node.specs.Prelude.{HistoryEvent, takes_of}
+use Rattle.shared_node.specs.Prelude.{HistoryEvent, List, slice_get, Some, takes_of, ℕ}
 
 -- what it has seen of the node's history, how many takes it made, and its number at the node
 pub record SeatNow : Type 0 where

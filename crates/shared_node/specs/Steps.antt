@@ -1,7 +1,6 @@
 -- Which messages of a service count as a take of its seat.
 -- Source: this project's own.
-use Rattle.std.proofs.Common.{Err, None, Ok, Option, Result, Some, ℕ}
-use Rattle.shared_node.specs.{declared.faults.NodeFault.NodeFault, declared.serving.Step.Step, declared.serving.Step.TheVariants.Answered, declared.serving.Step.TheVariants.Pending, declared.serving.Step.TheVariants.Refused}
+use Rattle.shared_node.specs.{declared.{faults.NodeFault.{NodeFault}, serving.Step.{Step, TheVariants.{Answered, Pending, Refused}}}, Prelude.{Err, None, Ok, Option, Result, Some, ℕ}}
 use Rattle.shared_node.specs.declared.faults.NodeFault.TheVariants as faults
 
 -- how many takes a message counts

@@ -1,13 +1,6 @@
 -- What an edit at an index does to sorted pairs.
-use Rattle.std.proofs.Common.{[], ◌++◌, ◌<◌, ◌∙◌, ◌∷◌, ◌≡◌, ◌≤◌, ap, arith, cond, false, get_or, IsTrue, length, List, None, refl, set, Some, suc, sym, take, zero, ℕ}
-use Rattle.std.proofs.lemmas.Bool.{and_parts}
-use Rattle.std.specs.Cmp.{IsTotalOrder}
-use Rattle.std.specs.FinMap.Entries.{below_all, by_order, find, is_sorted, put}
-use Rattle.std.specs.List.{insert}
-use Rattle.std.specs.Ordering.{is_eq, is_lt}
-use Rattle.std.specs.declared.cmp.Ordering.{Ordering}
-use Rattle.std.specs.declared.cmp.Ordering.TheVariants.{Less}
-use Rattle.sorted_pairs.specs.Prelude.{is_less, turned}
+use Rattle.std.proofs.Common.{◌++◌, ◌<◌, ◌∷◌, ◌≡◌, ◌≤◌}
+use Rattle.sorted_pairs.specs.Prelude.{[], and_parts, ap, arith, below_all, by_order, cond, false, find, get_or, insert, is_eq, is_less, is_lt, is_sorted, IsTotalOrder, IsTrue, length, Less, List, None, Ordering, put, refl, set, Some, suc, sym, take, turned, zero, ℕ, ◌∙◌}
 use Rattle.sorted_pairs.specs.Places.{AreBelow, IsAt, IsGap, IsNotBelow}
 
 module _ {K V : Type 0} (R : K → K → Ordering) (k : K) where

@@ -1,8 +1,7 @@
 -- Positions of a key among pairs sorted by key.
 -- Source: this project's own.
-use Rattle.std.proofs.Common.{[], ◌∷◌, ◌≡◌, ◌≢◌, List, suc, zero, ℕ}
-use Rattle.std.specs.declared.cmp.Ordering.{Ordering}
-use Rattle.std.specs.declared.cmp.Ordering.TheVariants.{Equal, Greater, Less}
+use Rattle.std.proofs.Common.{◌∷◌, ◌≡◌, ◌≢◌}
+use Rattle.sorted_pairs.specs.Prelude.{[], Equal, Greater, Less, List, Ordering, suc, zero, ℕ}
 
 module _ {K V : Type 0} (R : K → K → Ordering) (k : K) where
   -- the key is at index i, after lesser keys

@@ -1,13 +1,6 @@
 -- Results of a binary search among sorted pairs.
-use Rattle.std.proofs.Common.{[], ◌++◌, ◌<◌, ◌∷◌, ◌≡◌, ◌≤◌, arith, Err, get_or, IfErr, IfOk, IsTrue, length, List, Ok, Result, subst, suc, sym, zero, ℕ}
-use Rattle.std.proofs.lemmas.Bool.{and_parts}
-use Rattle.std.specs.Cmp.{IsTotalOrder}
-use Rattle.std.specs.FinMap.Entries.{below_all, is_sorted}
-use Rattle.std.specs.List.{AllWithin}
-use Rattle.std.specs.List.Sorted.{IsBinarySearchResult, IsSearchInRange}
-use Rattle.std.specs.declared.cmp.Ordering.{Ordering}
-use Rattle.std.specs.declared.cmp.Ordering.TheVariants.{Equal, Greater, Less}
-use Rattle.sorted_pairs.specs.Prelude.{above_lesser, below_at, comparisons_ascend, is_less, turned}
+use Rattle.std.proofs.Common.{◌++◌, ◌<◌, ◌∷◌, ◌≡◌, ◌≤◌}
+use Rattle.sorted_pairs.specs.Prelude.{[], above_lesser, AllWithin, and_parts, arith, below_all, below_at, comparisons_ascend, Equal, Err, get_or, Greater, IfErr, IfOk, is_less, is_sorted, IsBinarySearchResult, IsSearchInRange, IsTotalOrder, IsTrue, length, Less, List, Ok, Ordering, Result, subst, suc, sym, turned, zero, ℕ}
 use Rattle.sorted_pairs.specs.Places.{IsAt, IsGap}
 
 module _ {K V : Type 0} (R : K → K → Ordering) (o : IsTotalOrder R) (k : K) where

@@ -1,14 +1,6 @@
 -- The least of the nodes that can start, and what is left when it is removed.
-use Rattle.std.proofs.Common.{[], ◌++◌, ◌<◌, ◌↔◌, ◌∙◌, ◌∷◌, ◌≡◌, ◌≤◌, All, arith, drop, false, get_or, inl, inr, length, List, MatchOption, min, None, Option, refl, slice_get, Some, subst, sym, ℕ}
-use Rattle.std.proofs.lemmas.Bool.{cases_lt}
-use Rattle.std.specs.BTreeMap.Range.{IsLeBy}
-use Rattle.std.specs.Cmp.{nat_cmp_is}
-use Rattle.std.specs.List.{AllByRecursion}
-use Rattle.std.specs.Ordering.{is_gt, nat_cmp}
-use Rattle.std.specs.declared.cmp.Ordering.{Ordering}
-use Rattle.std.specs.declared.cmp.Ordering.TheVariants.{Greater, Less}
-use Rattle.start_order.proofs.Prelude.{All-among, cmp_below, IsAmong, IsAmong-append_cases, IsAmong-append_left, IsAmong-append_right, IsLeastIn, lesser_of}
-use Rattle.std.specs.List.Sorted.{IsStrictlySortedBy}
+use Rattle.std.proofs.Common.{◌++◌, ◌<◌, ◌↔◌, ◌∷◌, ◌≡◌, ◌≤◌}
+use Rattle.start_order.proofs.Prelude.{[], All, All-among, AllByRecursion, arith, cases_lt, cmp_below, drop, false, get_or, Greater, inl, inr, is_gt, IsAmong, IsAmong-append_cases, IsAmong-append_left, IsAmong-append_right, IsLeastIn, IsLeBy, IsStrictlySortedBy, length, Less, lesser_of, List, MatchOption, min, nat_cmp, nat_cmp_is, None, Option, Ordering, refl, slice_get, Some, subst, sym, ℕ, ◌∙◌}
 
 above_all : (x v : ℕ) (xs : List ℕ) → AllByRecursion (λ y. nat_cmp x y ≡ Less) xs → IsAmong v xs → x < v
 above_all x v [] a h = absurd h

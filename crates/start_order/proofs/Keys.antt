@@ -1,12 +1,6 @@
 -- Keys that are inserted and removed.
-use Rattle.std.proofs.Common.{[], ◌<◌, ◌↔◌, ◌∷◌, ◌≡◌, ◌≤◌, ◌⊎◌, All, arith, inl, inr, IsSome, length, List, MatchOption, None, Option, refl, Some, subst, sym, ℕ}
-use Rattle.std.specs.BTreeMap.Range.{IsLtBy}
-use Rattle.std.specs.BTreeSet.{insert_key}
-use Rattle.std.specs.FinMap.{nat_cmp-IsAntisymmetric}
-use Rattle.std.specs.Option.{IfNone}
-use Rattle.std.specs.Ordering.{nat_cmp}
-use Rattle.std.specs.Prelude.{IfSome}
-use Rattle.start_order.proofs.Prelude.{All-among, cmp_below, IsAmong, put_kept, put_sound, put_there}
+use Rattle.std.proofs.Common.{◌<◌, ◌↔◌, ◌∷◌, ◌≡◌, ◌≤◌, ◌⊎◌}
+use Rattle.start_order.proofs.Prelude.{[], All, All-among, arith, cmp_below, IfNone, IfSome, inl, inr, insert_key, IsAmong, IsLtBy, IsSome, length, List, MatchOption, nat_cmp, nat_cmp-IsAntisymmetric, None, Option, put_kept, put_sound, put_there, refl, Some, subst, sym, ℕ}
 
 -- a key is inserted
 pub IsAmong-insert_key : (ks : List ℕ) (k v : ℕ) → IsAmong v (insert_key nat_cmp ks k) ↔ (IsAmong v ks ⊎ (k ≡ v))

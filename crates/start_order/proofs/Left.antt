@@ -1,9 +1,6 @@
 -- The chosen nodes that a start list leaves over are the stuck ones.
-use Rattle.std.proofs.Common.{[], ◌↔◌, ◌∷◌, ◌≡◌, ◌⊎◌, Bool, false, inl, inr, List, map, refl, subst, suc, sym, true, zero, ℕ}
-use Rattle.std.specs.Ordering.{nat_cmp}
-use Rattle.std.specs.declared.alloc.Global.{Global}
-use Rattle.std.specs.declared.vec.Vec.{Vec}
-use Rattle.start_order.proofs.Prelude.{among_mapped, IsAmong, IsMember, IsStartList, IsStuck, mapped_from, member_or_not, neighbors, Precedes, stuck_chosen, stuck_out}
+use Rattle.std.proofs.Common.{◌↔◌, ◌∷◌, ◌≡◌, ◌⊎◌}
+use Rattle.start_order.proofs.Prelude.{[], among_mapped, Bool, false, Global, inl, inr, IsAmong, IsMember, IsStartList, IsStuck, List, map, mapped_from, member_or_not, nat_cmp, neighbors, Precedes, refl, stuck_chosen, stuck_out, subst, suc, sym, true, Vec, zero, ℕ}
 
 -- the members of a set
 nodes_of : List Bool → List ℕ

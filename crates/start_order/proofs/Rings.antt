@@ -1,8 +1,6 @@
 -- The walk from the least stuck node, and the ring that it ends in.
-use Rattle.std.proofs.Common.{[], ◌++◌, ◌+◌, ◌<◌, ◌↔◌, ◌∙◌, ◌∷◌, ◌≡◌, ◌≤◌, ap, append-nil, append_assoc, arith, Bool, drop, get_or, inl, inr, length, List, refl, reverse, set, subst, sym, take, true, ℕ}
-use Rattle.std.proofs.lemmas.List.{drop_more, get_or_default, reverse-append, take-append-drop}
-use Rattle.std.specs.Ordering.{nat_cmp}
-use Rattle.start_order.proofs.Prelude.{AreDistinct, below_cmp, contains_from_among, IsAmong, IsAmong-append_cases, IsAmong-append_left, IsAmong-append_right, IsAmong-push, IsAmong-push_cases, IsBlockedAlong, IsBlocker, IsCycle, IsLeast, IsMember, IsMember-set, IsMember-set_other, IsMember-set_same, IsReached, IsWalk, LeadsBack, LeadsTo, reached_closed}
+use Rattle.std.proofs.Common.{◌++◌, ◌+◌, ◌<◌, ◌↔◌, ◌∷◌, ◌≡◌, ◌≤◌}
+use Rattle.start_order.proofs.Prelude.{[], ap, append-nil, append_assoc, AreDistinct, arith, below_cmp, Bool, contains_from_among, drop, drop_more, get_or, get_or_default, inl, inr, IsAmong, IsAmong-append_cases, IsAmong-append_left, IsAmong-append_right, IsAmong-push, IsAmong-push_cases, IsBlockedAlong, IsBlocker, IsCycle, IsLeast, IsMember, IsMember-set, IsMember-set_other, IsMember-set_same, IsReached, IsWalk, LeadsBack, LeadsTo, length, List, nat_cmp, reached_closed, refl, reverse, reverse-append, set, subst, sym, take, take-append-drop, true, ℕ, ◌∙◌}
 
 -- a set that agrees with a list still does when a node is added to both
 pub agree_push : (bits : List Bool) (list : List ℕ) (u : ℕ) → u < length bits → ((v : ℕ) → IsMember bits v ↔ IsAmong v list) → (v : ℕ) → IsMember (set bits u true) v ↔ IsAmong v (list ++ u ∷ [])

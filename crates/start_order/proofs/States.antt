@@ -1,11 +1,7 @@
 -- How far the start list has come.
-use Rattle.std.proofs.Common.{[], ◌++◌, ◌<◌, ◌↔◌, ◌∙◌, ◌∷◌, ◌≡◌, ◌≤◌, ◌⊎◌, ap, arith, Bool, false, get_or, inl, inr, length, length-set, List, refl, replicate, set, subst, sym, true, ℕ}
-use Rattle.std.proofs.lemmas.List.{length-replicate}
-use Rattle.std.specs.Ordering.{nat_cmp}
-use Rattle.std.specs.declared.alloc.Global.{Global}
-use Rattle.std.specs.declared.vec.Vec.{Vec}
-use Rattle.start_order.proofs.Prelude.{can_start_along, CanStart, cmp_below, IsAmong, IsLeast, IsLowered, IsMember, IsMember-none, IsMember-set, IsMember-set_other, IsMember-set_same, IsMember-within, IsStartList, Listed, neighbors, Precedes, times, times-in, times_cases, waiting}
-use Rattle.start_order.proofs.{Rings.agree_push, Waiting.counted_all, Waiting.waiting-none, Waiting.waiting-ready, Waiting.waiting-set}
+use Rattle.std.proofs.Common.{◌++◌, ◌<◌, ◌↔◌, ◌∷◌, ◌≡◌, ◌≤◌, ◌⊎◌}
+use Rattle.start_order.proofs.Prelude.{[], ap, arith, Bool, can_start_along, CanStart, cmp_below, false, get_or, Global, inl, inr, IsAmong, IsLeast, IsLowered, IsMember, IsMember-none, IsMember-set, IsMember-set_other, IsMember-set_same, IsMember-within, IsStartList, length, length-replicate, length-set, List, Listed, nat_cmp, neighbors, Precedes, refl, replicate, set, subst, sym, times, times-in, times_cases, true, Vec, waiting, ℕ, ◌∙◌}
+use Rattle.start_order.proofs.{Rings.{agree_push}, Waiting.{counted_all, waiting-none, waiting-ready, waiting-set}}
 
 -- where a list that grew by one is split
 record IsPushedCut (list : List ℕ) (x : ℕ) (prefix : List ℕ) (u : ℕ) (rest : List ℕ) : Type 0 where

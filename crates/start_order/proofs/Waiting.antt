@@ -1,10 +1,6 @@
 -- How many chosen nodes each node still waits for.
-use Rattle.std.proofs.Common.{[], ◌&&◌, ◌++◌, ◌+◌, ◌<◌, ◌↔◌, ◌∙◌, ◌∷◌, ◌≡◌, ◌≤◌, ◌⊎◌, ap, arith, Bool, cond, eqb, false, get_or, get_or-set_other, get_or-set_same, inl, inr, length, length-set, List, not, refl, set, subst, suc, sym, take, true, ℕ}
-use Rattle.std.proofs.lemmas.Bool.{cases_eq, cases_lt, eq-eqb, ne_eqb}
-use Rattle.std.proofs.lemmas.List.{get_or_past, take_more}
-use Rattle.std.specs.declared.alloc.Global.{Global}
-use Rattle.std.specs.declared.vec.Vec.{Vec}
-use Rattle.start_order.proofs.Prelude.{count-push, IsAmong, IsAmong-append_left, IsAmong-push, IsAmong-push_cases, IsLowered, IsMember, IsMember-set_same, neighbors, neighbors-past, times, times-push_other, times-push_same, waiting, waits}
+use Rattle.std.proofs.Common.{◌&&◌, ◌++◌, ◌+◌, ◌<◌, ◌↔◌, ◌∷◌, ◌≡◌, ◌≤◌, ◌⊎◌}
+use Rattle.start_order.proofs.Prelude.{[], ap, arith, Bool, cases_eq, cases_lt, cond, count-push, eq-eqb, eqb, false, get_or, get_or-set_other, get_or-set_same, get_or_past, Global, inl, inr, IsAmong, IsAmong-append_left, IsAmong-push, IsAmong-push_cases, IsLowered, IsMember, IsMember-set_same, length, length-set, List, ne_eqb, neighbors, neighbors-past, not, refl, set, subst, suc, sym, take, take_more, times, times-push_other, times-push_same, true, Vec, waiting, waits, ℕ, ◌∙◌}
 
 -- ---- what waits
 

@@ -1,7 +1,6 @@
 -- How many chosen nodes each node still waits for. Only private clauses cite these.
-use Rattle.std.proofs.Common.{[], ◌&&◌, ◌+◌, ◌↔◌, ◌∷◌, ◌≡◌, ◌≤◌, ◌⊎◌, Bool, cond, false, length, List, not, slice_index, suc, ℕ}
-use Rattle.std.specs.Prelude.{slice_index_or}
-use Rattle.start_order.specs.Prelude.{IsAmong, IsMember, times}
+use Rattle.std.proofs.Common.{◌&&◌, ◌+◌, ◌↔◌, ◌∷◌, ◌≡◌, ◌≤◌, ◌⊎◌}
+use Rattle.start_order.specs.Prelude.{[], Bool, cond, false, IsAmong, IsMember, length, List, not, slice_index, slice_index_or, suc, times, ℕ}
 
 -- the node is chosen and isn't started yet
 abbrev pub waits : List Bool → List Bool → ℕ → Bool

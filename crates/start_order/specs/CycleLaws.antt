@@ -1,12 +1,7 @@
 -- There is one cycle.
-use Rattle.std.proofs.Common.{[], ◌++◌, ◌∙◌, ◌∷◌, ◌≡◌, ◌≤◌, ◌⊎◌, ap, append_assoc, arith, inl, inr, List, refl, subst, suc, sym, zero, ℕ}
-use Rattle.std.proofs.lemmas.Cmp.{tied_itself}
-use Rattle.std.specs.Cmp.{IsTotalOrder}
-use Rattle.std.specs.FinMap.{IsAntisymmetric}
-use Rattle.std.specs.declared.cmp.Ordering.{Ordering}
-use Rattle.std.specs.declared.cmp.Ordering.TheVariants.{Less}
-use Rattle.start_order.specs.Prelude.{IsAmong, IsAmong-append_cases, IsChain, IsLeast, IsReached}
-use Rattle.start_order.specs.{OrderLaws.least_along, OrderLaws.one_least, OrderLaws.same_unless_less, StartOrder.IsBlockedAlong, StartOrder.IsBlocker, StartOrder.IsCycle, StartOrder.IsRing}
+use Rattle.std.proofs.Common.{◌++◌, ◌∷◌, ◌≡◌, ◌≤◌, ◌⊎◌}
+use Rattle.start_order.specs.Prelude.{[], ap, append_assoc, arith, inl, inr, IsAmong, IsAmong-append_cases, IsAntisymmetric, IsChain, IsLeast, IsReached, IsTotalOrder, Less, List, Ordering, refl, subst, suc, sym, tied_itself, zero, ℕ, ◌∙◌}
+use Rattle.start_order.specs.{OrderLaws.{least_along, one_least, same_unless_less}, StartOrder.{IsBlockedAlong, IsBlocker, IsCycle, IsRing}}
 
 module _ {N : Type 0} (order : N → N → Ordering) (stuck : N → Type 0) (before : N → N → Type 0) where
   abbrev successors : N → N → Type 0

@@ -1,10 +1,6 @@
 -- Start lists, stuck nodes and cycles are carried from indices to names, and back.
-use Rattle.std.proofs.Common.{[], ◌++◌, ◌<◌, ◌∙◌, ◌∷◌, ◌≡◌, ap, inl, inr, List, map, refl, subst, sym, ℕ}
-use Rattle.std.specs.Cmp.{IsTotalOrder}
-use Rattle.std.specs.Ordering.{nat_cmp}
-use Rattle.std.specs.declared.cmp.Ordering.{Ordering}
-use Rattle.std.specs.declared.cmp.Ordering.TheVariants.{Less}
-use Rattle.start_order.specs.Prelude.{among_mapped, AreNamedSuccessors, AreNames, index_of, IsAmong, IsAmong-append_left, IsIndexing, IsLeast, IsReached, Listed, listed_names, mapped_from, names_compare, one_index, reached_named}
+use Rattle.std.proofs.Common.{◌++◌, ◌<◌, ◌∷◌, ◌≡◌}
+use Rattle.start_order.specs.Prelude.{[], among_mapped, ap, AreNamedSuccessors, AreNames, index_of, inl, inr, IsAmong, IsAmong-append_left, IsIndexing, IsLeast, IsReached, IsTotalOrder, Less, List, Listed, listed_names, map, mapped_from, names_compare, nat_cmp, one_index, Ordering, reached_named, refl, subst, sym, ℕ, ◌∙◌}
 use Rattle.start_order.specs.StartOrder.{CanStart, IsBlockedAlong, IsBlocker, IsCycle, IsKnot, IsStartList, IsStuck}
 
 -- a list of indices that is split where the list of their names is

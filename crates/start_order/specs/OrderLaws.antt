@@ -1,10 +1,6 @@
 -- There is one least node, and one start list; stuck nodes aren't in it.
-use Rattle.std.proofs.Common.{[], ◌++◌, ◌∙◌, ◌∷◌, ◌≡◌, ap, append-nil, append_assoc, inl, inr, List, refl, subst, sym}
-use Rattle.std.specs.Cmp.{IsTotalOrder}
-use Rattle.std.specs.FinMap.{IsAntisymmetric}
-use Rattle.std.specs.declared.cmp.Ordering.{Ordering}
-use Rattle.std.specs.declared.cmp.Ordering.TheVariants.{Equal, Greater, Less}
-use Rattle.start_order.specs.Prelude.{IsAmong, IsAmong-append_cases, IsLeast, Listed, turned}
+use Rattle.std.proofs.Common.{◌++◌, ◌∷◌, ◌≡◌}
+use Rattle.start_order.specs.Prelude.{[], ap, append-nil, append_assoc, Equal, Greater, inl, inr, IsAmong, IsAmong-append_cases, IsAntisymmetric, IsLeast, IsTotalOrder, Less, List, Listed, Ordering, refl, subst, sym, turned, ◌∙◌}
 use Rattle.start_order.specs.StartOrder.{CanStart, IsKnot, IsStartList, IsStuck}
 
 module _ {N : Type 0} (order : N → N → Ordering) (total : IsTotalOrder order) (exact : IsAntisymmetric order) where

@@ -2,10 +2,8 @@
 -- names.
 -- Source: systemd.unit(5), "Before=, After="; that the least node comes first, and which cycle is reported, is this
 -- project's own.
-use Rattle.std.proofs.Common.{[], ◌++◌, ◌∷◌, ◌≡◌, List}
-use Rattle.std.specs.declared.cmp.Ordering.{Ordering}
-use Rattle.std.specs.declared.cmp.Ordering.TheVariants.{Less}
-use Rattle.start_order.specs.Prelude.{IsAmong, IsLeast, IsReached, Listed}
+use Rattle.std.proofs.Common.{◌++◌, ◌∷◌, ◌≡◌}
+use Rattle.start_order.specs.Prelude.{[], IsAmong, IsLeast, IsReached, Less, List, Listed, Ordering}
 
 module _ {N : Type 0} (chosen : N → Type 0) (before : N → N → Type 0) where
   -- u can start once the nodes of `standing` are started: it is chosen, isn't started, and each chosen node before it

@@ -1,8 +1,6 @@
 -- The walk from the least stuck node, from each node to its blocker. Only private clauses cite these.
-use Rattle.std.proofs.Common.{[], ◌∷◌, ◌≡◌, ◌⊎◌, List, ℕ}
-use Rattle.std.specs.Ordering.{nat_cmp}
-use Rattle.start_order.specs.Prelude.{IsAmong, IsLeast, IsReached}
-use Rattle.start_order.specs.StartOrder.{IsBlocker}
+use Rattle.std.proofs.Common.{◌∷◌, ◌≡◌, ◌⊎◌}
+use Rattle.start_order.specs.{Prelude.{[], IsAmong, IsLeast, IsReached, List, nat_cmp, ℕ}, StartOrder.{IsBlocker}}
 
 -- no two members of the list are equal
 abbrev pub AreDistinct : List ℕ → Type 0

@@ -1,11 +1,8 @@
 -- Plans and refusals over indices, given by name.
-use Rattle.std.proofs.Common.{[], ◌++◌, ◌<◌, ◌∙◌, ◌∷◌, ◌≡◌, All, ap, get_or, inl, inr, List, refl, subst, suc, sym, zero, ℕ}
-use Rattle.std.proofs.lemmas.List.Elements.{Contains-get_or}
-use Rattle.std.specs.Cmp.Lexicographic.{nat_list_cmp_total}
-use Rattle.std.specs.Ordering.{nat_cmp}
-use Rattle.start_plan.proofs.Prelude.{among_from_contains, AreNames, AsksTemplate, Bad, Case, case_of, Conflict, conflict, count_of, Cycle, cycle, DepKind, EdgeMap, is_loaded, IsAmong, IsBlockedAlong, IsChain, IsCycle, IsFault, IsFaultOf, IsIndexing, IsKnown, IsNamedCase, IsNeeded, IsPlan, IsRefusal, IsRefusalOf, IsReturnable, IsReturnedBy, IsStoppedByConflict, IsUnitIn, Listed, LoadMap, manual_start, ManualStart, Masked, Memory, Name, name_at, name_cmp, Named, named_by, named_refusal, names_in, need_fault, needing, NotFound, Precedes, reached_named, Refusal, refusal_is_named, Request, requisite, Starts, starts_named, status_in, stuck_chosen, TakesAlong, target_fault, Template, unit_in, WaitsForever, Why}
-use Rattle.start_plan.specs.declared.requests.Refusal.TheVariants.{Requisite}
+use Rattle.std.proofs.Common.{◌++◌, ◌<◌, ◌∷◌, ◌≡◌}
+use Rattle.start_plan.proofs.Prelude.{[], All, among_from_contains, ap, AreNames, AsksTemplate, Bad, Case, case_of, Conflict, conflict, Contains-get_or, count_of, Cycle, cycle, DepKind, EdgeMap, get_or, inl, inr, is_loaded, IsAmong, IsBlockedAlong, IsChain, IsCycle, IsFault, IsFaultOf, IsIndexing, IsKnown, IsNamedCase, IsNeeded, IsPlan, IsRefusal, IsRefusalOf, IsReturnable, IsReturnedBy, IsStoppedByConflict, IsUnitIn, List, Listed, LoadMap, manual_start, ManualStart, Masked, Memory, Name, name_at, name_cmp, Named, named_by, named_refusal, names_in, nat_cmp, nat_list_cmp_total, need_fault, needing, NotFound, Precedes, reached_named, refl, Refusal, refusal_is_named, Request, requisite, Starts, starts_named, status_in, stuck_chosen, subst, suc, sym, TakesAlong, target_fault, Template, unit_in, WaitsForever, Why, zero, ℕ, ◌∙◌}
 use Rattle.start_plan.proofs.Casing.{main_is}
+use Rattle.start_plan.specs.declared.requests.Refusal.TheVariants.{Requisite}
 
 -- what holds of all members of a list holds at each position
 all_from : {X : Type 0} (P : X → Type 0) (xs : List X) → ((x : X) → IsAmong x xs → P x) → All P xs

@@ -1,8 +1,6 @@
 -- Sets of units.
-use Rattle.std.proofs.Common.{[], ◌++◌, ◌<◌, ◌↔◌, ◌∙◌, ◌∷◌, ◌≡◌, ◌⊎◌, ap, arith, Bool, false, get_or, inl, inr, IsTrue, length, List, None, Option, refl, set, Some, subst, sym, true, ℕ}
-use Rattle.std.specs.Cmp.Lexicographic.{nat_list_cmp_total}
-use Rattle.std.specs.FinMap.Entries.{is_sorted}
-use Rattle.start_plan.proofs.Prelude.{AreBitsBy, AreNames, count_of, IsAmong, IsAmong-append_left, IsAmong-append_right, IsAmong-push_cases, IsIndexFor, IsKnown, IsMember, IsMember-set, IsMember-set_other, IsMember-set_same, IsMember-within, load_indexing, LoadedUnit, LoadMap, Name, name_at, name_cmp, NameLoad, one_index, unit_at, unit_in, unit_index, unit_part}
+use Rattle.std.proofs.Common.{◌++◌, ◌<◌, ◌↔◌, ◌∷◌, ◌≡◌, ◌⊎◌}
+use Rattle.start_plan.proofs.Prelude.{[], ap, AreBitsBy, AreNames, arith, Bool, count_of, false, get_or, inl, inr, is_sorted, IsAmong, IsAmong-append_left, IsAmong-append_right, IsAmong-push_cases, IsIndexFor, IsKnown, IsMember, IsMember-set, IsMember-set_other, IsMember-set_same, IsMember-within, IsTrue, length, List, load_indexing, LoadedUnit, LoadMap, Name, name_at, name_cmp, NameLoad, nat_list_cmp_total, None, one_index, Option, refl, set, Some, subst, sym, true, unit_at, unit_in, unit_index, unit_part, ℕ, ◌∙◌}
 
 -- what is loaded at a position is the unit of its name
 module _ (load : LoadMap) (es : List (Name × NameLoad)) (same : es ≡ load.names) (sorted : IsTrue (is_sorted name_cmp es)) where

@@ -1,8 +1,6 @@
 -- The case of a request, by index and by name.
-use Rattle.std.proofs.Common.{◌<◌, ◌↔◌, ◌∙◌, ◌≡◌, ap, Bool, inl, inr, IsTrue, List, map, refl, subst, sym, unwrap_or, ℕ}
-use Rattle.std.specs.Cmp.Lexicographic.{nat_list_cmp_total}
-use Rattle.std.specs.List.{list_any}
-use Rattle.start_plan.proofs.Prelude.{among_mapped, any-from_IsAmong, AreNamedSuccessors, AreNames, AreOpposite, AsksTemplate, count_of, DepKind, EdgeMap, edges_of, GraphMap, HasInverses, index_of, inverse, is_same, IsAmong, IsAmong-from_any, IsIndexFor, IsIndexing, IsKnown, IsMember, IsOfGraph, LeadsBy, Listed, LoadMap, main_of, mapped_from, Name, name_at, name_cmp, Named, named_by, names_all, names_along, names_in, opposite_from, Request, ResolvesTo, unit_index}
+use Rattle.std.proofs.Common.{◌<◌, ◌↔◌, ◌≡◌}
+use Rattle.start_plan.proofs.Prelude.{among_mapped, any-from_IsAmong, ap, AreNamedSuccessors, AreNames, AreOpposite, AsksTemplate, Bool, count_of, DepKind, EdgeMap, edges_of, GraphMap, HasInverses, index_of, inl, inr, inverse, is_same, IsAmong, IsAmong-from_any, IsIndexFor, IsIndexing, IsKnown, IsMember, IsOfGraph, IsTrue, LeadsBy, List, list_any, Listed, LoadMap, main_of, map, mapped_from, Name, name_at, name_cmp, Named, named_by, names_all, names_along, names_in, nat_list_cmp_total, opposite_from, refl, Request, ResolvesTo, subst, sym, unit_index, unwrap_or, ℕ, ◌∙◌}
 
 -- where no name is a template, each resolves to a unit
 module _ (load : LoadMap) (request : Request) (names : IsOfGraph load request) (whole : ¬ AsksTemplate request) where

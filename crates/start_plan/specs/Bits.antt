@@ -1,8 +1,7 @@
 -- Bit sets by a test on units: words for private clauses.
 -- Source: this project's own.
-use Rattle.std.proofs.Common.{◌<◌, ◌≡◌, Bool, length, List, Option, ℕ}
-use Rattle.std.specs.Prelude.{slice_index_or}
-use Rattle.start_plan.specs.Prelude.{count_of, LoadedUnit, LoadMap, name_at, unit_in}
+use Rattle.std.proofs.Common.{◌<◌, ◌≡◌}
+use Rattle.start_plan.specs.Prelude.{Bool, count_of, length, List, LoadedUnit, LoadMap, name_at, Option, slice_index_or, unit_in, ℕ}
 
 -- a bit for each name: what the test says of its unit
 pub record AreBitsBy (load : LoadMap) (test : Option LoadedUnit → Bool) (bits : List Bool) : Type 0 where

@@ -1,9 +1,6 @@
 -- The answer to a request, by the indices of its units: words for private clauses.
 -- Source: this project's own.
-use Rattle.std.proofs.Common.{List, ℕ}
-use Rattle.std.specs.Ordering.{nat_cmp}
-use Rattle.start_plan.specs.Prelude.{Case, count_of, EdgeMap, IsNamedCase, IsPlan, IsRefusal, LoadMap, name_at, Why}
-use Rattle.start_plan.specs.{declared.requests.Request.Request, Requests.case_of}
+use Rattle.start_plan.specs.{declared.requests.Request.{Request}, Prelude.{Case, count_of, EdgeMap, IsNamedCase, IsPlan, IsRefusal, List, LoadMap, name_at, nat_cmp, Why, ℕ}, Requests.{case_of}}
 
 module _ (load : LoadMap) (edges : EdgeMap) (request : Request) where
   -- the plan of a case whose indices stand for the request's names

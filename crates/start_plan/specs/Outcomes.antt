@@ -1,8 +1,8 @@
 -- The answer to a request: the plan, or the refusal whose cause is the first that holds.
 -- Source: this project's own.
-use Rattle.std.proofs.Common.{◌≡◌, ◌⊎◌, Some}
-use Rattle.start_plan.specs.Prelude.{Cause, conflict, cycle, EdgeMap, IsPlan, IsRefusal, LoadMap, manual_start, Name, name_cmp, need_fault, requisite, status_in, target_fault, Why}
-use Rattle.start_plan.specs.{declared.requests.Plan.Plan, declared.requests.Refusal.Refusal, declared.requests.Refusal.TheVariants.Bad, declared.requests.Refusal.TheVariants.Conflict, declared.requests.Refusal.TheVariants.Cycle, declared.requests.Refusal.TheVariants.ManualStart, declared.requests.Refusal.TheVariants.Masked, declared.requests.Refusal.TheVariants.Memory, declared.requests.Refusal.TheVariants.NotFound, declared.requests.Refusal.TheVariants.Requisite, declared.requests.Refusal.TheVariants.Template, declared.requests.Request.Request, Requests.AsksTemplate, Requests.case_of}
+use Rattle.std.proofs.Common.{◌≡◌, ◌⊎◌}
+use Rattle.start_plan.specs.Prelude.{Cause, conflict, cycle, EdgeMap, IsPlan, IsRefusal, LoadMap, manual_start, Name, name_cmp, need_fault, requisite, Some, status_in, target_fault, Why}
+use Rattle.start_plan.specs.{declared.requests.{Plan.{Plan}, Refusal.{Refusal, TheVariants.{Bad, Conflict, Cycle, ManualStart, Masked, Memory, NotFound, Requisite, Template}}, Request.{Request}}, Requests.{AsksTemplate, case_of}}
 use Rattle.unit_loads.specs.declared.units.Status.TheVariants as status
 
 module _ (load : LoadMap) (edges : EdgeMap) (request : Request) where

@@ -1,10 +1,8 @@
 -- Laws of plans: a request has one answer, which the load alone determines, and a plan keeps its promises.
-use Rattle.std.proofs.Common.{[], ◌∙◌, ◌∷◌, ◌≡◌, ◌≢◌, ◌⊎◌, ap, inl, inr, List, map, None, Option, refl, Some, sym}
-use Rattle.std.specs.Cmp.Lexicographic.{nat_list_cmp_total}
-use Rattle.std.specs.List.{flat_map, list_any}
+use Rattle.std.proofs.Common.{◌∷◌, ◌≡◌, ◌≢◌, ◌⊎◌}
 use mathlib.Core.Path.{fun_ext}
-use Rattle.start_plan.specs.Prelude.{AreEdges, Case, conflict, cycle, DepKind, EdgeMap, edges_come_from_names, HostViewMap, is_same, IsEdge, IsLoad, KeepsPromises, LoadMap, manual_start, Name, name_cmp, name_cmp-IsAntisymmetric, named_by, names_in, need_fault, one_list_of_edges, one_refusal, one_start, one_stop, plan_keeps, plan_unrefused, requisite, SparesItself, Status, status_in, target_fault, unit_in, Why}
-use Rattle.start_plan.specs.{declared.requests.Plan.Plan, declared.requests.Refusal.Refusal, declared.requests.Refusal.TheVariants.Bad, declared.requests.Refusal.TheVariants.Conflict, declared.requests.Refusal.TheVariants.Cycle, declared.requests.Refusal.TheVariants.ManualStart, declared.requests.Refusal.TheVariants.Masked, declared.requests.Refusal.TheVariants.Memory, declared.requests.Refusal.TheVariants.NotFound, declared.requests.Refusal.TheVariants.Requisite, declared.requests.Refusal.TheVariants.Template, declared.requests.Request.Request, Outcomes.IsFault, Outcomes.IsPlanned, Outcomes.IsRefusalOf, Outcomes.IsRefused, Requests.AsksTemplate, Requests.case_of, Requests.is_loaded, Requests.is_manual, Requests.main_of, Requests.needing, Requests.tying}
+use Rattle.start_plan.specs.Prelude.{[], ap, AreEdges, Case, conflict, cycle, DepKind, EdgeMap, edges_come_from_names, flat_map, HostViewMap, inl, inr, is_same, IsEdge, IsLoad, KeepsPromises, List, list_any, LoadMap, manual_start, map, Name, name_cmp, name_cmp-IsAntisymmetric, named_by, names_in, nat_list_cmp_total, need_fault, None, one_list_of_edges, one_refusal, one_start, one_stop, Option, plan_keeps, plan_unrefused, refl, requisite, Some, SparesItself, Status, status_in, sym, target_fault, unit_in, Why, ◌∙◌}
+use Rattle.start_plan.specs.{declared.requests.{Plan.{Plan}, Refusal.{Refusal, TheVariants.{Bad, Conflict, Cycle, ManualStart, Masked, Memory, NotFound, Requisite, Template}}, Request.{Request}}, Outcomes.{IsFault, IsPlanned, IsRefusalOf, IsRefused}, Requests.{AsksTemplate, case_of, is_loaded, is_manual, main_of, needing, tying}}
 use Rattle.setting_rules.specs.declared.kinds.DepKind.TheVariants as kind
 use Rattle.unit_loads.specs.declared.units.Status.TheVariants as status
 

@@ -1,9 +1,8 @@
 -- What a request asks of a load, by name: the case of a plan.
 -- Source: systemd.unit(5), "Wants=", "Requires=", "Requisite=", "BindsTo=", "PartOf=", "Conflicts=", "Before=, After=",
 -- "RefuseManualStart=".
-use Rattle.std.proofs.Common.{[], ◌∷◌, ◌≡◌, ◌⊎◌, Bool, false, List, map, None, Option, Some, true, unwrap_or}
-use Rattle.std.specs.List.{flat_map, list_any}
-use Rattle.start_plan.specs.Prelude.{After, Bad, BindsTo, Case, Conflicts, DepKind, EdgeMap, is_same, IsAmong, IsKnown, Loaded, LoadedUnit, LoadMap, main_in, Masked, Name, names_in, NotFound, PartOf, Requires, Requisite, shape, Status, Template, unit_in, Wants}
+use Rattle.std.proofs.Common.{◌∷◌, ◌≡◌, ◌⊎◌}
+use Rattle.start_plan.specs.Prelude.{[], After, Bad, BindsTo, Bool, Case, Conflicts, DepKind, EdgeMap, false, flat_map, is_same, IsAmong, IsKnown, List, list_any, Loaded, LoadedUnit, LoadMap, main_in, map, Masked, Name, names_in, None, NotFound, Option, PartOf, Requires, Requisite, shape, Some, Status, Template, true, unit_in, unwrap_or, Wants}
 use Rattle.start_plan.specs.declared.requests.Request.{Request}
 
 -- ---- the names of a request

@@ -1,8 +1,8 @@
 -- How a refusal over indices is given by name: words for private clauses.
 -- Source: this project's own.
-use Rattle.std.proofs.Common.{◌<◌, ◌≡◌, All, false, map, Some, ℕ}
-use Rattle.start_plan.specs.Prelude.{Cause, conflict, count_of, cycle, IsUnitIn, LoadMap, manual_start, Name, name_at, need_fault, requisite, status_in, target_fault, unit_in, Why}
-use Rattle.start_plan.specs.{declared.requests.Refusal.Refusal, declared.requests.Refusal.TheVariants.Bad, declared.requests.Refusal.TheVariants.Conflict, declared.requests.Refusal.TheVariants.Cycle, declared.requests.Refusal.TheVariants.ManualStart, declared.requests.Refusal.TheVariants.Masked, declared.requests.Refusal.TheVariants.Memory, declared.requests.Refusal.TheVariants.NotFound, declared.requests.Refusal.TheVariants.Requisite, declared.requests.Refusal.TheVariants.Template, Requests.is_loaded}
+use Rattle.std.proofs.Common.{◌<◌, ◌≡◌}
+use Rattle.start_plan.specs.Prelude.{All, Cause, conflict, count_of, cycle, false, IsUnitIn, LoadMap, manual_start, map, Name, name_at, need_fault, requisite, Some, status_in, target_fault, unit_in, Why, ℕ}
+use Rattle.start_plan.specs.{declared.requests.Refusal.{Refusal, TheVariants.{Bad, Conflict, Cycle, ManualStart, Masked, Memory, NotFound, Requisite, Template}}, Requests.{is_loaded}}
 use Rattle.unit_loads.specs.declared.units.Status.TheVariants as status
 
 module _ (load : LoadMap) where

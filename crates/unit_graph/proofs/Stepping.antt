@@ -1,11 +1,6 @@
 -- The graph's adjacency lists, and the edges that they give.
-use Rattle.std.proofs.Common.{[], ◌++◌, ◌<◌, ◌∙◌, ◌∷◌, ◌≡◌, ◌⊎◌, All, ap, arith, Bool, get_or, inl, inr, IsTrue, length, List, map, refl, Some, subst, sym, ℕ}
-use Rattle.std.proofs.lemmas.List.Elements.{Contains-get_or}
-use Rattle.std.specs.Cmp.Lexicographic.{nat_list_cmp_total}
-use Rattle.std.specs.Ordering.{nat_cmp}
-use Rattle.std.specs.declared.alloc.Global.{Global}
-use Rattle.std.specs.declared.vec.Vec.{Vec}
-use Rattle.unit_graph.proofs.Prelude.{among_from_contains, among_mapped, AreAdjacencyBy, AreAdjacencyOf, AreEdges, AreNamedSuccessors, AreNames, chains_named, closure_named, count_of, DepKind, distances_named, EdgeMap, edges_join_units, GraphMap, HasInverses, inverse, inverses_are_one, IsAmong, IsAmong-append_left, IsAmong-append_right, IsAmong-push_cases, IsClosure, IsDistances, IsIndexFor, IsIndexing, IsTable, keys_length, LeadsBy, LeadToUnits, Listed, listed_either, load_indexing, LoadMap, mapped_from, Name, name_at, name_cmp, Named, names_along, names_in, neighbors, reached_named, ResolvesTo, sorted_by_keys, successors_from}
+use Rattle.std.proofs.Common.{◌++◌, ◌<◌, ◌∷◌, ◌≡◌, ◌⊎◌}
+use Rattle.unit_graph.proofs.Prelude.{[], All, among_from_contains, among_mapped, ap, AreAdjacencyBy, AreAdjacencyOf, AreEdges, AreNamedSuccessors, AreNames, arith, Bool, chains_named, closure_named, Contains-get_or, count_of, DepKind, distances_named, EdgeMap, edges_join_units, get_or, Global, GraphMap, HasInverses, inl, inr, inverse, inverses_are_one, IsAmong, IsAmong-append_left, IsAmong-append_right, IsAmong-push_cases, IsClosure, IsDistances, IsIndexFor, IsIndexing, IsTable, IsTrue, keys_length, LeadsBy, LeadToUnits, length, List, Listed, listed_either, load_indexing, LoadMap, map, mapped_from, Name, name_at, name_cmp, Named, names_along, names_in, nat_cmp, nat_list_cmp_total, neighbors, reached_named, refl, ResolvesTo, Some, sorted_by_keys, subst, successors_from, sym, Vec, ℕ, ◌∙◌}
 
 -- the adjacency lists of edges are those of their load
 pub table_of_adjacency : (load : LoadMap) (edges : EdgeMap) (dep : DepKind) (adjacency : List (Vec ℕ Global)) → AreEdges load edges → AreAdjacencyBy edges dep adjacency → IsTable load edges dep adjacency

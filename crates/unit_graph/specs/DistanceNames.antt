@@ -1,12 +1,6 @@
 -- Distances are carried from indices to names.
-use Rattle.std.proofs.Common.{[], ◌<◌, ◌∙◌, ◌∷◌, ◌≡◌, ap, inl, inr, List, map, refl, subst, ℕ}
-use Rattle.std.specs.Cmp.{IsTotalOrder}
-use Rattle.std.specs.List.{AllByRecursion}
-use Rattle.std.specs.Ordering.{nat_cmp, ordering_then}
-use Rattle.std.specs.declared.cmp.Ordering.{Ordering}
-use Rattle.std.specs.declared.cmp.Ordering.TheVariants.{Less}
-use Rattle.unit_graph.specs.Prelude.{among_mapped, AreNamedSuccessors, AreNames, chains_named, distance_cmp, index_of, IsAmong, IsChain, IsDistance, IsDistances, IsIndexing, mapped_from, names_compare}
-use Rattle.std.specs.List.Sorted.{IsStrictlySortedBy}
+use Rattle.std.proofs.Common.{◌<◌, ◌∷◌, ◌≡◌}
+use Rattle.unit_graph.specs.Prelude.{[], AllByRecursion, among_mapped, ap, AreNamedSuccessors, AreNames, chains_named, distance_cmp, index_of, inl, inr, IsAmong, IsChain, IsDistance, IsDistances, IsIndexing, IsStrictlySortedBy, IsTotalOrder, Less, List, map, mapped_from, names_compare, nat_cmp, Ordering, ordering_then, refl, subst, ℕ, ◌∙◌}
 
 module _ {N : Type 0} (count : ℕ) (name : ℕ → N) (order : N → N → Ordering) (total : IsTotalOrder order) (n : IsIndexing count name order)
     (S : ℕ → Type 0) (S' : N → Type 0) (E : ℕ → ℕ → Type 0) (E' : N → N → Type 0) (sources : AreNames count name S S') (successors : AreNamedSuccessors count name E E') where

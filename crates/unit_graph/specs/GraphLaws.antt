@@ -1,7 +1,6 @@
 -- Laws of graphs: in a load of a store, the names that resolve to units are those of the universe.
-use Rattle.std.proofs.Common.{◌↔◌, List, refl}
-use Rattle.unit_graph.specs.Prelude.{HostViewMap, IsInUniverse, IsLoad, LoadMap, main, mains_have_units, Name, names_have_mains}
-use Rattle.unit_graph.specs.Graphs.{IsKnown}
+use Rattle.std.proofs.Common.{◌↔◌}
+use Rattle.unit_graph.specs.{Graphs.{IsKnown}, Prelude.{HostViewMap, IsInUniverse, IsLoad, List, LoadMap, main, mains_have_units, Name, names_have_mains, refl}}
 
 abbrev pub KnownNames : Type 0
 KnownNames = (s : HostViewMap) (extra : List Name) (load : LoadMap) (n : Name) → IsLoad s extra load → IsKnown load n ↔ IsInUniverse s extra n

@@ -1,10 +1,8 @@
 -- The graph of a load, by name.
 -- Source: systemd.unit(5), "Mapping of unit properties to their inverses"; that an alias resolves to its main name, and
 -- the kinds over which depths are measured, are this project's own.
-use Rattle.std.proofs.Common.{[], ◌↔◌, ◌∷◌, ◌≡◌, Bool, List, map, Option, refl, Some, ℕ}
-use Rattle.std.specs.Coded.{code_by, Coded, coded_list, coded_ℕ, coded×}
-use Rattle.std.specs.Option.{option_map}
-use Rattle.unit_graph.specs.Prelude.{BindsTo, coded_load, DepKind, EdgeMap, inverse, IsAmong, IsClosure, IsDistances, IsIndexOf, IsUnitIn, Listed, LoadMap, main_in, Name, name_cmp, names_in, Requires, Requisite, Status, unit_in, units_in, Wants}
+use Rattle.std.proofs.Common.{◌↔◌, ◌∷◌, ◌≡◌}
+use Rattle.unit_graph.specs.Prelude.{[], BindsTo, Bool, code_by, Coded, coded_list, coded_load, coded_ℕ, coded×, DepKind, EdgeMap, inverse, IsAmong, IsClosure, IsDistances, IsIndexOf, IsUnitIn, List, Listed, LoadMap, main_in, map, Name, name_cmp, names_in, Option, option_map, refl, Requires, Requisite, Some, Status, unit_in, units_in, Wants, ℕ}
 
 -- a load and its edges
 pub record GraphMap : Type 0 where

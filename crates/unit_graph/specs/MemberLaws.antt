@@ -1,16 +1,7 @@
 -- The members of a load of a store: their names are in ascending order, and are those of its units.
-use Rattle.std.proofs.Common.{[], ◌↔◌, ◌∙◌, ◌∷◌, ◌≡◌, All, ap, inl, inr, IsTrue, List, map, None, Option, refl, Some, subst, sym}
-use Rattle.std.proofs.lemmas.Bool.{and_parts}
-use Rattle.std.proofs.lemmas.List.Elements.{All-head, All-tail}
-use Rattle.std.proofs.lemmas.Option.{none-some}
-use Rattle.std.specs.Cmp.Lexicographic.{nat_list_cmp_total}
-use Rattle.std.specs.FinMap.Entries.{below_all, is_sorted}
-use Rattle.std.specs.List.{AllByRecursion, cons_option, filter_map}
-use Rattle.std.specs.Option.{option_and_then}
-use Rattle.std.specs.declared.cmp.Ordering.TheVariants.{Less}
-use Rattle.unit_graph.specs.Prelude.{among_find, find_among, HostViewMap, is_less, IsAmong, IsLoad, IsNameLoad, IsUnitIn, load_at, LoadedUnit, LoadMap, Name, name_cmp, name_cmp-IsAntisymmetric, NameLoad, OfAlias, OfUnit, sorted_from, unit_part}
+use Rattle.std.proofs.Common.{◌↔◌, ◌∷◌, ◌≡◌}
+use Rattle.unit_graph.specs.Prelude.{[], All, All-head, All-tail, AllByRecursion, among_find, and_parts, ap, below_all, cons_option, filter_map, find_among, HostViewMap, inl, inr, is_less, is_sorted, IsAmong, IsLoad, IsNameLoad, IsStrictlySortedBy, IsTrue, IsUnitIn, Less, List, load_at, LoadedUnit, LoadMap, map, Name, name_cmp, name_cmp-IsAntisymmetric, NameLoad, nat_list_cmp_total, None, none-some, OfAlias, OfUnit, Option, option_and_then, refl, Some, sorted_from, subst, sym, unit_part, ◌∙◌}
 use Rattle.unit_graph.specs.Graphs.{members_in}
-use Rattle.std.specs.List.Sorted.{IsStrictlySortedBy}
 
 -- the members are in ascending order, and are the units
 pub record HasMembers (load : LoadMap) : Type 0 where

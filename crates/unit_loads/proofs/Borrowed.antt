@@ -1,8 +1,6 @@
 -- Borrowed entries have what is visible at their places.
-use Rattle.std.proofs.Common.{[], ◌++◌, ◌∙◌, ◌∷◌, ◌≡◌, ap, List, map, refl, Some, subst, sym}
-use Rattle.std.specs.List.{Contains}
-use Rattle.std.specs.List.Sorted.{IsStrictlySortedBy}
-use Rattle.unit_loads.proofs.Prelude.{AreDropIns, AreDropInsOf, AreLinkNames, AreLinkNamesFrom, AreLinks, AreLinksFrom, assignments_of, borrowed_are_drop_ins, borrowed_items, borrowed_notes, bytes_at, content_at, Entry, entry_name, entry_place, file_bytes, file_notes, first_there, Folder, folders, HostViewMap, items_of, later_there, LinkNames, Name, name_cmp, notes_of, PathParts, shown, view, what_is_in_view_has_a_place}
+use Rattle.std.proofs.Common.{◌++◌, ◌∷◌, ◌≡◌}
+use Rattle.unit_loads.proofs.Prelude.{[], ap, AreDropIns, AreDropInsOf, AreLinkNames, AreLinkNamesFrom, AreLinks, AreLinksFrom, assignments_of, borrowed_are_drop_ins, borrowed_items, borrowed_notes, bytes_at, Contains, content_at, Entry, entry_name, entry_place, file_bytes, file_notes, first_there, Folder, folders, HostViewMap, IsStrictlySortedBy, items_of, later_there, LinkNames, List, map, Name, name_cmp, notes_of, PathParts, refl, shown, Some, subst, sym, view, what_is_in_view_has_a_place, ◌∙◌}
 use Rattle.std.specs.FinMap as finmap
 use Rattle.unit_loads.specs.declared.units.UnitNote.TheVariants as note
 

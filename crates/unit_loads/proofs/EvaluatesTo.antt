@@ -1,6 +1,6 @@
 -- A unit has the effective settings of its files and its links.
-use Rattle.std.proofs.Common.{◌++◌, ◌∙◌, ◌∷◌, ◌≡◌, ap, List, map, subst, sym}
-use Rattle.unit_loads.proofs.Prelude.{AreDropIns, AreLinkNames, assignments_of, borrowed_notes, bytes_at, Entry, entry_place, EvaluatesTo, file_notes, HasSettings, HostViewMap, items_of, items_with, LinkNames, lists_with, Name, notes_at, PathParts, PlaceParts, refuses, rows_of, setting_notes, settings_of, unit_of_parts, UnitParts}
+use Rattle.std.proofs.Common.{◌++◌, ◌∷◌, ◌≡◌}
+use Rattle.unit_loads.proofs.Prelude.{ap, AreDropIns, AreLinkNames, assignments_of, borrowed_notes, bytes_at, Entry, entry_place, EvaluatesTo, file_notes, HasSettings, HostViewMap, items_of, items_with, LinkNames, List, lists_with, map, Name, notes_at, PathParts, PlaceParts, refuses, rows_of, setting_notes, settings_of, subst, sym, unit_of_parts, UnitParts, ◌∙◌}
 use Rattle.unit_loads.proofs.Borrowed.{AreHeld, items_borrowed, notes_borrowed}
 use Rattle.unit_loads.specs.declared.units.UnitNote.TheVariants as note
 

@@ -1,9 +1,7 @@
 -- Links are added to the lists of words.
-use Rattle.std.proofs.Common.{[], ◌++◌, ◌∙◌, ◌∷◌, ◌≡◌, ◌⊎◌, ap, append-nil, get_or, inl, inr, length, List, map, refl, set, sym, ℕ}
-use Rattle.std.specs.Cmp.Lexicographic.{nat_list_cmp_total}
-use Rattle.unit_loads.proofs.Prelude.{among_from_contains, contains_from_among, DependencyList, DepKind, in_byte_order, IsAmong, IsAmong-append_cases, IsAmong-append_left, IsAmong-append_right, linked_by, LinkNames, links_for, list_for, list_with, lists_with, Name, name_cmp, names_ascend, names_by, names_stay, one_ascending_list, settable, SettingMap, with_linked, words_for}
-use Rattle.setting_rules.specs.declared.kinds.DepKind.TheVariants.{Wants, Requires}
-use Rattle.setting_rules.specs.Dependencies.{lists_of}
+use Rattle.std.proofs.Common.{◌++◌, ◌∷◌, ◌≡◌, ◌⊎◌}
+use Rattle.setting_rules.specs.{declared.kinds.DepKind.TheVariants.{Requires, Wants}, Dependencies.{lists_of}}
+use Rattle.unit_loads.proofs.Prelude.{[], among_from_contains, ap, append-nil, contains_from_among, DependencyList, DepKind, get_or, in_byte_order, inl, inr, IsAmong, IsAmong-append_cases, IsAmong-append_left, IsAmong-append_right, length, linked_by, LinkNames, links_for, List, list_for, list_with, lists_with, map, Name, name_cmp, names_ascend, names_by, names_stay, nat_list_cmp_total, one_ascending_list, refl, set, settable, SettingMap, sym, with_linked, words_for, ℕ, ◌∙◌}
 
 among_ordered : (n : Name) (xs : List Name) → IsAmong n (in_byte_order xs) → IsAmong n xs
 among_ordered n xs h = among_from_contains n xs ((names_stay xs n).0 (contains_from_among n (in_byte_order xs) h))

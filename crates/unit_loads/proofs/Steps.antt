@@ -1,8 +1,6 @@
 -- Lists that are made element by element.
-use Rattle.std.proofs.Common.{[], ◌++◌, ◌∙◌, ◌∷◌, ◌≡◌, ap, append_assoc, filter, is_none, List, map, sym}
-use Rattle.std.proofs.lemmas.List.{map-append}
-use Rattle.std.proofs.lemmas.List.Elements.{filter-append, filter_map-append}
-use Rattle.unit_loads.proofs.Prelude.{BadName, DepKind, for_unit, key_for, link_notes, linked_by, Name, note_on}
+use Rattle.std.proofs.Common.{◌++◌, ◌∷◌, ◌≡◌}
+use Rattle.unit_loads.proofs.Prelude.{[], ap, append_assoc, BadName, DepKind, filter, filter-append, filter_map-append, for_unit, is_none, key_for, link_notes, linked_by, List, map, map-append, Name, note_on, sym, ◌∙◌}
 
 -- one more element
 module _ {X B : Type 0} (made : List X → List B) (made-append : (xs ys : List X) → made (xs ++ ys) ≡ made xs ++ made ys) where

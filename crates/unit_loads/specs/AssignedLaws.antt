@@ -1,13 +1,8 @@
 -- The words of a kind are those that assignments have in its key.
-use Rattle.std.proofs.Common.{[], ◌&&◌, ◌||◌, ◌↔◌, ◌∙◌, ◌∷◌, ◌≡◌, ap, Bool, false, filter, IsTrue, List, not, refl, subst, sym, true, ℕ}
-use Rattle.std.proofs.lemmas.Bool.{and_from, and_parts, true≢false}
-use Rattle.std.specs.List.{flat_map, list_any}
-use Rattle.unit_loads.specs.Prelude.{After, among_from_contains, Assertion, Assignment, Before, BindsTo, BoundBy, Condition, ConflictedBy, Conflicts, ConsistsOf, contains_from_among, counted, counts_by, Dependency, DepKind, emptied_by, given, gives, Ignored, is_empty, is_settable, IsAmong, keeps_all_values, key_for, key_of, KeyRule, OnFailure, OnFailureOf, PartOf, Plain, PropagatesReloadTo, ReloadPropagatedFrom, RequiredBy, Requisite, RequisiteOf, resets, rule_at, same_key, same_key_is, same_key_itself, SettingKey, settings_of, settings_show_values, Switch, Text, values_at, WantedBy, word, words_for}
-use Rattle.unit_loads.specs.{MemberLaws.among_filter, MemberLaws.among_flat_map, MemberLaws.among_map, MemberLaws.filter_among, MemberLaws.flat_map_among, MemberLaws.HasSource, MemberLaws.map_among, NamedUnits.IsAssigned}
-use Rattle.setting_rules.specs.declared.kinds.DepKind.TheVariants.{Wants, Requires}
-use Rattle.setting_rules.specs.Kinds.{settable_kind}
-use Rattle.setting_rules.specs.Rules.{rule_of}
-use Rattle.setting_rules.specs.Words.{words_of}
+use Rattle.std.proofs.Common.{◌&&◌, ◌||◌, ◌↔◌, ◌∷◌, ◌≡◌}
+use Rattle.setting_rules.specs.{declared.kinds.DepKind.TheVariants.{Requires, Wants}, Kinds.{settable_kind}, Rules.{rule_of}, Words.{words_of}}
+use Rattle.unit_loads.specs.Prelude.{[], After, among_from_contains, and_from, and_parts, ap, Assertion, Assignment, Before, BindsTo, Bool, BoundBy, Condition, ConflictedBy, Conflicts, ConsistsOf, contains_from_among, counted, counts_by, Dependency, DepKind, emptied_by, false, filter, flat_map, given, gives, Ignored, is_empty, is_settable, IsAmong, IsTrue, keeps_all_values, key_for, key_of, KeyRule, List, list_any, not, OnFailure, OnFailureOf, PartOf, Plain, PropagatesReloadTo, refl, ReloadPropagatedFrom, RequiredBy, Requisite, RequisiteOf, resets, rule_at, same_key, same_key_is, same_key_itself, SettingKey, settings_of, settings_show_values, subst, Switch, sym, Text, true, true≢false, values_at, WantedBy, word, words_for, ℕ, ◌∙◌}
+use Rattle.unit_loads.specs.{MemberLaws.{among_filter, among_flat_map, among_map, filter_among, flat_map_among, HasSource, map_among}, NamedUnits.{IsAssigned}}
 
 -- the key of a settable kind sets dependencies
 dependency_key : (dep : DepKind) → IsTrue (is_settable dep) → rule_at (key_for dep) ≡ Dependency

@@ -1,7 +1,7 @@
 -- At which paths a view can affect a unit, and which paths are elsewhere. Paths have a level in place of their rank.
 -- Source: systemd.unit(5), "Description" and "Unit File Load Path".
-use Rattle.std.proofs.Common.{[], ◌++◌, ◌≡◌, ◌≢◌, ◌⊎◌, List, ℕ}
-use Rattle.unit_loads.specs.Prelude.{dirs_with, ending, folders, HostViewMap, IsAmong, Name, name_dirs, PathParts, Requires, type_dirs, viewed_at, Wants}
+use Rattle.std.proofs.Common.{◌++◌, ◌≡◌, ◌≢◌, ◌⊎◌}
+use Rattle.unit_loads.specs.Prelude.{[], dirs_with, ending, folders, HostViewMap, IsAmong, List, Name, name_dirs, PathParts, Requires, type_dirs, viewed_at, Wants, ℕ}
 
 -- the folders of a unit with these names, with their endings: those of drop-ins, also of their type's, and those of
 -- links

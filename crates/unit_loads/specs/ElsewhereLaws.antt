@@ -1,9 +1,7 @@
 -- What is shown elsewhere affects no unit.
-use Rattle.std.proofs.Common.{[], ◌++◌, ◌↔◌, ◌∙◌, ◌∷◌, ◌≡◌, ◌≢◌, ◌⊎◌, ap, inl, inr, List, map, refl, slice_get, Some, subst, suc, sym, zero, ℕ}
-use Rattle.std.proofs.lemmas.Option.{same_Some}
-use Rattle.std.specs.List.{Contains}
-use Rattle.unit_loads.specs.Prelude.{AreForOne, assignments_of, At, Candidate, Choice, choices_decide, Content, content_at, content_viewed, dirs_by, dirs_with, drop_in_paths_are_files, DropIns, ending, File, first_or_later, first_there, Folder, folders, folders_decide, folders_decide_over, fragments_are_in_view, HostViewMap, IsAmong, IsAmong-append_left, IsAmong-append_right, IsDropIn, IsDropInAt, IsLinked, IsOwnFile, IsTaken, later_there, Links, main, mains_decide, Name, name_dirs, notes_of, OfName, OfType, own_paths_count, Owner, PathParts, PlaceParts, refuses, Requires, Resolution, resolution, rows_of, same_place, Search, settings_of, type_dirs, viewed_at, viewed_place, Wants}
-use Rattle.unit_loads.specs.{declared.units.Status.Status, declared.units.Status.TheVariants.Bad, declared.units.Status.TheVariants.Loaded, declared.units.Status.TheVariants.Masked, declared.units.Status.TheVariants.NotFound, declared.units.Unit.Unit as LoadedUnit, Elsewhere.AgreeButAt, Elsewhere.IsElsewhere, Elsewhere.IsNear, Elsewhere.unit_folders, Units.AreDropIns, Units.AreLinks, Units.file_bytes, Units.file_notes, Units.HasAllOf, Units.HasSettings, Units.IsStatus, Units.IsUnit, Units.items_of, Units.lists_with, Units.setting_notes}
+use Rattle.std.proofs.Common.{◌++◌, ◌↔◌, ◌∷◌, ◌≡◌, ◌≢◌, ◌⊎◌}
+use Rattle.unit_loads.specs.Prelude.{[], ap, AreForOne, assignments_of, At, Candidate, Choice, choices_decide, Contains, Content, content_at, content_viewed, dirs_by, dirs_with, drop_in_paths_are_files, DropIns, ending, File, first_or_later, first_there, Folder, folders, folders_decide, folders_decide_over, fragments_are_in_view, HostViewMap, inl, inr, IsAmong, IsAmong-append_left, IsAmong-append_right, IsDropIn, IsDropInAt, IsLinked, IsOwnFile, IsTaken, later_there, Links, List, main, mains_decide, map, Name, name_dirs, notes_of, OfName, OfType, own_paths_count, Owner, PathParts, PlaceParts, refl, refuses, Requires, Resolution, resolution, rows_of, same_place, same_Some, Search, settings_of, slice_get, Some, subst, suc, sym, type_dirs, viewed_at, viewed_place, Wants, zero, ℕ, ◌∙◌}
+use Rattle.unit_loads.specs.{declared.units.{Status.{Status, TheVariants.{Bad, Loaded, Masked, NotFound}}, Unit.{Unit as LoadedUnit}}, Elsewhere.{AgreeButAt, IsElsewhere, IsNear, unit_folders}, Units.{AreDropIns, AreLinks, file_bytes, file_notes, HasAllOf, HasSettings, IsStatus, IsUnit, items_of, lists_with, setting_notes}}
 use Rattle.fragment_choice.specs.declared.choices.Choice.TheVariants as choice
 use Rattle.unit_loads.specs.declared.units.UnitNote.TheVariants as note
 

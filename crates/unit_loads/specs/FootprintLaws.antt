@@ -1,7 +1,7 @@
 -- If names are aliases of the same units, what is seen in a unit's footprint determines the unit.
-use Rattle.std.proofs.Common.{◌++◌, ◌∙◌, ◌∷◌, ◌≡◌, ◌⊎◌, ap, inl, inr, is_some, List, None, Option, refl, Some, subst, sym, ℕ}
-use Rattle.unit_loads.specs.Prelude.{AreForOne, content_at, EntryMap, File, fragments_are_own, host_view_of, HostViewMap, IsAmong, IsAmong-append_left, IsAmong-append_right, IsOwnFileOf, IsOwnPath, leads_and_choice_decide, leads_decide_mains, listed, main, mains_decide, Name, own_paths_decide, PathParts, PlaceParts, places_decide_views, Resolution, resolution, SameLeads, template_of, Viewer, with_template}
-use Rattle.unit_loads.specs.{declared.units.Unit.Unit as LoadedUnit, Elsewhere.unit_folders, ElsewhereLaws.all_same, ElsewhereLaws.chosen, ElsewhereLaws.same_content, Footprints.AgreeIn, Footprints.footprint, Footprints.StartsIn, Footprints.StartsIn.alone, Footprints.StartsIn.within, Footprints.StoresAgreeIn, Units.IsStatus, Units.IsUnit}
+use Rattle.std.proofs.Common.{◌++◌, ◌∷◌, ◌≡◌, ◌⊎◌}
+use Rattle.unit_loads.specs.Prelude.{ap, AreForOne, content_at, EntryMap, File, fragments_are_own, host_view_of, HostViewMap, inl, inr, is_some, IsAmong, IsAmong-append_left, IsAmong-append_right, IsOwnFileOf, IsOwnPath, leads_and_choice_decide, leads_decide_mains, List, listed, main, mains_decide, Name, None, Option, own_paths_decide, PathParts, PlaceParts, places_decide_views, refl, Resolution, resolution, SameLeads, Some, subst, sym, template_of, Viewer, with_template, ℕ, ◌∙◌}
+use Rattle.unit_loads.specs.{declared.units.Unit.{Unit as LoadedUnit}, Elsewhere.{unit_folders}, ElsewhereLaws.{all_same, chosen, same_content}, Footprints.{AgreeIn, footprint, StartsIn, StartsIn.{alone, within}, StoresAgreeIn}, Units.{IsStatus, IsUnit}}
 
 -- Views for one host with the same aliases that show the same in a unit's footprint have the same unit.
 abbrev pub FootprintsDecide : Type 0

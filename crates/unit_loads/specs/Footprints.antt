@@ -1,8 +1,7 @@
 -- The footprint of a unit: the first components of the paths at which a view can affect it, apart from aliases.
 -- Source: systemd.unit(5), "Description" and "Unit File Load Path".
-use Rattle.std.proofs.Common.{[], ◌++◌, ◌≡◌, IsSome, List, ℕ}
-use Rattle.unit_loads.specs.Prelude.{EntryMap, HostViewMap, IsAmong, level_for, Name, PathParts, PlaceParts, viewed_at, Viewer, visible_at, with_template}
-use Rattle.unit_loads.specs.Elsewhere.{unit_folders}
+use Rattle.std.proofs.Common.{◌++◌, ◌≡◌}
+use Rattle.unit_loads.specs.{Elsewhere.{unit_folders}, Prelude.{[], EntryMap, HostViewMap, IsAmong, IsSome, level_for, List, Name, PathParts, PlaceParts, viewed_at, Viewer, visible_at, with_template, ℕ}}
 
 -- the unit's name, the template of an instance, and the folders of a unit with these names with their endings, its
 -- type's too

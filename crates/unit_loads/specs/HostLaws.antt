@@ -1,8 +1,7 @@
 -- Laws of hosts: one at whose places nothing is visible has the units that there are without a host.
-use Rattle.std.proofs.Common.{◌%◌, ◌==◌, ◌↔◌, ◌∙◌, ◌∷◌, ◌≡◌, ap, false, inl, inr, List, None, refl, Some, subst, sym, ℕ}
-use Rattle.std.specs.List.{Contains}
-use Rattle.unit_loads.specs.Prelude.{Assignment, Choice, content_at, DepKind, drop_ins_are_the_fleets, EntryMap, File, first_or_later, Fleet, fleets_level, fleets_place, Folder, fragments_are_in_view, Host, host_view_of, hosts_without_places_have_these_drop_ins, hosts_without_places_have_these_links, hosts_without_places_resolve_alike, HostViewMap, IsDropInAt, IsLinked, main, mains_decide, Name, PlaceParts, Resolution, resolution, Scope, ShowsNothing}
-use Rattle.unit_loads.specs.{declared.units.Status.Status, declared.units.Status.TheVariants.Bad, declared.units.Status.TheVariants.Loaded, declared.units.Status.TheVariants.Masked, declared.units.Status.TheVariants.NotFound, declared.units.Unit.Unit as LoadedUnit, ElsewhereLaws.chosen, ElsewhereLaws.items_same, ElsewhereLaws.settings_too, NamedUnits.IsAssigned, NamedUnits.IsNamed, NamedUnits.IsNamedByLink, NamedUnits.IsNamedByWord, Units.AreDropIns, Units.HasAllOf, Units.IsStatus, Units.IsUnit}
+use Rattle.std.proofs.Common.{◌%◌, ◌==◌, ◌↔◌, ◌∷◌, ◌≡◌}
+use Rattle.unit_loads.specs.Prelude.{ap, Assignment, Choice, Contains, content_at, DepKind, drop_ins_are_the_fleets, EntryMap, false, File, first_or_later, Fleet, fleets_level, fleets_place, Folder, fragments_are_in_view, Host, host_view_of, hosts_without_places_have_these_drop_ins, hosts_without_places_have_these_links, hosts_without_places_resolve_alike, HostViewMap, inl, inr, IsDropInAt, IsLinked, List, main, mains_decide, Name, None, PlaceParts, refl, Resolution, resolution, Scope, ShowsNothing, Some, subst, sym, ℕ, ◌∙◌}
+use Rattle.unit_loads.specs.{declared.units.{Status.{Status, TheVariants.{Bad, Loaded, Masked, NotFound}}, Unit.{Unit as LoadedUnit}}, ElsewhereLaws.{chosen, items_same, settings_too}, NamedUnits.{IsAssigned, IsNamed, IsNamedByLink, IsNamedByWord}, Units.{AreDropIns, HasAllOf, IsStatus, IsUnit}}
 use Rattle.fragment_choice.specs.declared.choices.Choice.TheVariants as choice
 
 -- The same stands for each name in both views, units have the same drop-ins and links, and their fragments and drop-ins show the same.

@@ -1,7 +1,6 @@
 -- The members of lists that are made from lists.
-use Rattle.std.proofs.Common.{[], ◌∙◌, ◌∷◌, ◌≡◌, ◌⊎◌, ap, Bool, cond, false, filter, inl, inr, List, map, None, Option, refl, Some, subst, sym, true}
-use Rattle.std.specs.List.{cons_option, filter_map, flat_map}
-use Rattle.unit_loads.specs.Prelude.{IsAmong, IsAmong-append_cases, IsAmong-append_left, IsAmong-append_right}
+use Rattle.std.proofs.Common.{◌∷◌, ◌≡◌, ◌⊎◌}
+use Rattle.unit_loads.specs.Prelude.{[], ap, Bool, cond, cons_option, false, filter, filter_map, flat_map, inl, inr, IsAmong, IsAmong-append_cases, IsAmong-append_left, IsAmong-append_right, List, map, None, Option, refl, Some, subst, sym, true, ◌∙◌}
 
 -- a member of the list is in this relation to y
 pub record HasSource {X Y : Type 0} (made : X → Y → Type 0) (xs : List X) (y : Y) : Type 0 where

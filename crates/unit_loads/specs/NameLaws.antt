@@ -1,11 +1,8 @@
 -- Laws of the names that a unit lists.
-use Rattle.std.proofs.Common.{[], ◌++◌, ◌↔◌, ◌∙◌, ◌∷◌, ◌≡◌, ◌⊎◌, ap, Err, inl, inr, IsTrue, List, map, Ok, refl, Result, Some, subst, sym, ℕ}
-use Rattle.std.specs.List.{Contains}
-use Rattle.std.specs.Result.{result_ok}
-use Rattle.unit_loads.specs.Prelude.{After, among_from_contains, AreNames, Before, BindsTo, BoundBy, Choice, ConflictedBy, Conflicts, ConsistsOf, contains_from_among, DependencyList, DepKind, Folder, for_unit, HostViewMap, is_settable, IsAmong, IsAmong-append_cases, IsAmong-append_left, IsAmong-append_right, IsLinked, kinds, Name, name_cmp, named_by, names_ascend, names_by, names_stay, one_list_of_names, OnFailure, OnFailureOf, PartOf, PlaceParts, PropagatesReloadTo, ReloadPropagatedFrom, RequiredBy, Requisite, RequisiteOf, resolution, settable, SettingMap, SettingNoteKind, WantedBy, words_for}
-use Rattle.unit_loads.specs.{AssignedLaws.words_are_assigned, declared.links.LinkNames.LinkNames, declared.units.Status.Status, declared.units.Status.TheVariants.Bad, declared.units.Status.TheVariants.Loaded, declared.units.Status.TheVariants.Masked, declared.units.Status.TheVariants.NotFound, declared.units.Unit.Unit as LoadedUnit, MemberLaws.among_filter, MemberLaws.among_filter_map, MemberLaws.among_map, MemberLaws.filter_among, MemberLaws.filter_map_among, MemberLaws.HasSource, MemberLaws.map_among, NamedUnits.IsAssigned, NamedUnits.IsListed, NamedUnits.IsNamed, NamedUnits.IsNamedByLink, NamedUnits.kind_of, UnitLaws.one_dropins, Units.AreDropIns, Units.AreLinks, Units.HasAllOf, Units.HasSettings, Units.IsStatus, Units.IsUnit, Units.items_of, Units.linked_by, Units.links_for, Units.list_with, Units.no_names, Units.settings_in}
-use Rattle.std.specs.List.Sorted.{IsStrictlySortedBy}
-use Rattle.setting_rules.specs.declared.kinds.DepKind.TheVariants.{Wants, Requires}
+use Rattle.std.proofs.Common.{◌++◌, ◌↔◌, ◌∷◌, ◌≡◌, ◌⊎◌}
+use Rattle.setting_rules.specs.declared.kinds.DepKind.TheVariants.{Requires, Wants}
+use Rattle.unit_loads.specs.Prelude.{[], After, among_from_contains, ap, AreNames, Before, BindsTo, BoundBy, Choice, ConflictedBy, Conflicts, ConsistsOf, Contains, contains_from_among, DependencyList, DepKind, Err, Folder, for_unit, HostViewMap, inl, inr, is_settable, IsAmong, IsAmong-append_cases, IsAmong-append_left, IsAmong-append_right, IsLinked, IsStrictlySortedBy, IsTrue, kinds, List, map, Name, name_cmp, named_by, names_ascend, names_by, names_stay, Ok, one_list_of_names, OnFailure, OnFailureOf, PartOf, PlaceParts, PropagatesReloadTo, refl, ReloadPropagatedFrom, RequiredBy, Requisite, RequisiteOf, resolution, Result, result_ok, settable, SettingMap, SettingNoteKind, Some, subst, sym, WantedBy, words_for, ℕ, ◌∙◌}
+use Rattle.unit_loads.specs.{AssignedLaws.{words_are_assigned}, declared.{links.LinkNames.{LinkNames}, units.{Status.{Status, TheVariants.{Bad, Loaded, Masked, NotFound}}, Unit.{Unit as LoadedUnit}}}, MemberLaws.{among_filter, among_filter_map, among_map, filter_among, filter_map_among, HasSource, map_among}, NamedUnits.{IsAssigned, IsListed, IsNamed, IsNamedByLink, kind_of}, UnitLaws.{one_dropins}, Units.{AreDropIns, AreLinks, HasAllOf, HasSettings, IsStatus, IsUnit, items_of, linked_by, links_for, list_with, no_names, settings_in}}
 use Rattle.fragment_choice.specs.declared.choices.Choice.TheVariants as choice
 use Rattle.dropins.specs.declared.link_names.Folder.TheVariants as folder
 

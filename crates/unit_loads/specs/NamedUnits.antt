@@ -1,8 +1,7 @@
 -- The units that a unit names.
 -- Source: systemd.unit(5), "[Unit] Section Options" and "Description".
-use Rattle.std.proofs.Common.{◌∷◌, ◌≡◌, ◌⊎◌, codes, IsTrue, List, Ok, Some, ℕ}
-use Rattle.std.specs.List.{Contains}
-use Rattle.unit_loads.specs.Prelude.{AreNames, Assignment, DependencyList, DepKind, Folder, for_unit, Fragment, HostViewMap, is_settable, IsLinked, Name, named_by, PlaceParts, Requires, resolution, Wants, word, words_of}
+use Rattle.std.proofs.Common.{◌∷◌, ◌≡◌, ◌⊎◌}
+use Rattle.unit_loads.specs.Prelude.{AreNames, Assignment, codes, Contains, DependencyList, DepKind, Folder, for_unit, Fragment, HostViewMap, is_settable, IsLinked, IsTrue, List, Name, named_by, Ok, PlaceParts, Requires, resolution, Some, Wants, word, words_of, ℕ}
 use Rattle.unit_loads.specs.Units.{AreDropIns, items_of}
 use Rattle.setting_rules.specs.declared.kinds.DepKind.TheVariants as kind
 

@@ -1,10 +1,8 @@
 -- How files and links are put together: words for private clauses.
 -- Source: this project's own.
-use Rattle.std.proofs.Common.{[], ◌++◌, ◌↔◌, ◌≡◌, List, map}
-use Rattle.std.specs.List.{Contains, flat_map}
-use Rattle.std.specs.List.Sorted.{IsStrictlySortedBy}
-use Rattle.unit_loads.specs.Prelude.{Assignment, assignments_of, Entry, entry_place, Folder, HostViewMap, in_byte_order, IsLinkedOf, Name, name_cmp, notes_of, PathParts, PlaceParts, refuses, Requires, rows_of, settings_of, shown, Wants}
-use Rattle.unit_loads.specs.{declared.found.UnitParts.UnitParts, declared.links.LinkNames.LinkNames, declared.units.Status.TheVariants.Loaded, declared.units.Unit.Unit as LoadedUnit, declared.units.UnitNote.UnitNote, Units.bytes_at, Units.file_bytes, Units.lists_with, Units.notes_at, Units.setting_notes}
+use Rattle.std.proofs.Common.{◌++◌, ◌↔◌, ◌≡◌}
+use Rattle.unit_loads.specs.Prelude.{[], Assignment, assignments_of, Contains, Entry, entry_place, flat_map, Folder, HostViewMap, in_byte_order, IsLinkedOf, IsStrictlySortedBy, List, map, Name, name_cmp, notes_of, PathParts, PlaceParts, refuses, Requires, rows_of, settings_of, shown, Wants}
+use Rattle.unit_loads.specs.{declared.{found.UnitParts.{UnitParts}, links.LinkNames.{LinkNames}, units.{Status.TheVariants.{Loaded}, Unit.{Unit as LoadedUnit}, UnitNote.{UnitNote}}}, Units.{bytes_at, file_bytes, lists_with, notes_at, setting_notes}}
 use Rattle.unit_loads.specs.declared.units.UnitNote.TheVariants as note
 
 -- the assignments of borrowed files, file by file

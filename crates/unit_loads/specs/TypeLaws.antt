@@ -1,9 +1,8 @@
 -- A unit has one type: its aliases are of its kind.
-use Rattle.std.proofs.Common.{[], ◌∙◌, ◌∷◌, ◌≡◌, All, ap, inl, inr, List, refl, Some, sym}
-use Rattle.std.proofs.lemmas.List.Elements.{All-cons, All-nil}
-use Rattle.unit_loads.specs.Prelude.{AreNames, HostViewMap, IsAmong, IsOtherName, Kind, kind, mains_are_alike, Name, one_type, types_of}
-use Rattle.unit_loads.specs.{declared.units.Unit.Unit as LoadedUnit, Units.IsUnit}
+use Rattle.std.proofs.Common.{◌∷◌, ◌≡◌}
 use Rattle.unit_name.specs.Names.{word}
+use Rattle.unit_loads.specs.Prelude.{[], All, All-cons, All-nil, ap, AreNames, HostViewMap, inl, inr, IsAmong, IsOtherName, Kind, kind, List, mains_are_alike, Name, one_type, refl, Some, sym, types_of, ◌∙◌}
+use Rattle.unit_loads.specs.{declared.units.Unit.{Unit as LoadedUnit}, Units.{IsUnit}}
 
 -- However many names a unit has, they have one type.
 abbrev pub UnitsHaveOneType : Type 0

@@ -1,8 +1,7 @@
 -- A store has one unit of a name.
-use Rattle.std.proofs.Common.{◌++◌, ◌∙◌, ◌∷◌, ◌≡◌, ap, Bool, List, map, subst, sym}
-use Rattle.std.specs.Cmp.Lexicographic.{nat_list_cmp_total}
-use Rattle.unit_loads.specs.Prelude.{among_from_contains, Choice, contains_from_among, DependencyList, Folder, HostViewMap, Name, name_cmp, one_ascending_list, one_list_of_names, one_order, PlaceParts, refuses, Requires, resolution, Row, rows_of, Wants}
-use Rattle.unit_loads.specs.{declared.links.LinkNames.LinkNames, declared.units.Status.Status, declared.units.Status.TheVariants.Bad, declared.units.Status.TheVariants.Loaded, declared.units.Status.TheVariants.Masked, declared.units.Status.TheVariants.NotFound, declared.units.Unit.Unit as LoadedUnit, declared.units.UnitNote.UnitNote, Units.AreDropIns, Units.AreLinkNames, Units.AreLinks, Units.file_notes, Units.HasAllOf, Units.HasNothing, Units.HasSettings, Units.IsStatus, Units.IsUnit, Units.items_of, Units.lists_with, Units.setting_notes, Units.settings_in}
+use Rattle.std.proofs.Common.{◌++◌, ◌∷◌, ◌≡◌}
+use Rattle.unit_loads.specs.Prelude.{among_from_contains, ap, Bool, Choice, contains_from_among, DependencyList, Folder, HostViewMap, List, map, Name, name_cmp, nat_list_cmp_total, one_ascending_list, one_list_of_names, one_order, PlaceParts, refuses, Requires, resolution, Row, rows_of, subst, sym, Wants, ◌∙◌}
+use Rattle.unit_loads.specs.{declared.{links.LinkNames.{LinkNames}, units.{Status.{Status, TheVariants.{Bad, Loaded, Masked, NotFound}}, Unit.{Unit as LoadedUnit}, UnitNote.{UnitNote}}}, Units.{AreDropIns, AreLinkNames, AreLinks, file_notes, HasAllOf, HasNothing, HasSettings, IsStatus, IsUnit, items_of, lists_with, setting_notes, settings_in}}
 use Rattle.fragment_choice.specs.declared.choices.Choice.TheVariants as choice
 use Rattle.unit_loads.specs.declared.units.UnitNote.TheVariants as note
 

@@ -1,10 +1,8 @@
 -- One loaded unit: the effective settings of its files and its links.
 -- Source: systemd.unit(5), "Description" and "Unit File Load Path"; the order of the notes is this project's own.
-use Rattle.std.proofs.Common.{[], ◌++◌, ◌↔◌, ◌∷◌, ◌≡◌, false, filter, is_none, List, map, None, Option, Some, ℕ}
-use Rattle.std.specs.List.{Contains, filter_map, flat_map}
-use Rattle.std.specs.List.Sorted.{IsStrictlySortedBy}
-use Rattle.unit_loads.specs.Prelude.{AreNames, Assignment, assignments_of, BadName, boolean_notes, Choice, Content, content_at, DependencyList, DepKind, escape_notes, File, file_name, Folder, for_unit, Gone, HostViewMap, in_byte_order, IsDropInAt, IsLinked, key_for, Link, main, Name, name_cmp, names_by, note_on, notes_of, PlaceParts, refuses, Requires, resolution, rows_of, settable, SettingMap, SettingNote, settings_of, Wants, word_notes, words_for}
-use Rattle.unit_loads.specs.{declared.links.LinkNames.LinkNames, declared.units.Status.Status, declared.units.Status.TheVariants.Bad, declared.units.Status.TheVariants.Loaded, declared.units.Status.TheVariants.Masked, declared.units.Status.TheVariants.NotFound, declared.units.Unit.Unit as LoadedUnit, declared.units.UnitNote.UnitNote}
+use Rattle.std.proofs.Common.{◌++◌, ◌↔◌, ◌∷◌, ◌≡◌}
+use Rattle.unit_loads.specs.Prelude.{[], AreNames, Assignment, assignments_of, BadName, boolean_notes, Choice, Contains, Content, content_at, DependencyList, DepKind, escape_notes, false, File, file_name, filter, filter_map, flat_map, Folder, for_unit, Gone, HostViewMap, in_byte_order, is_none, IsDropInAt, IsLinked, IsStrictlySortedBy, key_for, Link, List, main, map, Name, name_cmp, names_by, None, note_on, notes_of, Option, PlaceParts, refuses, Requires, resolution, rows_of, settable, SettingMap, SettingNote, settings_of, Some, Wants, word_notes, words_for, ℕ}
+use Rattle.unit_loads.specs.declared.{links.LinkNames.{LinkNames}, units.{Status.{Status, TheVariants.{Bad, Loaded, Masked, NotFound}}, Unit.{Unit as LoadedUnit}, UnitNote.{UnitNote}}}
 use Rattle.setting_rules.specs.declared.kinds.DepKind.TheVariants as kind
 use Rattle.fragment_choice.specs.declared.choices.Choice.TheVariants as choice
 use Rattle.unit_loads.specs.declared.units.UnitNote.TheVariants as note

@@ -1,12 +1,6 @@
 -- What single steps of the code find.
-use Rattle.std.proofs.Common.{[], ◌&&◌, ◌++◌, ◌+◌, ◌-◌, ◌∙◌, ◌∷◌, ◌≡◌, ◌≤◌, ap, append-nil, append_assoc, arith, Bool, cond, false, is_some, leb, length, length-append, List, ltb, MatchOption, None, Option, position, refl, Some, sym, true, unwrap_or, ℕ}
-use Rattle.std.proofs.lemmas.Bool.{le-leb, leb-false, leb-true, lt-leb, ltb-false, ne_eqb}
-use Rattle.std.proofs.lemmas.List.{nil_from_length}
-use Rattle.std.proofs.lemmas.List.Sums.{prefix_len-le-length}
-use Rattle.std.proofs.lemmas.Option.{none-some, same_Some}
-use Rattle.std.specs.List.{position_or_len}
-use Rattle.std.specs.Option.{option_map}
-use Rattle.unit_name.proofs.Prelude.{expand, expand-byte, expand-last, expand-nil, Instance, instance_at, instance_has_parts, instance_name, is_instance, IsName, Name, name_short, pairs_are_replaced, Plain, prefix, put_before, put_first, Shape, shape, specifier, suffix, Template, template_at, template_name, template_of, template_parts, templates_keep_parts, with_instance}
+use Rattle.std.proofs.Common.{◌&&◌, ◌++◌, ◌+◌, ◌-◌, ◌∷◌, ◌≡◌, ◌≤◌}
+use Rattle.unit_name.proofs.Prelude.{[], ap, append-nil, append_assoc, arith, Bool, cond, expand, expand-byte, expand-last, expand-nil, false, Instance, instance_at, instance_has_parts, instance_name, is_instance, is_some, IsName, le-leb, leb, leb-false, leb-true, length, length-append, List, lt-leb, ltb, ltb-false, MatchOption, Name, name_short, ne_eqb, nil_from_length, None, none-some, Option, option_map, pairs_are_replaced, Plain, position, position_or_len, prefix, prefix_len-le-length, put_before, put_first, refl, same_Some, Shape, shape, Some, specifier, suffix, sym, Template, template_at, template_name, template_of, template_parts, templates_keep_parts, true, unwrap_or, with_instance, ℕ, ◌∙◌}
 
 -- the first index, or the length if there is none
 place_or_length : (t : Bool) (n len : ℕ) → ltb n len ≡ t → n ≤ len → unwrap_or (cond t (Some n) None) len ≡ n

@@ -1,12 +1,7 @@
 -- Laws of escaping: unescaping the escaped bytes gives them back, and escaped bytes are allowed in names.
-use Rattle.std.proofs.Common.{[], ◌%◌, ◌&&◌, ◌*◌, ◌++◌, ◌+◌, ◌/◌, ◌<◌, ◌==◌, ◌||◌, ◌∙◌, ◌∷◌, ◌≡◌, All, ap, arith, Bool, cond, eqb, false, List, ltb, None, not, refl, Some, sym, true, ℕ}
-use Rattle.std.proofs.lemmas.Bool.{agree_below_at, and_from, and_parts, cond-false, cond-true, eqb-true, or_left, or_right, true≢false}
-use Rattle.std.proofs.lemmas.List.Elements.{All-head, All-tail}
-use Rattle.std.proofs.lemmas.Option.{same_Some}
-use Rattle.std.specs.Char.{digit_char, digit_value, is_ascii_alphanumeric}
-use Rattle.std.specs.List.{flat_map, list_all}
-use Rattle.unit_name.specs.{Escapes.escape, Escapes.escaped_byte, Escapes.escaped_first, Escapes.hex_byte, Escapes.hex_escape, Escapes.is_kept, Escapes.put_first, Escapes.unescape, Escapes.unescaped_byte, Escapes.unescaped_four, Forms.is_instance, Names.is_dot, Names.is_empty, Names.is_name_byte, PartLaws.all_append}
-use Rattle.std.proofs.lemmas.Bool.{lt-ltb}
+use Rattle.std.proofs.{Common.{◌%◌, ◌&&◌, ◌*◌, ◌++◌, ◌+◌, ◌/◌, ◌<◌, ◌==◌, ◌||◌, ◌∷◌, ◌≡◌}, lemmas.Bool.{lt-ltb}}
+use Rattle.unit_name.specs.Prelude.{[], agree_below_at, All, All-head, All-tail, and_from, and_parts, ap, arith, Bool, cond, cond-false, cond-true, digit_char, digit_value, eqb, eqb-true, false, flat_map, is_ascii_alphanumeric, List, list_all, ltb, None, not, or_left, or_right, refl, same_Some, Some, sym, true, true≢false, ℕ, ◌∙◌}
+use Rattle.unit_name.specs.{Escapes.{escape, escaped_byte, escaped_first, hex_byte, hex_escape, is_kept, put_first, unescape, unescaped_byte, unescaped_four}, Forms.{is_instance}, Names.{is_dot, is_empty, is_name_byte}, PartLaws.{all_append}}
 
 abbrev pub IsByte : ℕ → Type 0
 IsByte b = b < 256

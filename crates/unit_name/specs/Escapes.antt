@@ -1,8 +1,7 @@
 -- Escaping of bytes in unit names.
 -- Source: systemd.unit(5), "String Escaping for Inclusion in Unit Names"; systemd-escape(1).
-use Rattle.std.proofs.Common.{[], ◌%◌, ◌&&◌, ◌*◌, ◌++◌, ◌+◌, ◌/◌, ◌==◌, ◌||◌, ◌∷◌, Bool, if◌then◌else◌, List, nat_lt, None, Option, Some, ℕ}
-use Rattle.std.specs.Char.{digit_char, digit_value, is_ascii_alphanumeric}
-use Rattle.std.specs.List.{flat_map}
+use Rattle.std.proofs.Common.{if◌then◌else◌, ◌%◌, ◌&&◌, ◌*◌, ◌++◌, ◌+◌, ◌/◌, ◌==◌, ◌||◌, ◌∷◌}
+use Rattle.unit_name.specs.Prelude.{[], Bool, digit_char, digit_value, flat_map, is_ascii_alphanumeric, List, nat_lt, None, Option, Some, ℕ}
 
 -- a letter, a digit, or one of : _ .
 unfoldable pub is_kept : ℕ → Bool

@@ -1,8 +1,8 @@
 -- Names put together from parts.
 -- Source: systemd.unit(5), "Description"; which bytes an instance may have is this project's own.
-use Rattle.std.proofs.Common.{◌&&◌, ◌++◌, ◌∷◌, Bool, if◌then◌else◌, length, List, nat_le, None, not, Option, Some, ℕ}
-use Rattle.std.specs.List.{list_all}
-use Rattle.unit_name.specs.{declared.names.Shape.Shape, declared.names.Shape.TheVariants.Instance, declared.names.Shape.TheVariants.Plain, declared.names.Shape.TheVariants.Template, Names.is_empty, Names.is_name_byte, Names.Name, Names.prefix, Names.shape, Names.suffix}
+use Rattle.std.proofs.Common.{if◌then◌else◌, ◌&&◌, ◌++◌, ◌∷◌}
+use Rattle.unit_name.specs.Prelude.{Bool, length, List, list_all, nat_le, None, not, Option, Some, ℕ}
+use Rattle.unit_name.specs.{declared.names.Shape.{Shape, TheVariants.{Instance, Plain, Template}}, Names.{is_empty, is_name_byte, Name, prefix, shape, suffix}}
 
 abbrev pub plain_name : List ℕ → List ℕ → Name
 plain_name p k = p ++ 46 ∷ k

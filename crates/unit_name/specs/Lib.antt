@@ -1,3 +1,4 @@
+pub mod Prelude
 pub mod Names
 pub mod Forms
 pub mod Escapes

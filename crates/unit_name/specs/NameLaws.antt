@@ -1,20 +1,7 @@
 -- Laws of names: their form, and their parts.
-use Rattle.std.proofs.Common.{[], ◌++◌, ◌-◌, ◌<◌, ◌||◌, ◌↔◌, ◌∙◌, ◌∷◌, ◌≡◌, ◌≤◌, ◌⊎◌, ap, append-nil, append_assoc, arith, Bool, cond, drop, Err, false, if◌then◌else◌, inl, inr, is_none, is_ok, le-leb, leb, length, length-append, List, ltb, None, not, Ok, Option, refl, Result, Some, subst, sym, true, ℕ}
-use Rattle.std.proofs.lemmas.Bool.{and_from, and_parts, cases_lt, cond-false, cond-true, eqb-true, le-ltb, leb-true, ltb-false, not-false, not-true, or_from, or_parts, or_right, true≢false}
-use Rattle.std.proofs.lemmas.Cmp.{tied_itself}
-use Rattle.std.proofs.lemmas.List.Folds.{list_all-append, list_any-append}
-use Rattle.std.proofs.lemmas.List.Sums.{passes_at_first, split_at_first, take_while-cons}
-use Rattle.std.proofs.lemmas.Option.{cond_some, none-some, same_Some}
-use Rattle.std.proofs.lemmas.Slice.Eq.{bytes_eq-Decides}
-use Rattle.std.specs.Bool.{Decides}
-use Rattle.std.specs.Cmp.Lexicographic.{nat_list_cmp_total}
-use Rattle.std.specs.FinMap.{IsAntisymmetric, nat_cmp-IsAntisymmetric, slice_cmp-IsAntisymmetric}
-use Rattle.std.specs.List.{after_first, before_first, list_all, list_any, suffix_len}
-use Rattle.std.specs.Ordering.{eq_by_cmp, is_eq}
-use Rattle.std.specs.Str.{bytes_eq}
-use Rattle.std.specs.declared.cmp.Ordering.{Ordering}
-use Rattle.std.specs.declared.cmp.Ordering.TheVariants.{Equal, Greater, Less}
-use Rattle.unit_name.specs.{declared.kinds.Kind.Kind, declared.kinds.Kind.TheVariants.Automount, declared.kinds.Kind.TheVariants.Device, declared.kinds.Kind.TheVariants.Mount, declared.kinds.Kind.TheVariants.Path, declared.kinds.Kind.TheVariants.Scope, declared.kinds.Kind.TheVariants.Service, declared.kinds.Kind.TheVariants.Slice, declared.kinds.Kind.TheVariants.Socket, declared.kinds.Kind.TheVariants.Swap, declared.kinds.Kind.TheVariants.Target, declared.kinds.Kind.TheVariants.Timer, declared.names.NameFault.NameFault, declared.names.NameFault.TheVariants.EmptyPrefix, declared.names.NameFault.TheVariants.Kind as NoKind, declared.names.NameFault.TheVariants.Length, declared.names.Shape.Shape, declared.names.Shape.TheVariants.Instance, declared.names.Shape.TheVariants.Plain, declared.names.Shape.TheVariants.Template, Forms.if_short, Forms.instance_at, Forms.instance_name, Forms.is_instance, Forms.name_with, Forms.template_at, Forms.template_name, Forms.template_of, Forms.with_instance, Names.bad_place, Names.instance, Names.is_at, Names.is_dot, Names.is_empty, Names.is_name_byte, Names.IsName, Names.kind, Names.kind_of, Names.kinds, Names.Name, Names.name_cmp, Names.name_of, Names.prefix, Names.shape, Names.stem, Names.suffix, Names.unless_bad, Names.word, PartLaws.after_first_none, PartLaws.after_first_put, PartLaws.after_last_put, PartLaws.all_append, PartLaws.all_drop, PartLaws.all_take, PartLaws.any_fails, PartLaws.before_first_all, PartLaws.before_first_fails, PartLaws.before_first_put, PartLaws.before_last_put, PartLaws.find_passes, PartLaws.none_passes, PartLaws.place_within, PartLaws.position_none, PartLaws.split_at_last}
+use Rattle.std.proofs.Common.{if◌then◌else◌, ◌++◌, ◌-◌, ◌<◌, ◌||◌, ◌↔◌, ◌∷◌, ◌≡◌, ◌≤◌, ◌⊎◌}
+use Rattle.unit_name.specs.Prelude.{[], after_first, and_from, and_parts, ap, append-nil, append_assoc, arith, before_first, Bool, bytes_eq, bytes_eq-Decides, cases_lt, cond, cond-false, cond-true, cond_some, Decides, drop, eq_by_cmp, eqb-true, Equal, Err, false, Greater, inl, inr, is_eq, is_none, is_ok, IsAntisymmetric, le-leb, le-ltb, leb, leb-true, length, length-append, Less, List, list_all, list_all-append, list_any, list_any-append, ltb, ltb-false, nat_cmp-IsAntisymmetric, nat_list_cmp_total, None, none-some, not, not-false, not-true, Ok, Option, or_from, or_parts, or_right, Ordering, passes_at_first, refl, Result, same_Some, slice_cmp-IsAntisymmetric, Some, split_at_first, subst, suffix_len, sym, take_while-cons, tied_itself, true, true≢false, ℕ, ◌∙◌}
+use Rattle.unit_name.specs.{declared.{kinds.Kind.{Kind, TheVariants.{Automount, Device, Mount, Path, Scope, Service, Slice, Socket, Swap, Target, Timer}}, names.{NameFault.{NameFault, TheVariants.{EmptyPrefix, Kind as NoKind, Length}}, Shape.{Shape, TheVariants.{Instance, Plain, Template}}}}, Forms.{if_short, instance_at, instance_name, is_instance, name_with, template_at, template_name, template_of, with_instance}, Names.{bad_place, instance, is_at, is_dot, is_empty, is_name_byte, IsName, kind, kind_of, kinds, Name, name_cmp, name_of, prefix, shape, stem, suffix, unless_bad, word}, PartLaws.{after_first_none, after_first_put, after_last_put, all_append, all_drop, all_take, any_fails, before_first_all, before_first_fails, before_first_put, before_last_put, find_passes, none_passes, place_within, position_none, split_at_last}}
 
 -- a stem may begin like this: it isn't empty and its first byte isn't an at sign
 abbrev pub begins_well : List ℕ → Bool

@@ -1,14 +1,8 @@
 -- The parts of a unit name, and which bytes form a name. A name is its bytes.
 -- Source: systemd.unit(5), "Description"; the order of the faults is this project's own.
-use Rattle.std.proofs.Common.{[], ◌==◌, ◌||◌, ◌∷◌, ◌≡◌, Bool, codes, Err, false, if◌then◌else◌, is_none, is_ok, IsTrue, length, List, nat_lt, None, not, Ok, Option, position, Result, Some, true, ℕ}
-use Rattle.std.specs.Char.{is_ascii_alphanumeric}
-use Rattle.std.specs.Cmp.Lexicographic.{slice_cmp}
-use Rattle.std.specs.List.{after_first, after_last, before_first, before_last, list_any}
-use Rattle.std.specs.Ordering.{nat_cmp}
-use Rattle.std.specs.Prelude.{find, IsOk}
-use Rattle.std.specs.Str.{bytes_eq}
-use Rattle.std.specs.declared.cmp.Ordering.{Ordering}
-use Rattle.unit_name.specs.{declared.kinds.Kind.Kind, declared.kinds.Kind.TheVariants.Automount, declared.kinds.Kind.TheVariants.Device, declared.kinds.Kind.TheVariants.Mount, declared.kinds.Kind.TheVariants.Path, declared.kinds.Kind.TheVariants.Scope, declared.kinds.Kind.TheVariants.Service, declared.kinds.Kind.TheVariants.Slice, declared.kinds.Kind.TheVariants.Socket, declared.kinds.Kind.TheVariants.Swap, declared.kinds.Kind.TheVariants.Target, declared.kinds.Kind.TheVariants.Timer, declared.names.NameFault.NameFault, declared.names.NameFault.TheVariants.BadByte, declared.names.NameFault.TheVariants.EmptyPrefix, declared.names.NameFault.TheVariants.Kind as NoKind, declared.names.NameFault.TheVariants.Length, declared.names.NameFault.TheVariants.Memory, declared.names.Shape.Shape, declared.names.Shape.TheVariants.Instance, declared.names.Shape.TheVariants.Plain, declared.names.Shape.TheVariants.Template}
+use Rattle.std.proofs.Common.{if◌then◌else◌, ◌==◌, ◌||◌, ◌∷◌, ◌≡◌}
+use Rattle.unit_name.specs.Prelude.{[], after_first, after_last, before_first, before_last, Bool, bytes_eq, codes, Err, false, find, is_ascii_alphanumeric, is_none, is_ok, IsOk, IsTrue, length, List, list_any, nat_cmp, nat_lt, None, not, Ok, Option, Ordering, position, Result, slice_cmp, Some, true, ℕ}
+use Rattle.unit_name.specs.declared.{kinds.Kind.{Kind, TheVariants.{Automount, Device, Mount, Path, Scope, Service, Slice, Socket, Swap, Target, Timer}}, names.{NameFault.{NameFault, TheVariants.{BadByte, EmptyPrefix, Kind as NoKind, Length, Memory}}, Shape.{Shape, TheVariants.{Instance, Plain, Template}}}}
 
 abbrev pub Name : Type 0
 Name = List ℕ

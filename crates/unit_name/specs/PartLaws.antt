@@ -1,11 +1,6 @@
 -- The parts of bytes before and after the first or last byte that passes a test.
-use Rattle.std.proofs.Common.{[], ◌&&◌, ◌++◌, ◌+◌, ◌-◌, ◌<◌, ◌||◌, ◌∙◌, ◌∷◌, ◌≡◌, ap, append_assoc, arith, Bool, cond, drop, false, get_or, length, length-append, List, lt-ltb, ltb, None, not, position, refl, reverse, Some, suc, sym, take, true, zero, ℕ}
-use Rattle.std.proofs.lemmas.Bool.{and_from, and_parts, cond-true, ltb-true, or_parts}
-use Rattle.std.proofs.lemmas.List.{drop_all, drop_more, get_or-reverse, length-reverse, reverse-append, take-append-drop, take_all}
-use Rattle.std.proofs.lemmas.List.Sums.{prefix_len_stops, take_while-cons}
-use Rattle.std.proofs.lemmas.Option.{none-some, same_Some}
-use Rattle.std.specs.List.{after_first, after_last, before_first, before_last, list_all, list_any, position_or_len, prefix_len, suffix_len}
-use Rattle.std.specs.Prelude.{find}
+use Rattle.std.proofs.Common.{◌&&◌, ◌++◌, ◌+◌, ◌-◌, ◌<◌, ◌||◌, ◌∷◌, ◌≡◌}
+use Rattle.unit_name.specs.Prelude.{[], after_first, after_last, and_from, and_parts, ap, append_assoc, arith, before_first, before_last, Bool, cond, cond-true, drop, drop_all, drop_more, false, find, get_or, get_or-reverse, length, length-append, length-reverse, List, list_all, list_any, lt-ltb, ltb, ltb-true, None, none-some, not, or_parts, position, position_or_len, prefix_len, prefix_len_stops, refl, reverse, reverse-append, same_Some, Some, suc, suffix_len, sym, take, take-append-drop, take_all, take_while-cons, true, zero, ℕ, ◌∙◌}
 
 -- the first byte that fails ends the passing prefix
 stops : (q : ℕ → Bool) (u : List ℕ) (d : ℕ) (w : List ℕ) → list_all q u ≡ true → q d ≡ false → prefix_len q (u ++ d ∷ w) ≡ length u

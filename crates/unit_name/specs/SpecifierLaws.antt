@@ -1,8 +1,6 @@
 -- Laws of expansion.
-use Rattle.std.proofs.Common.{[], ◌++◌, ◌==◌, ◌∙◌, ◌∷◌, ◌≡◌, ap, append-nil, Bool, false, List, None, Option, refl, Some, sym, ℕ}
-use Rattle.std.proofs.lemmas.Bool.{cond-false, or_parts}
-use Rattle.std.specs.List.{list_any}
-use Rattle.unit_name.specs.{Names.Name, Specifiers.expand, Specifiers.put_before, Specifiers.specifier}
+use Rattle.std.proofs.Common.{◌++◌, ◌==◌, ◌∷◌, ◌≡◌}
+use Rattle.unit_name.specs.{Names.{Name}, Prelude.{[], ap, append-nil, Bool, cond-false, false, List, list_any, None, Option, or_parts, refl, Some, sym, ℕ, ◌∙◌}, Specifiers.{expand, put_before, specifier}}
 
 abbrev pub is_percent : ℕ → Bool
 is_percent b = b == 37

@@ -1,8 +1,8 @@
 -- Values with the specifiers of a unit's name.
 -- Source: systemd.unit(5), "Specifiers", those of the unit's name; what stays as written is this project's own.
-use Rattle.std.proofs.Common.{[], ◌++◌, ◌==◌, ◌∷◌, ◌≡◌, Bool, if◌then◌else◌, IsSome, List, None, Option, Some, ℕ}
-use Rattle.std.specs.List.{after_last}
-use Rattle.unit_name.specs.{declared.specifiers.ExpandFault.ExpandFault, declared.specifiers.ExpandFault.TheVariants.BadEscape, declared.specifiers.ExpandFault.TheVariants.Memory, Escapes.unescape, Names.instance, Names.Name, Names.prefix, Names.stem}
+use Rattle.std.proofs.Common.{if◌then◌else◌, ◌++◌, ◌==◌, ◌∷◌, ◌≡◌}
+use Rattle.unit_name.specs.Prelude.{[], after_last, Bool, IsSome, List, None, Option, Some, ℕ}
+use Rattle.unit_name.specs.{declared.specifiers.ExpandFault.{ExpandFault, TheVariants.{BadEscape, Memory}}, Escapes.{unescape}, Names.{instance, Name, prefix, stem}}
 
 abbrev pub is_dash : ℕ → Bool
 is_dash b = b == 45

@@ -1,6 +1,6 @@
 -- Loads of stores, and what they are made from.
-use Rattle.std.proofs.Common.{◌↔◌, ◌∙◌, ◌≡◌, ◌≢◌, ◌⊎◌, inl, inr, List, subst, sym}
-use Rattle.worked_answers.proofs.Prelude.{changed_or_same, EntryMap, host_view_of, IsAmong, IsBefore, IsLoad, LoadMap, Name, one_viewer, PlaceParts, Viewer, visible_at}
+use Rattle.std.proofs.Common.{◌↔◌, ◌≡◌, ◌≢◌, ◌⊎◌}
+use Rattle.worked_answers.proofs.Prelude.{changed_or_same, EntryMap, host_view_of, inl, inr, IsAmong, IsBefore, IsLoad, List, LoadMap, Name, one_viewer, PlaceParts, subst, sym, Viewer, visible_at, ◌∙◌}
 
 -- a load is one for its own host, with its own names asked for
 pub own_load : (s : EntryMap) (host : Viewer) (extra : List Name) (load : LoadMap) → IsLoad (host_view_of s host) extra load → IsLoad (host_view_of s load.host) load.extra load

@@ -1,8 +1,6 @@
 -- Nodes are cut into chunks from the end: what is left before each cut, and what a chunk gets.
-use Rattle.std.proofs.Common.{[], ◌++◌, ◌+◌, ◌-◌, ◌/◌, ◌<◌, ◌∙◌, ◌∷◌, ◌≡◌, ◌≤◌, add-one, ap, append_assoc, arith, drop, length, List, subst, suc, sym, take, zero, ℕ}
-use Rattle.std.proofs.Math.Nat.{le-div_iff_mul-le, le-mul_of_pos_right, mul-div-le, suc-mul}
-use Rattle.std.proofs.lemmas.List.{take-append-drop}
-use Rattle.std.specs.List.{range_with_len}
+use Rattle.std.proofs.Common.{◌++◌, ◌+◌, ◌-◌, ◌/◌, ◌<◌, ◌∷◌, ◌≡◌, ◌≤◌}
+use Rattle.worker_rounds.proofs.Prelude.{[], add-one, ap, append_assoc, arith, drop, le-div_iff_mul-le, le-mul_of_pos_right, length, List, mul-div-le, range_with_len, subst, suc, suc-mul, sym, take, take-append-drop, zero, ℕ, ◌∙◌}
 
 -- where no more chunks are still to be cut than nodes are left, the next chunk isn't empty
 pub some_in_chunk : (nodes left : ℕ) → 0 < left → left ≤ nodes → 0 < nodes / left

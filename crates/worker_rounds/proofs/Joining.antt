@@ -1,11 +1,6 @@
 -- Results put together, and what was loaded of chunks.
-use Rattle.std.proofs.Common.{[], ◌++◌, ◌<◌, ◌∙◌, ◌∷◌, ◌≡◌, All, ap, append-nil, arith, get_or, IfOk, length, List, map, Ok, refl, Result, subst, suc, sym, ℕ}
-use Rattle.std.proofs.lemmas.Grind.{flat_map-append}
-use Rattle.std.proofs.lemmas.List.{length-map, map-append}
-use Rattle.std.proofs.lemmas.List.Elements.{All-cons, All-head, All-nil, All-tail}
-use Rattle.std.specs.Global.{Vec}
-use Rattle.std.specs.List.{flat_map}
-use Rattle.worker_rounds.proofs.Prelude.{AreLoads, IsJoined, loads_append, loads_none}
+use Rattle.std.proofs.Common.{◌++◌, ◌<◌, ◌∷◌, ◌≡◌}
+use Rattle.worker_rounds.proofs.Prelude.{[], All, All-cons, All-head, All-nil, All-tail, ap, append-nil, AreLoads, arith, flat_map, flat_map-append, get_or, IfOk, IsJoined, length, length-map, List, loads_append, loads_none, map, map-append, Ok, refl, Result, subst, suc, sym, Vec, ℕ, ◌∙◌}
 
 module _ {X E : Type 0} where
   pub joined_none : IsJoined {X = X} {E = E} [] []

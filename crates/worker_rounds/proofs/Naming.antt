@@ -1,13 +1,6 @@
 -- What is named in the parts of what a round loaded, put together.
-use Rattle.std.proofs.Common.{[], ◌%◌, ◌*◌, ◌+◌, ◌/◌, ◌<◌, ◌∙◌, ◌∷◌, ◌≡◌, ◌≤◌, All, ap, arith, drop, get_or, IfOk, length, List, map, min, Ok, refl, Result, subst, suc, sym, take, zero, ℕ}
-use Rattle.std.proofs.Math.Nat.{div-add-mod, lt-div-mul-add, suc-mul, zero-mul}
-use Rattle.std.proofs.lemmas.Grind.{flat_map-append}
-use Rattle.std.proofs.lemmas.List.{drop-drop, length-drop, length-map, take-append-drop}
-use Rattle.std.proofs.lemmas.List.Elements.{All-append, All-cons, All-drop, All-head, All-map, All-nil, All-tail, All-take}
-use Rattle.std.specs.Global.{Vec}
-use Rattle.std.specs.List.{flat_map}
-use Rattle.std.specs.Map.{keys_of}
-use Rattle.worker_rounds.proofs.Prelude.{AreOthers, IsJoined, others_append, others_none}
+use Rattle.std.proofs.Common.{◌%◌, ◌*◌, ◌+◌, ◌/◌, ◌<◌, ◌∷◌, ◌≡◌, ◌≤◌}
+use Rattle.worker_rounds.proofs.Prelude.{[], All, All-append, All-cons, All-drop, All-head, All-map, All-nil, All-tail, All-take, ap, AreOthers, arith, div-add-mod, drop, drop-drop, flat_map, flat_map-append, get_or, IfOk, IsJoined, keys_of, length, length-drop, length-map, List, lt-div-mul-add, map, min, Ok, others_append, others_none, refl, Result, subst, suc, suc-mul, sym, take, take-append-drop, Vec, zero, zero-mul, ℕ, ◌∙◌}
 
 -- this many parts of a size cover everything
 pub parts_cover : (n size : ℕ) → 0 < size → n ≤ (n / size + min 1 (n % size)) * size

@@ -1,9 +1,7 @@
 -- Lists cut into chunks, and what is made of the chunks.
 -- Source: this project's own.
-use Rattle.std.proofs.Common.{◌<◌, ◌≡◌, All, length, List, map, min, Result, ℕ}
-use Rattle.std.specs.Global.{Vec}
-use Rattle.std.specs.List.{flat_map, range_with_len}
-use Rattle.worker_rounds.specs.{declared.chunks.Chunk.Chunk, Joined.IsJoined}
+use Rattle.std.proofs.Common.{◌<◌, ◌≡◌}
+use Rattle.worker_rounds.specs.{declared.chunks.Chunk.{Chunk}, Joined.{IsJoined}, Prelude.{All, flat_map, length, List, map, min, range_with_len, Result, Vec, ℕ}}
 
 -- the chunks of some nodes for this many workers: none is empty, there are as many as the lesser of the workers and the
 -- nodes, and they are numbered from 0

@@ -1,7 +1,6 @@
 -- What an error of a load by workers says.
 -- Source: this project's own.
-use Rattle.worker_rounds.specs.Prelude.{ClosureFault}
-use Rattle.worker_rounds.specs.{declared.faults.RoundFault.RoundFault, declared.faults.RoundFault.TheVariants.Memory, declared.faults.RoundFault.TheVariants.TooMany, declared.faults.RoundFault.TheVariants.Workers}
+use Rattle.worker_rounds.specs.{declared.faults.RoundFault.{RoundFault, TheVariants.{Memory, TooMany, Workers}}, Prelude.{ClosureFault}}
 use Rattle.name_closure.specs.declared.loads.ClosureFault.TheVariants as one_thread
 
 -- an error of one thread, as an error of a load by workers

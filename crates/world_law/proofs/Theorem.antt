@@ -1,7 +1,6 @@
 -- The theorem for complete lists of events.
-use Rattle.std.proofs.Common.{[], ◌++◌, ◌↔◌, ◌∙◌, ◌∷◌, ◌≡◌, cond, false, inl, inr, List, nat_lt, None, Option, refl, slice_get, Some, subst, sym, true, ℕ}
-use Rattle.std.specs.Prelude.{IfSome}
-use Rattle.world_law.proofs.Prelude.{after, after_keeps, AreSameEdits, Ask, blank, blank_sound, Cut, EachStoreIsItsSum, EachStoreIsLeast, Edit, EntryMap, Event, Give, IsAboveEdits, IsAmong, IsHonest, IsSound, IsStoreBelow, Node, Put, puts_of, SameTookSameStore, sum_of-least, sum_of-same_edits}
+use Rattle.std.proofs.Common.{◌++◌, ◌↔◌, ◌∷◌, ◌≡◌}
+use Rattle.world_law.proofs.Prelude.{[], after, after_keeps, AreSameEdits, Ask, blank, blank_sound, cond, Cut, EachStoreIsItsSum, EachStoreIsLeast, Edit, EntryMap, Event, false, Give, IfSome, inl, inr, IsAboveEdits, IsAmong, IsHonest, IsSound, IsStoreBelow, List, nat_lt, Node, None, Option, Put, puts_of, refl, SameTookSameStore, slice_get, Some, subst, sum_of-least, sum_of-same_edits, sym, true, ℕ, ◌∙◌}
 
 pub IfSome_from : (o : Option Node) (P : Node → Type 0) → ((n : Node) → o ≡ Some n → P n) → IfSome o P
 IfSome_from None P h = tt

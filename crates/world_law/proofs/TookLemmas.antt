@@ -1,9 +1,7 @@
 -- The list of what a node took has the same members as the relation `Took`.
-use Rattle.std.proofs.Common.{[], ◌++◌, ◌<◌, ◌==◌, ◌↔◌, ◌∙◌, ◌∷◌, ◌≡◌, ◌≤◌, ◌⊎◌, ap, append-nil, append_assoc, arith, Bool, cond, false, filter, inl, inr, IsSome, length, List, None, Option, refl, replicate, reverse, slice_get, Some, subst, suc, sym, true, zero, ℕ}
-use Rattle.std.proofs.lemmas.Grind.{reverse_onto}
-use Rattle.std.specs.Prelude.{IfSome}
+use Rattle.std.proofs.Common.{◌++◌, ◌<◌, ◌==◌, ◌↔◌, ◌∷◌, ◌≡◌, ◌≤◌, ◌⊎◌}
 use borrow.Author.Tests.{eq-eqb, eqb-true}
-use Rattle.world_law.proofs.Prelude.{after, Ask, Asked, asked_by, at_places, blank, changed_at, Cut, cut, cut_for, Edit, edit_of, edits_of, edits_with, Entry, entry, entry_of, EntryMap, Event, EventWorld, get-sum_of, Give, given_to, greatest_at-above, greatest_at-found, HoldsTheSum, is_asked, IsAmong, IsAmong-append_cases, IsAmong-append_left, IsAmong-append_right, IsAmong_from_filter, IsAskOf, IsBelow, IsSumOf, Node, node_count, Piece, piece_stays, PlaceParts, Put, put, slice_get_last, stays, sum_of, taken, Took, took, took_by, took_stays, TookByEvents, WasCut, whole, world_of}
+use Rattle.world_law.proofs.Prelude.{[], after, ap, append-nil, append_assoc, arith, Ask, Asked, asked_by, at_places, blank, Bool, changed_at, cond, Cut, cut, cut_for, Edit, edit_of, edits_of, edits_with, Entry, entry, entry_of, EntryMap, Event, EventWorld, false, filter, get-sum_of, Give, given_to, greatest_at-above, greatest_at-found, HoldsTheSum, IfSome, inl, inr, is_asked, IsAmong, IsAmong-append_cases, IsAmong-append_left, IsAmong-append_right, IsAmong_from_filter, IsAskOf, IsBelow, IsSome, IsSumOf, length, List, Node, node_count, None, Option, Piece, piece_stays, PlaceParts, Put, put, refl, replicate, reverse, reverse_onto, slice_get, slice_get_last, Some, stays, subst, suc, sum_of, sym, taken, Took, took, took_by, took_stays, TookByEvents, true, WasCut, whole, world_of, zero, ℕ, ◌∙◌}
 use Rattle.world_law.proofs.Theorem.{each_store_is_its_sum, IfSome_from}
 use Rattle.std.specs.FinMap as finmap
 

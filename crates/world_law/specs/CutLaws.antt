@@ -1,10 +1,6 @@
 -- What asks and cuts hold at a place.
-use Rattle.std.proofs.Common.{[], ◌++◌, ◌∙◌, ◌∷◌, ◌≡◌, ap, Bool, cond, false, List, map, None, Option, refl, Some, subst, sym, true}
-use Rattle.std.specs.FinMap.{find}
-use Rattle.std.specs.Option.{option_map}
-use Rattle.std.specs.Ordering.{eq_by_cmp, is_gt, ordering_then}
-use Rattle.std.specs.declared.cmp.Ordering.TheVariants.{Equal, Greater, Less}
-use Rattle.world_law.specs.Prelude.{below_refl, content_cmp, Edit, edit_of, edits_of, edits_of-found, Entry, entry_of, EntryMap, get-join, get-sum_of, greatest_at, greatest_at-filter, IsAmong-append_left, IsAmong-append_right, IsBelow, IsHonest, join, larger, larger-absorb, passed, passed_was, place_cmp, place_cmp_total, PlaceParts, same_store, tied, version_cmp, version_cmp-IsAntisymmetric}
+use Rattle.std.proofs.Common.{◌++◌, ◌∷◌, ◌≡◌}
+use Rattle.world_law.specs.Prelude.{[], ap, below_refl, Bool, cond, content_cmp, Edit, edit_of, edits_of, edits_of-found, Entry, entry_of, EntryMap, eq_by_cmp, Equal, false, find, get-join, get-sum_of, Greater, greatest_at, greatest_at-filter, is_gt, IsAmong-append_left, IsAmong-append_right, IsBelow, IsHonest, join, larger, larger-absorb, Less, List, map, None, Option, option_map, ordering_then, passed, passed_was, place_cmp, place_cmp_total, PlaceParts, refl, same_store, Some, subst, sym, tied, true, version_cmp, version_cmp-IsAntisymmetric, ◌∙◌}
 use Rattle.world_law.specs.Cuts.{at_places, cut, digest_of, is_asked, is_newer, is_wanted, only_at, VersionMap}
 use Rattle.std.specs.FinMap as finmap
 

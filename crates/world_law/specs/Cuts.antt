@@ -1,10 +1,7 @@
 -- Asks, and the cuts that answer them.
 -- Source: Digests and deltas, after Almeida, Shoker, Baquero 2018; which entries a cut has is this project's own.
-use Rattle.std.proofs.Common.{◌&&◌, Bool, filter, List, map, None, Option, Some, true}
-use Rattle.std.specs.FinMap.{FinMap}
-use Rattle.std.specs.List.{list_any}
-use Rattle.std.specs.Ordering.{eq_by_cmp, is_gt}
-use Rattle.world_law.specs.Prelude.{Edit, edits_of, EntryMap, place_cmp, PlaceParts, sum_of, Version, version_cmp}
+use Rattle.std.proofs.Common.{◌&&◌}
+use Rattle.world_law.specs.Prelude.{Bool, Edit, edits_of, EntryMap, eq_by_cmp, filter, FinMap, is_gt, List, list_any, map, None, Option, place_cmp, PlaceParts, Some, sum_of, true, Version, version_cmp}
 use Rattle.std.specs.FinMap as finmap
 
 -- an ask: at most one version at each place

@@ -1,11 +1,8 @@
 -- Invariants that each event keeps.
-use Rattle.std.proofs.Common.{[], ◌&&◌, ◌++◌, ◌<◌, ◌==◌, ◌∙◌, ◌∷◌, ◌≡◌, ◌⊎◌, ap, arith, Bool, cond, false, inl, inr, length, List, nat_lt, None, Option, refl, replicate, slice_get, Some, subst, suc, sym, true, zero, ℕ}
-use Rattle.std.proofs.lemmas.Option.{slice_get_within}
-use Rattle.std.specs.Option.{option_map}
-use Rattle.std.specs.Ordering.{is_gt}
+use Rattle.std.proofs.Common.{◌&&◌, ◌++◌, ◌<◌, ◌==◌, ◌∷◌, ◌≡◌, ◌⊎◌}
 use borrow.Author.Tests.{eqb-true, lt-ltb}
-use Rattle.world_law.specs.Prelude.{below_refl, below_trans, Edit, edit_of, edits_of, Entry, entry_of, EntryMap, get-join, get-sum_of, get_from_edits_of, greatest_at, greatest_at-append, greatest_at-edits_of, greatest_at-found, IsAmong, IsAmong-append_cases, IsAmong_from_filter, IsBelow, IsStoreBelow, join, join-left, larger, larger-absorb, larger-left, larger-mono, larger_assoc, larger_comm, passed, PlaceParts, same_store, sum_of, sum_of-append, sum_of-edits_of, Version, version_cmp}
-use Rattle.world_law.specs.{CutLaws.get-cut, CutLaws.get-digest_of, CutLaws.get_from_cut, CutLaws.greatest_at-at_places, CutLaws.not_greater, Cuts.at_places, Cuts.cut, Cuts.digest_of, Cuts.is_asked, Cuts.is_newer, Cuts.is_wanted, Cuts.VersionMap, declared.events.Event.Event, declared.events.Event.TheVariants.Ask, declared.events.Event.TheVariants.Cut, declared.events.Event.TheVariants.Give, declared.events.Event.TheVariants.Put, Worlds.after, Worlds.Asked, Worlds.asked_by, Worlds.blank, Worlds.changed_at, Worlds.cut_for, Worlds.edits_with, Worlds.EventWorld, Worlds.given_to, Worlds.happens, Worlds.Node, Worlds.Piece, Worlds.puts_of, Worlds.taken}
+use Rattle.world_law.specs.Prelude.{[], ap, arith, below_refl, below_trans, Bool, cond, Edit, edit_of, edits_of, Entry, entry_of, EntryMap, false, get-join, get-sum_of, get_from_edits_of, greatest_at, greatest_at-append, greatest_at-edits_of, greatest_at-found, inl, inr, is_gt, IsAmong, IsAmong-append_cases, IsAmong_from_filter, IsBelow, IsStoreBelow, join, join-left, larger, larger-absorb, larger-left, larger-mono, larger_assoc, larger_comm, length, List, nat_lt, None, Option, option_map, passed, PlaceParts, refl, replicate, same_store, slice_get, slice_get_within, Some, subst, suc, sum_of, sum_of-append, sum_of-edits_of, sym, true, Version, version_cmp, zero, ℕ, ◌∙◌}
+use Rattle.world_law.specs.{CutLaws.{get-cut, get-digest_of, get_from_cut, greatest_at-at_places, not_greater}, Cuts.{at_places, cut, digest_of, is_asked, is_newer, is_wanted, VersionMap}, declared.events.Event.{Event, TheVariants.{Ask, Cut, Give, Put}}, Worlds.{after, Asked, asked_by, blank, changed_at, cut_for, edits_with, EventWorld, given_to, happens, Node, Piece, puts_of, taken}}
 use Rattle.std.specs.FinMap as finmap
 
 -- Lists.

@@ -1,9 +1,8 @@
 -- What a node took, defined from the events alone.
 -- Source (causal history): Shapiro, Preguica, Baquero, Zawirski 2011.
-use Rattle.std.proofs.Common.{[], ◌++◌, ◌<◌, ◌↔◌, ◌∷◌, ◌≡◌, IsSome, length, List, Option, reverse, slice_get, Some, true, ℕ}
-use Rattle.std.specs.Prelude.{IfSome}
-use Rattle.world_law.specs.Prelude.{Edit, edit_of, edits_of, Entry, entry_of, EntryMap, IsAmong, IsBelow, IsHonest, PlaceParts}
-use Rattle.world_law.specs.{Cuts.is_asked, declared.events.Event.Event, declared.events.Event.TheVariants.Cut, declared.events.Event.TheVariants.Give, declared.events.Event.TheVariants.Put, Worlds.after, Worlds.Asked, Worlds.blank, Worlds.EventWorld, Worlds.happens, Worlds.Piece, Worlds.puts_of, Worlds.took}
+use Rattle.std.proofs.Common.{◌++◌, ◌<◌, ◌↔◌, ◌∷◌, ◌≡◌}
+use Rattle.world_law.specs.Prelude.{[], Edit, edit_of, edits_of, Entry, entry_of, EntryMap, IfSome, IsAmong, IsBelow, IsHonest, IsSome, length, List, Option, PlaceParts, reverse, slice_get, Some, true, ℕ}
+use Rattle.world_law.specs.{Cuts.{is_asked}, declared.events.Event.{Event, TheVariants.{Cut, Give, Put}}, Worlds.{after, Asked, blank, EventWorld, happens, Piece, puts_of, took}}
 use Rattle.std.specs.FinMap as finmap
 
 -- a world of n nodes after a history, whose newest event comes first

@@ -1,9 +1,7 @@
 -- How a world changes, event by event.
-use Rattle.std.proofs.Common.{[], ◌++◌, ◌<◌, ◌∙◌, ◌∷◌, ◌≡◌, ◌≢◌, ap, arith, inl, inr, length, List, nat_lt, None, Option, refl, replicate, slice_get, Some, subst, suc, sym, true, zero, ℕ}
-use Rattle.std.proofs.lemmas.Bool.{cond-true}
-use Rattle.std.proofs.lemmas.Bool.Decides.{nat_tests}
-use Rattle.world_law.specs.Prelude.{Edit, edits_of, entry_of, EntryMap, get_from_edits_of, IsAmong, IsAmong-append_cases, IsAmong-append_left, IsHonest, join, PlaceParts, sum_of, sum_of-IsSum}
-use Rattle.world_law.specs.{CutLaws.whole_answer, Cuts.at_places, Cuts.cut, Cuts.digest_of, declared.events.Event.Event, declared.events.Event.TheVariants.Ask, declared.events.Event.TheVariants.Cut, declared.events.Event.TheVariants.Give, declared.events.Event.TheVariants.Put, SoundLaws.blank_sound, SoundLaws.happens_keeps, SoundLaws.IsSound, SoundLaws.puts_first, SoundLaws.puts_rest, Took.world_of, Worlds.AreWithin, Worlds.Asked, Worlds.asked_by, Worlds.changed_at, Worlds.cut_for, Worlds.edits_with, Worlds.EventWorld, Worlds.given_to, Worlds.happens, Worlds.Node, Worlds.Piece, Worlds.puts_of, Worlds.taken, Worlds.took, Worlds.took_by, Worlds.with_new_node}
+use Rattle.std.proofs.Common.{◌++◌, ◌<◌, ◌∷◌, ◌≡◌, ◌≢◌}
+use Rattle.world_law.specs.Prelude.{[], ap, arith, cond-true, Edit, edits_of, entry_of, EntryMap, get_from_edits_of, inl, inr, IsAmong, IsAmong-append_cases, IsAmong-append_left, IsHonest, join, length, List, nat_lt, nat_tests, None, Option, PlaceParts, refl, replicate, slice_get, Some, subst, suc, sum_of, sum_of-IsSum, sym, true, zero, ℕ, ◌∙◌}
+use Rattle.world_law.specs.{CutLaws.{whole_answer}, Cuts.{at_places, cut, digest_of}, declared.events.Event.{Event, TheVariants.{Ask, Cut, Give, Put}}, SoundLaws.{blank_sound, happens_keeps, IsSound, puts_first, puts_rest}, Took.{world_of}, Worlds.{AreWithin, Asked, asked_by, changed_at, cut_for, edits_with, EventWorld, given_to, happens, Node, Piece, puts_of, taken, took, took_by, with_new_node}}
 use Rattle.std.specs.FinMap as finmap
 
 -- Nodes.

@@ -1,10 +1,9 @@
 -- Worlds of nodes that put, ask, cut and give.
 -- Source (causal history, and strong eventual consistency): Shapiro, Preguica, Baquero, Zawirski 2011; asks and pieces
 -- after Almeida, Shoker, Baquero 2018.
-use Rattle.std.proofs.Common.{[], ◌++◌, ◌<◌, ◌==◌, ◌↔◌, ◌∷◌, ◌≡◌, if◌then◌else◌, List, nat_lt, None, Option, replicate, slice_get, Some, suc, zero, ℕ}
-use Rattle.std.specs.Prelude.{IfSome}
-use Rattle.world_law.specs.Prelude.{Edit, edits_of, EntryMap, IsAboveEdits, IsAmong, IsHonest, IsStoreBelow, join, PlaceParts, sum_of}
-use Rattle.world_law.specs.{Cuts.at_places, Cuts.cut, Cuts.digest_of, Cuts.VersionMap, declared.events.Event.Event, declared.events.Event.TheVariants.Ask, declared.events.Event.TheVariants.Cut, declared.events.Event.TheVariants.Give, declared.events.Event.TheVariants.Put}
+use Rattle.std.proofs.Common.{if◌then◌else◌, ◌++◌, ◌<◌, ◌==◌, ◌↔◌, ◌∷◌, ◌≡◌}
+use Rattle.world_law.specs.Prelude.{[], Edit, edits_of, EntryMap, IfSome, IsAboveEdits, IsAmong, IsHonest, IsStoreBelow, join, List, nat_lt, None, Option, PlaceParts, replicate, slice_get, Some, suc, sum_of, zero, ℕ}
+use Rattle.world_law.specs.{Cuts.{at_places, cut, digest_of, VersionMap}, declared.events.Event.{Event, TheVariants.{Ask, Cut, Give, Put}}}
 use Rattle.std.specs.FinMap as finmap
 
 -- a node: its store, and the edits that it took

@@ -1,6 +1,4 @@
-use Rattle.std.proofs.Common.{◌∙◌, ap, sym}
-use Rattle.crowds.proofs.Prelude.{Replicated}
-use Rattle.crowds.proofs.Held.{crowd_places_held, crowd_takes}
+use Rattle.crowds.proofs.{Held.{crowd_places_held, crowd_takes}, Prelude.{ap, Replicated, sym, ◌∙◌}}
 use Rattle.std.specs.FinMap as finmap
 use Rattle.crowds.proofs.crowding.crowd_at.Goals as goal
 

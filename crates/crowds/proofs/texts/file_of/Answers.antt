@@ -1,6 +1,4 @@
-use Rattle.std.proofs.Common.{◌∙◌, ap, append_assoc}
-use Rattle.crowds.proofs.Prelude.{File}
-use Rattle.crowds.proofs.Made.{file_is}
+use Rattle.crowds.proofs.{Made.{file_is}, Prelude.{ap, append_assoc, File, ◌∙◌}}
 use Rattle.crowds.proofs.texts.file_of.Goals as goal
 
 pub returns-in-Ok : goal.returns-in-Ok

@@ -1,6 +1,4 @@
-use Rattle.std.proofs.Common.{◌∙◌}
-use Rattle.crowds.proofs.Prelude.{crowd_path}
-use Rattle.crowds.proofs.{Made.path_is, Paths.crowd_text_is_path}
+use Rattle.crowds.proofs.{Made.{path_is}, Paths.{crowd_text_is_path}, Prelude.{crowd_path, ◌∙◌}}
 use Rattle.crowds.proofs.texts.path_of.Goals as goal
 
 pub returns-in-Ok : goal.returns-in-Ok

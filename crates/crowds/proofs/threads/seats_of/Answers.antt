@@ -1,5 +1,4 @@
-use Rattle.std.proofs.Common.{◌∙◌, arith, length-append, sym}
-use Rattle.crowds.proofs.Seated.{fresh_more}
+use Rattle.crowds.proofs.{Prelude.{arith, length-append, sym, ◌∙◌}, Seated.{fresh_more}}
 use Rattle.crowds.proofs.threads.seats_of.Goals as goal
 
 pub loop-worker-preserved : goal.loop-worker-preserved

@@ -1,5 +1,5 @@
-use Rattle.std.proofs.Common.{◌≡◌, length}
-use Rattle.crowds.proofs.Prelude.{AreFresh}
+use Rattle.std.proofs.Common.{◌≡◌}
+use Rattle.crowds.proofs.Prelude.{AreFresh, length}
 use Rattle.crowds.proofs.threads.seats_of.Given as goal
 
 abbrev pub invariant-loop-worker : goal.invariant-loop-worker

@@ -1,7 +1,4 @@
-use Rattle.std.proofs.Common.{rules}
-use Rattle.std.proofs.lemmas.Result.{IfOk-weaker}
-use Rattle.crowds.proofs.Prelude.{AreGathered, HaveWorked}
-use Rattle.crowds.proofs.Seated.{all_worked, none_taken}
+use Rattle.crowds.proofs.{Prelude.{AreGathered, HaveWorked, IfOk-weaker, rules}, Seated.{all_worked, none_taken}}
 use Rattle.crowds.proofs.threads.work_side_by_side.Goals as goal
 
 pub work_all-requires-clause-fresh : goal.work_all-requires-clause-fresh

@@ -1,6 +1,5 @@
-use Rattle.std.proofs.Common.{◌+◌, ◌∙◌, ◌≤◌, ap, List, subst, sym}
-use Rattle.crowds.proofs.Prelude.{crowd_place, HistoryEvent, own_edits}
-use Rattle.crowds.proofs.Own.{own_more}
+use Rattle.std.proofs.Common.{◌+◌, ◌≤◌}
+use Rattle.crowds.proofs.{Own.{own_more}, Prelude.{ap, crowd_place, HistoryEvent, List, own_edits, subst, sym, ◌∙◌}}
 use Rattle.crowds.proofs.workers.edit_once.Goals as goal
 
 pub returns-in-Ok-clause-own : goal.returns-in-Ok-clause-own

@@ -1,6 +1,4 @@
-use Rattle.std.proofs.Common.{ap, refl}
-use Rattle.delta_gossip.proofs.Prelude.{AreBeingJoined, join, join-left, join-right, Replicated, store_below_refl}
-use Rattle.delta_gossip.proofs.Joins.{join_again, joined_again, joined_within, on_err}
+use Rattle.delta_gossip.proofs.{Joins.{join_again, joined_again, joined_within, on_err}, Prelude.{ap, AreBeingJoined, join, join-left, join-right, refl, Replicated, store_below_refl}}
 use Rattle.delta_gossip.proofs.exchanges.exchange.Goals as goal
 
 pub returns-in_err-first-clause-err : goal.returns-in_err-first-clause-err

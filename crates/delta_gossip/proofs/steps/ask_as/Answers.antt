@@ -1,5 +1,5 @@
-use Rattle.std.proofs.Common.{◌≡◌, slice_get, Some}
-use Rattle.delta_gossip.proofs.Shown.{ask_shown, got}
+use Rattle.std.proofs.Common.{◌≡◌}
+use Rattle.delta_gossip.proofs.{Prelude.{slice_get, Some}, Shown.{ask_shown, got}}
 use Rattle.delta_gossip.proofs.steps.ask_as.Goals as goal
 
 pub returns-clause-model : goal.returns-clause-model

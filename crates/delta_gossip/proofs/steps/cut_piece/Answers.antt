@@ -1,5 +1,5 @@
-use Rattle.std.proofs.Common.{◌≡◌, slice_get, Some}
-use Rattle.delta_gossip.proofs.Shown.{cut_shown, got}
+use Rattle.std.proofs.Common.{◌≡◌}
+use Rattle.delta_gossip.proofs.{Prelude.{slice_get, Some}, Shown.{cut_shown, got}}
 use Rattle.delta_gossip.proofs.steps.cut_piece.Goals as goal
 
 pub returns-clause-model : goal.returns-clause-model

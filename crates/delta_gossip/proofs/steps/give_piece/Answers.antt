@@ -1,5 +1,4 @@
-use Rattle.std.proofs.lemmas.Option.{slice_get_past}
-use Rattle.delta_gossip.proofs.Shown.{give_shown, got, no_give_shown, writers_kept}
+use Rattle.delta_gossip.proofs.{Prelude.{slice_get_past}, Shown.{give_shown, got, no_give_shown, writers_kept}}
 use Rattle.delta_gossip.proofs.steps.give_piece.Goals as goal
 
 pub returns-in_default-get_mut-clause-model : goal.returns-in_default-get_mut-clause-model

@@ -1,7 +1,4 @@
-use Rattle.std.proofs.Common.{ap}
-use Rattle.std.proofs.lemmas.Option.{slice_get_past}
-use Rattle.delta_gossip.proofs.Prelude.{Replicated}
-use Rattle.delta_gossip.proofs.Shown.{got, no_put_shown, put_shown, writers_kept}
+use Rattle.delta_gossip.proofs.{Prelude.{ap, Replicated, slice_get_past}, Shown.{got, no_put_shown, put_shown, writers_kept}}
 use Rattle.delta_gossip.proofs.steps.put_edit.Goals as goal
 
 pub returns-in_default-clause-model : goal.returns-in_default-clause-model

@@ -1,4 +1,4 @@
-use Rattle.delta_gossip.proofs.{Joins.on_err, Rounds.gathered_none, Rounds.gathered_refused, Rounds.gathered_step}
+use Rattle.delta_gossip.proofs.{Joins.{on_err}, Rounds.{gathered_none, gathered_refused, gathered_step}}
 use Rattle.delta_gossip.proofs.sweeps.gather.Goals as goal
 
 pub loop-replica-init : goal.loop-replica-init

@@ -1,6 +1,5 @@
 use Rattle.std.proofs.Common.{◌≡◌}
-use Rattle.delta_gossip.proofs.Prelude.{with_store}
-use Rattle.delta_gossip.proofs.Rounds.{gathered}
+use Rattle.delta_gossip.proofs.{Prelude.{with_store}, Rounds.{gathered}}
 use Rattle.delta_gossip.proofs.sweeps.gather.Given as goal
 
 abbrev pub invariant-loop-replica : goal.invariant-loop-replica

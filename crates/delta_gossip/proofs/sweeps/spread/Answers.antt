@@ -1,4 +1,4 @@
-use Rattle.delta_gossip.proofs.{Joins.on_err, Rounds.spread_refused, Rounds.spread_step}
+use Rattle.delta_gossip.proofs.{Joins.{on_err}, Rounds.{spread_refused, spread_step}}
 use Rattle.delta_gossip.proofs.sweeps.spread.Goals as goal
 
 pub loop-replica-preserved : goal.loop-replica-preserved

@@ -1,6 +1,5 @@
 use Rattle.std.proofs.Common.{◌∷◌}
-use Rattle.std.proofs.lemmas.Result.{on_err_weaker}
-use Rattle.delta_gossip.proofs.{Joins.on_err, Rounds.swept_again, Rounds.swept_below, Rounds.swept_first, Rounds.swept_second}
+use Rattle.delta_gossip.proofs.{Joins.{on_err}, Prelude.{on_err_weaker}, Rounds.{swept_again, swept_below, swept_first, swept_second}}
 use Rattle.delta_gossip.proofs.sweeps.sweep.Goals as goal
 
 pub returns-in_err-gather-in-Some-clause-between : goal.returns-in_err-gather-in-Some-clause-between

@@ -1,5 +1,5 @@
-use Rattle.std.proofs.Common.{◌∙◌, ◌≡◌, ap, arith, length, replicate, ℕ}
-use Rattle.delta_gossip.proofs.Runs.{blank_shown}
+use Rattle.std.proofs.Common.{◌≡◌}
+use Rattle.delta_gossip.proofs.{Prelude.{ap, arith, length, replicate, ℕ, ◌∙◌}, Runs.{blank_shown}}
 use Rattle.std.specs.FinMap as finmap
 use Rattle.delta_gossip.proofs.worlds.begin.Goals as goal
 

@@ -1,4 +1,5 @@
-use Rattle.std.proofs.Common.{◌≡◌, map, replicate, take}
+use Rattle.std.proofs.Common.{◌≡◌}
+use Rattle.delta_gossip.proofs.Prelude.{map, replicate, take}
 use Rattle.std.specs.FinMap as finmap
 use Rattle.delta_gossip.proofs.worlds.begin.Given as goal
 

@@ -1,7 +1,5 @@
-use Rattle.std.proofs.Common.{◌++◌, ◌∙◌, ◌≡◌, length, List, reverse, subst}
-use Rattle.std.proofs.lemmas.List.{take_all}
-use Rattle.delta_gossip.proofs.Prelude.{blank, Event, IsSumOf, IsWorld, sum_of, Took, took, world_after}
-use Rattle.delta_gossip.proofs.Runs.{after_more, agree_shown, each_shown, same_shown}
+use Rattle.std.proofs.Common.{◌++◌, ◌≡◌}
+use Rattle.delta_gossip.proofs.{Prelude.{blank, Event, IsSumOf, IsWorld, length, List, reverse, subst, sum_of, take_all, Took, took, world_after, ◌∙◌}, Runs.{after_more, agree_shown, each_shown, same_shown}}
 use Rattle.delta_gossip.proofs.worlds.run_world.Goals as goal
 
 pub loop-event-preserved : goal.loop-event-preserved

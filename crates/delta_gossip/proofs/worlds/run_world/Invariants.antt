@@ -1,5 +1,5 @@
-use Rattle.std.proofs.Common.{◌≡◌, length, map, take}
-use Rattle.delta_gossip.proofs.Prelude.{IsWorld, world_after}
+use Rattle.std.proofs.Common.{◌≡◌}
+use Rattle.delta_gossip.proofs.Prelude.{IsWorld, length, map, take, world_after}
 use Rattle.delta_gossip.proofs.worlds.run_world.Given as goal
 
 abbrev pub invariant-loop-event : goal.invariant-loop-event

@@ -1,6 +1,5 @@
-use Rattle.std.proofs.Common.{◌∙◌, ◌≡◌, ap, map}
-use Rattle.delta_pieces.proofs.Prelude.{Entry}
-use Rattle.delta_pieces.proofs.{HostViews.versions_are_digest, Orders.entries_ascend, Orders.map_ascends}
+use Rattle.std.proofs.Common.{◌≡◌}
+use Rattle.delta_pieces.proofs.{HostViews.{versions_are_digest}, Orders.{entries_ascend, map_ascends}, Prelude.{ap, Entry, map, ◌∙◌}}
 use Rattle.std.specs.FinMap as finmap
 use Rattle.delta_pieces.proofs.asks.digest.Goals as goal
 

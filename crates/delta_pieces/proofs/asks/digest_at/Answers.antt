@@ -1,10 +1,7 @@
-use Rattle.std.proofs.Common.{◌+◌, ◌∙◌, ◌≡◌, ap, IsTrue, List, Some, subst, sym, take}
-use Rattle.std.proofs.lemmas.List.{take_all}
-use Rattle.std.specs.FinMap.Entries.{is_sorted}
-use Rattle.delta_pieces.proofs.Prelude.{cut, digest_of, only_at, place_cmp, PlaceParts, Version}
-use Rattle.delta_pieces.proofs.AtPlaces.{put_ascends, recorded_is_digest, Records, records_past, records_with, same_cut}
+use Rattle.std.proofs.Common.{◌+◌, ◌≡◌}
+use Rattle.delta_pieces.proofs.Prelude.{ap, cut, digest_of, is_sorted, IsTrue, List, only_at, place_cmp, PlaceParts, Some, subst, sym, take, take_all, Version, ◌∙◌}
+use Rattle.delta_pieces.proofs.{asks.digest_at.Goals.{in-Some+in_ok-put_version, in_default}, AtPlaces.{put_ascends, recorded_is_digest, Records, records_past, records_with, same_cut}}
 use Rattle.delta_pieces.proofs.asks.digest_at.Goals as goal
-use Rattle.delta_pieces.proofs.asks.digest_at.Goals.{in-Some+in_ok-put_version, in_default}
 
 pub loop-place-preserved : goal.loop-place-preserved
 loop-place-preserved c =

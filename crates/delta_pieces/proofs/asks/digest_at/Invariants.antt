@@ -1,7 +1,4 @@
-use Rattle.std.proofs.Common.{IsTrue, take}
-use Rattle.std.specs.FinMap.Entries.{is_sorted}
-use Rattle.delta_pieces.proofs.Prelude.{place_cmp}
-use Rattle.delta_pieces.proofs.AtPlaces.{Records}
+use Rattle.delta_pieces.proofs.{AtPlaces.{Records}, Prelude.{is_sorted, IsTrue, place_cmp, take}}
 use Rattle.delta_pieces.proofs.asks.digest_at.Given as goal
 
 abbrev pub invariant-loop-place : goal.invariant-loop-place

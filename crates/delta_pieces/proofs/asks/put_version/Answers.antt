@@ -1,6 +1,4 @@
-use Rattle.std.proofs.Common.{◌∙◌, ap, set}
-use Rattle.std.specs.Prelude.{insert}
-use Rattle.delta_pieces.proofs.Prelude.{insert_is_put, place_cmp, PlaceParts, set_is_put, Version}
+use Rattle.delta_pieces.proofs.Prelude.{ap, insert, insert_is_put, place_cmp, PlaceParts, set, set_is_put, Version, ◌∙◌}
 use Rattle.delta_pieces.proofs.asks.put_version.Goals as goal
 
 pub returns-in-Ok : goal.returns-in-Ok

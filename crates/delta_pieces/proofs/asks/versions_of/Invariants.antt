@@ -1,4 +1,5 @@
-use Rattle.std.proofs.Common.{◌++◌, ◌≡◌, length, map}
+use Rattle.std.proofs.Common.{◌++◌, ◌≡◌}
+use Rattle.delta_pieces.proofs.Prelude.{length, map}
 use Rattle.std.specs.FinMap as finmap
 use Rattle.delta_pieces.proofs.asks.versions_of.Given as goal
 

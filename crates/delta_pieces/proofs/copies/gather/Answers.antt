@@ -1,6 +1,5 @@
-use Rattle.std.proofs.Common.{◌-◌, ◌∙◌, ◌≡◌, ap, arith, refl, take}
-use Rattle.delta_pieces.proofs.Prelude.{join}
-use Rattle.delta_pieces.proofs.Joined.{dropped_first, joined_all, joined_none, none_taken, sum_at, taken_first}
+use Rattle.std.proofs.Common.{◌-◌, ◌≡◌}
+use Rattle.delta_pieces.proofs.{Joined.{dropped_first, joined_all, joined_none, none_taken, sum_at, taken_first}, Prelude.{ap, arith, join, refl, take, ◌∙◌}}
 use Rattle.delta_pieces.proofs.copies.gather.Goals as goal
 
 pub loop-left-init : goal.loop-left-init

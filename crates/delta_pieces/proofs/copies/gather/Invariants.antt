@@ -1,5 +1,5 @@
-use Rattle.std.proofs.Common.{◌≡◌, drop, map, take}
-use Rattle.delta_pieces.proofs.Prelude.{edit_of, join, sum_of}
+use Rattle.std.proofs.Common.{◌≡◌}
+use Rattle.delta_pieces.proofs.Prelude.{drop, edit_of, join, map, sum_of, take}
 use Rattle.delta_pieces.proofs.copies.gather.Given as goal
 
 abbrev pub invariant-loop-left : goal.invariant-loop-left

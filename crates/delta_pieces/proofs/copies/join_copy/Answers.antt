@@ -1,5 +1,5 @@
-use Rattle.std.proofs.Common.{◌∙◌, ◌≡◌, OnOk, subst}
-use Rattle.delta_pieces.proofs.Prelude.{edit_of, EntryMap, with_edit}
+use Rattle.std.proofs.Common.{◌≡◌}
+use Rattle.delta_pieces.proofs.Prelude.{edit_of, EntryMap, OnOk, subst, with_edit, ◌∙◌}
 use Rattle.delta_pieces.proofs.copies.join_copy.Goals as goal
 
 pub returns : goal.returns

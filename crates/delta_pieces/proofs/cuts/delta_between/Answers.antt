@@ -1,5 +1,5 @@
-use Rattle.std.proofs.Common.{◌∙◌, ◌≡◌, ap, None}
-use Rattle.delta_pieces.proofs.Prelude.{cut, digest_of, join, whole_answer}
+use Rattle.std.proofs.Common.{◌≡◌}
+use Rattle.delta_pieces.proofs.Prelude.{ap, cut, digest_of, join, None, whole_answer, ◌∙◌}
 use Rattle.delta_pieces.proofs.cuts.delta_between.Goals as goal
 
 pub returns : goal.returns

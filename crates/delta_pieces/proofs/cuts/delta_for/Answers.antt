@@ -1,6 +1,5 @@
-use Rattle.std.proofs.Common.{◌∙◌, ◌≡◌, ap, None}
-use Rattle.delta_pieces.proofs.Prelude.{cut, join, whole_answer}
-use Rattle.delta_pieces.proofs.{HostViews.newer_is_cut, Orders.entries_ascend}
+use Rattle.std.proofs.Common.{◌≡◌}
+use Rattle.delta_pieces.proofs.{HostViews.{newer_is_cut}, Orders.{entries_ascend}, Prelude.{ap, cut, join, None, whole_answer, ◌∙◌}}
 use Rattle.std.specs.FinMap as finmap
 use Rattle.delta_pieces.proofs.cuts.delta_for.Goals as goal
 

@@ -1,4 +1,5 @@
-use Rattle.std.proofs.Common.{◌≡◌, take}
+use Rattle.std.proofs.Common.{◌≡◌}
+use Rattle.delta_pieces.proofs.Prelude.{take}
 use Rattle.delta_pieces.proofs.digests.copy_of.Given as goal
 
 abbrev pub invariant-loop-place : goal.invariant-loop-place

@@ -1,10 +1,5 @@
-use Rattle.std.proofs.Common.{◌∙◌, ◌≡◌, ap, IsTrue, List, subst, sym}
-use Rattle.std.proofs.lemmas.Bool.{and_parts}
-use Rattle.std.specs.FinMap.Entries.{below_all, find, is_sorted}
-use Rattle.std.specs.Ordering.{is_lt}
-use Rattle.std.specs.declared.cmp.Ordering.TheVariants.{Less}
-use Rattle.delta_pieces.proofs.Prelude.{is_less, place_cmp, PlaceParts, Version}
-use Rattle.delta_pieces.proofs.Passes.{find_past}
+use Rattle.std.proofs.Common.{◌≡◌}
+use Rattle.delta_pieces.proofs.{Passes.{find_past}, Prelude.{and_parts, ap, below_all, find, is_less, is_lt, is_sorted, IsTrue, Less, List, place_cmp, PlaceParts, subst, sym, Version, ◌∙◌}}
 use Rattle.delta_pieces.proofs.newer.from_place.Goals as goal
 
 pub loop-next-preserved : goal.loop-next-preserved

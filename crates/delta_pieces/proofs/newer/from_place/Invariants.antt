@@ -1,7 +1,5 @@
-use Rattle.std.proofs.Common.{◌≡◌, ◌≢◌, IsTrue, length}
-use Rattle.std.specs.FinMap.Entries.{find, is_sorted}
-use Rattle.std.specs.declared.cmp.Ordering.TheVariants.{Less}
-use Rattle.delta_pieces.proofs.Prelude.{place_cmp, PlaceParts}
+use Rattle.std.proofs.Common.{◌≡◌, ◌≢◌}
+use Rattle.delta_pieces.proofs.Prelude.{find, is_sorted, IsTrue, length, Less, place_cmp, PlaceParts}
 use Rattle.delta_pieces.proofs.newer.from_place.Given as goal
 
 abbrev pub invariant-loop-next : goal.invariant-loop-next

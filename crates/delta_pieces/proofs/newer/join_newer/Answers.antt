@@ -1,6 +1,5 @@
-use Rattle.std.proofs.Common.{◌∙◌, ◌≡◌, ap, OnOk, subst, sym}
-use Rattle.delta_pieces.proofs.Prelude.{edit_of, EntryMap, is_newer, with_edit}
-use Rattle.delta_pieces.proofs.Gathers.{join_absent, join_newer, join_older}
+use Rattle.std.proofs.Common.{◌≡◌}
+use Rattle.delta_pieces.proofs.{Gathers.{join_absent, join_newer, join_older}, Prelude.{ap, edit_of, EntryMap, is_newer, OnOk, subst, sym, with_edit, ◌∙◌}}
 use Rattle.delta_pieces.proofs.newer.join_newer.Goals as goal
 
 pub returns-in_default : goal.returns-in_default

@@ -1,6 +1,5 @@
-use Rattle.std.proofs.Common.{[], ◌∙◌, ◌∷◌, ap, Some, sym}
-use Rattle.delta_pieces.proofs.Prelude.{cut, join}
-use Rattle.delta_pieces.proofs.Gathers.{cut_at_more, cut_nowhere}
+use Rattle.std.proofs.Common.{◌∷◌}
+use Rattle.delta_pieces.proofs.{Gathers.{cut_at_more, cut_nowhere}, Prelude.{[], ap, cut, join, Some, sym, ◌∙◌}}
 use Rattle.delta_pieces.proofs.newer.newer_at.Goals as goal
 
 pub loop-place-init : goal.loop-place-init

@@ -1,5 +1,5 @@
-use Rattle.std.proofs.Common.{◌≡◌, Some, take}
-use Rattle.delta_pieces.proofs.Prelude.{cut}
+use Rattle.std.proofs.Common.{◌≡◌}
+use Rattle.delta_pieces.proofs.Prelude.{cut, Some, take}
 use Rattle.delta_pieces.proofs.newer.newer_at.Given as goal
 
 abbrev pub invariant-loop-place : goal.invariant-loop-place

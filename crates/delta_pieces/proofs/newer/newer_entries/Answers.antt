@@ -1,7 +1,4 @@
-use Rattle.std.proofs.Common.{◌∙◌, ap, filter, sym}
-use Rattle.std.specs.FinMap.Entries.{find}
-use Rattle.delta_pieces.proofs.Prelude.{Entry, is_newer, join, place_cmp, PlaceParts}
-use Rattle.delta_pieces.proofs.{Joined.failed_first, Joined.joined_all, Joined.joined_none, Joined.passed_first, Joined.sum_at, Passes.passed, Passes.records_all}
+use Rattle.delta_pieces.proofs.{Joined.{failed_first, joined_all, joined_none, passed_first, sum_at}, Passes.{passed, records_all}, Prelude.{ap, Entry, filter, find, is_newer, join, place_cmp, PlaceParts, sym, ◌∙◌}}
 use Rattle.delta_pieces.proofs.newer.newer_entries.Goals as goal
 
 pub loop-placed-init : goal.loop-placed-init

@@ -1,7 +1,5 @@
-use Rattle.std.proofs.Common.{◌≡◌, filter, IsTrue, length, map}
-use Rattle.std.specs.FinMap.Entries.{find, is_sorted}
-use Rattle.delta_pieces.proofs.Prelude.{edit_of, is_newer, join, place_cmp, sum_of}
-use Rattle.delta_pieces.proofs.Passes.{RecordsTheSame}
+use Rattle.std.proofs.Common.{◌≡◌}
+use Rattle.delta_pieces.proofs.{Passes.{RecordsTheSame}, Prelude.{edit_of, filter, find, is_newer, is_sorted, IsTrue, join, length, map, place_cmp, sum_of}}
 use Rattle.delta_pieces.proofs.newer.newer_entries.Given as goal
 
 abbrev pub invariant-loop-placed : goal.invariant-loop-placed

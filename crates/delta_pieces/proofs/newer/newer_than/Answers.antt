@@ -1,7 +1,6 @@
-use Rattle.std.proofs.Common.{◌∙◌, ◌≡◌, ap, sym}
-use Rattle.std.specs.Option.{option_copied, option_map}
-use Rattle.delta_pieces.proofs.Prelude.{digest_of, Entry, is_newer, join}
-use Rattle.delta_pieces.proofs.{HostViews.news_is_cut, Joined.Compared, Joined.failed_zipped, Joined.held_version, Joined.is_news_zipped, Joined.joined_all, Joined.joined_none, Joined.news, Joined.news_of_digest, Joined.passed_zipped, Joined.sum_at}
+use Rattle.std.proofs.Common.{◌≡◌}
+use Rattle.delta_pieces.proofs.Prelude.{ap, digest_of, Entry, is_newer, join, option_copied, option_map, sym, ◌∙◌}
+use Rattle.delta_pieces.proofs.{HostViews.{news_is_cut}, Joined.{Compared, failed_zipped, held_version, is_news_zipped, joined_all, joined_none, news, news_of_digest, passed_zipped, sum_at}}
 use Rattle.std.specs.FinMap as finmap
 use Rattle.delta_pieces.proofs.newer.newer_than.Goals as goal
 

@@ -1,6 +1,5 @@
-use Rattle.std.proofs.Common.{◌≡◌, filter, length, map}
-use Rattle.delta_pieces.proofs.Prelude.{digest_of, is_newer, join}
-use Rattle.delta_pieces.proofs.Joined.{news, sum_at}
+use Rattle.std.proofs.Common.{◌≡◌}
+use Rattle.delta_pieces.proofs.{Joined.{news, sum_at}, Prelude.{digest_of, filter, is_newer, join, length, map}}
 use Rattle.std.specs.FinMap as finmap
 use Rattle.delta_pieces.proofs.newer.newer_than.Given as goal
 

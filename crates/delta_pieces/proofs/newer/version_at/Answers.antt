@@ -1,7 +1,5 @@
-use Rattle.std.proofs.Common.{◌∙◌, ◌≡◌, ap, false, sym, true}
-use Rattle.std.specs.Ordering.{is_eq}
-use Rattle.delta_pieces.proofs.Prelude.{place_cmp}
-use Rattle.delta_pieces.proofs.Passes.{find_before_first, find_first}
+use Rattle.std.proofs.Common.{◌≡◌}
+use Rattle.delta_pieces.proofs.{Passes.{find_before_first, find_first}, Prelude.{ap, false, is_eq, place_cmp, sym, true, ◌∙◌}}
 use Rattle.delta_pieces.proofs.newer.version_at.Goals as goal
 
 pub returns-then-is_eq : goal.returns-then-is_eq

@@ -1,6 +1,5 @@
-use Rattle.std.proofs.Common.{◌∙◌, ◌≡◌, ap, drop, take}
-use Rattle.std.proofs.lemmas.List.{take_all}
-use Rattle.delta_pieces.proofs.{HostViews.all_left, HostViews.entries-sum_of, Joined.sum_at, Orders.drop_ascends, Orders.entries_ascend, Orders.take_ascends}
+use Rattle.std.proofs.Common.{◌≡◌}
+use Rattle.delta_pieces.proofs.{HostViews.{all_left, entries-sum_of}, Joined.{sum_at}, Orders.{drop_ascends, entries_ascend, take_ascends}, Prelude.{ap, drop, take, take_all, ◌∙◌}}
 use Rattle.std.specs.FinMap as finmap
 use Rattle.delta_pieces.proofs.pieces.parts_of.Goals as goal
 

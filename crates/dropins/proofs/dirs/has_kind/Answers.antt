@@ -1,5 +1,4 @@
-use Rattle.std.proofs.Common.{◌∙◌}
-use Rattle.dropins.proofs.KindWords.{among_words}
+use Rattle.dropins.proofs.{KindWords.{among_words}, Prelude.{◌∙◌}}
 use Rattle.dropins.proofs.dirs.has_kind.Goals as goal
 
 pub returns : goal.returns

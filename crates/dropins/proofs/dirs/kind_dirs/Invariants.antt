@@ -1,5 +1,5 @@
-use Rattle.std.proofs.Common.{◌≡◌, map, take}
-use Rattle.dropins.proofs.Prelude.{dirs_with, word}
+use Rattle.std.proofs.Common.{◌≡◌}
+use Rattle.dropins.proofs.Prelude.{dirs_with, map, take, word}
 use Rattle.dropins.proofs.dirs.kind_dirs.Given as goal
 
 abbrev pub invariant-loop-kind : goal.invariant-loop-kind

@@ -1,8 +1,5 @@
-use Rattle.std.proofs.Common.{◌∙◌, ap, arith, map, sym}
-use Rattle.dropins.proofs.Prelude.{is_among, word}
-use Rattle.dropins.proofs.KindWords.{kind_known, kind_new}
+use Rattle.dropins.proofs.{dirs.kinds_of.Goals.{else-not-has_kind, then-not-has_kind+in_ok-push}, KindWords.{kind_known, kind_new}, Prelude.{ap, arith, is_among, map, sym, word, ◌∙◌}}
 use Rattle.dropins.proofs.dirs.kinds_of.Goals as goal
-use Rattle.dropins.proofs.dirs.kinds_of.Goals.{then-not-has_kind+in_ok-push, else-not-has_kind}
 
 pub loop-name-preserved : goal.loop-name-preserved
 loop-name-preserved c =

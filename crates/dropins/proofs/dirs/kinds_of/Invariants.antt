@@ -1,5 +1,5 @@
-use Rattle.std.proofs.Common.{◌≡◌, map, take}
-use Rattle.dropins.proofs.Prelude.{types_of, word}
+use Rattle.std.proofs.Common.{◌≡◌}
+use Rattle.dropins.proofs.Prelude.{map, take, types_of, word}
 use Rattle.dropins.proofs.dirs.kinds_of.Given as goal
 
 abbrev pub invariant-loop-name : goal.invariant-loop-name

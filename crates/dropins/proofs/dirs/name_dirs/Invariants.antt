@@ -1,5 +1,5 @@
-use Rattle.std.proofs.Common.{◌≡◌, take}
-use Rattle.dropins.proofs.Prelude.{dirs_with}
+use Rattle.std.proofs.Common.{◌≡◌}
+use Rattle.dropins.proofs.Prelude.{dirs_with, take}
 use Rattle.dropins.proofs.dirs.name_dirs.Given as goal
 
 abbrev pub invariant-loop-name : goal.invariant-loop-name

@@ -1,9 +1,5 @@
-use Rattle.std.proofs.Common.{◌∙◌, subst, sym}
-use Rattle.std.proofs.lemmas.Bool.{true≢false}
-use Rattle.dropins.proofs.Prelude.{IsName}
-use Rattle.dropins.proofs.Cuts.{cut_is, only_memory}
+use Rattle.dropins.proofs.{Cuts.{cut_is, only_memory}, folder_lists.cut_name.Goals.{in-Memory, in_default}, Prelude.{IsName, subst, sym, true≢false, ◌∙◌}}
 use Rattle.dropins.proofs.folder_lists.cut_name.Goals as goal
-use Rattle.dropins.proofs.folder_lists.cut_name.Goals.{in-Memory, in_default}
 
 pub returns-in-Ok : goal.returns-in-Ok
 returns-in-Ok c = record {

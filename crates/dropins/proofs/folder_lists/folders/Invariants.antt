@@ -1,6 +1,5 @@
-use Rattle.std.proofs.Common.{[], ◌≡◌, fold, take}
-use Rattle.std.specs.List.{flat_map}
-use Rattle.dropins.proofs.Prelude.{folders_of, IsKept, with_name}
+use Rattle.std.proofs.Common.{◌≡◌}
+use Rattle.dropins.proofs.Prelude.{[], flat_map, fold, folders_of, IsKept, take, with_name}
 use Rattle.dropins.proofs.folder_lists.folders.Given as goal
 
 abbrev pub invariant-loop-name : goal.invariant-loop-name

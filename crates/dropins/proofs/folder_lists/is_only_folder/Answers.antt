@@ -1,6 +1,5 @@
-use Rattle.std.proofs.Common.{[], ◌∙◌, ◌∷◌, ◌≡◌, ◌≢◌, ap, Bool, false, IsTrue, List, not, refl, sym, true, ℕ, ⊎_elim}
-use Rattle.std.specs.List.{list_any}
-use Rattle.dropins.proofs.Prelude.{folders, Instance, is_dash, Name, one_folder, Plain, prefix, shape, Template}
+use Rattle.std.proofs.Common.{◌∷◌, ◌≡◌, ◌≢◌}
+use Rattle.dropins.proofs.Prelude.{[], ap, Bool, false, folders, Instance, is_dash, IsTrue, List, list_any, Name, not, one_folder, Plain, prefix, refl, shape, sym, Template, true, ℕ, ⊎_elim, ◌∙◌}
 use Rattle.dropins.proofs.folder_lists.is_only_folder.Goals as goal
 
 not_so : (b : Bool) → IsTrue (not b) → b ≡ false

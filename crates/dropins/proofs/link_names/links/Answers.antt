@@ -1,8 +1,5 @@
-use Rattle.std.proofs.Common.{◌↔◌, List, subst}
-use Rattle.std.proofs.lemmas.Result.{IfOk-weaker}
-use Rattle.std.specs.List.{Contains}
-use Rattle.std.specs.Option.{option_copied}
-use Rattle.dropins.proofs.Prelude.{host_view_of, HostViewMap, IsLinked, IsLinkedOf, Name}
+use Rattle.std.proofs.Common.{◌↔◌}
+use Rattle.dropins.proofs.Prelude.{Contains, host_view_of, HostViewMap, IfOk-weaker, IsLinked, IsLinkedOf, List, Name, option_copied, subst}
 use Rattle.dropins.proofs.link_names.links.Goals as goal
 
 pub returns-clause-exact : goal.returns-clause-exact

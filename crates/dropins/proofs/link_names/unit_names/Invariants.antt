@@ -1,5 +1,5 @@
-use Rattle.std.proofs.Common.{◌≡◌, filter, map, take}
-use Rattle.dropins.proofs.Prelude.{entry_name, is_name}
+use Rattle.std.proofs.Common.{◌≡◌}
+use Rattle.dropins.proofs.Prelude.{entry_name, filter, is_name, map, take}
 use Rattle.dropins.proofs.link_names.unit_names.Given as goal
 
 abbrev pub invariant-loop-placed : goal.invariant-loop-placed

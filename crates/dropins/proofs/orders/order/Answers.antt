@@ -1,9 +1,5 @@
-use Rattle.std.proofs.Common.{◌↔◌, ◌∙◌, ◌≡◌, ap, List, map, subst, sym}
-use Rattle.std.proofs.lemmas.Result.{IfOk-weaker}
-use Rattle.std.specs.List.{Contains}
-use Rattle.std.specs.List.Sorted.{IsStrictlySortedBy}
-use Rattle.std.specs.Option.{option_copied}
-use Rattle.dropins.proofs.Prelude.{borrowed_are_drop_ins, entry_place, file_name, host_view_of, HostViewMap, IsDropInAt, IsDropInAtOf, Name, name_cmp, PlaceParts}
+use Rattle.std.proofs.Common.{◌↔◌, ◌≡◌}
+use Rattle.dropins.proofs.Prelude.{ap, borrowed_are_drop_ins, Contains, entry_place, file_name, host_view_of, HostViewMap, IfOk-weaker, IsDropInAt, IsDropInAtOf, IsStrictlySortedBy, List, map, Name, name_cmp, option_copied, PlaceParts, subst, sym, ◌∙◌}
 use Rattle.dropins.proofs.orders.order.Goals as goal
 
 pub returns-clause-ascending : goal.returns-clause-ascending

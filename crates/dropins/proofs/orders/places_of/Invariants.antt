@@ -1,5 +1,5 @@
-use Rattle.std.proofs.Common.{◌≡◌, map, take}
-use Rattle.dropins.proofs.Prelude.{entry_place}
+use Rattle.std.proofs.Common.{◌≡◌}
+use Rattle.dropins.proofs.Prelude.{entry_place, map, take}
 use Rattle.dropins.proofs.orders.places_of.Given as goal
 
 abbrev pub invariant-loop-placed : goal.invariant-loop-placed

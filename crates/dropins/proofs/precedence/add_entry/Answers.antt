@@ -1,8 +1,4 @@
-use Rattle.std.proofs.Common.{◌∙◌, ap, cond, None, sym}
-use Rattle.std.specs.Option.{option_or}
-use Rattle.std.specs.Str.{bytes_eq}
-use Rattle.dropins.proofs.Prelude.{first_for, take_of}
-use Rattle.dropins.proofs.Placed.{placed}
+use Rattle.dropins.proofs.{Placed.{placed}, Prelude.{ap, bytes_eq, cond, first_for, None, option_or, sym, take_of, ◌∙◌}}
 use Rattle.dropins.proofs.precedence.add_entry.Goals as goal
 
 pub returns-in_ok-push : goal.returns-in_ok-push

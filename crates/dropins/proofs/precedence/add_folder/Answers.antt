@@ -1,7 +1,4 @@
-use Rattle.std.proofs.Common.{◌∙◌, ap, sym}
-use Rattle.std.specs.Option.{option_or}
-use Rattle.dropins.proofs.Prelude.{first_for, first_said, or_assoc, or_none, said_for}
-use Rattle.dropins.proofs.Found.{folder_entries_say}
+use Rattle.dropins.proofs.{Found.{folder_entries_say}, Prelude.{ap, first_for, first_said, option_or, or_assoc, or_none, said_for, sym, ◌∙◌}}
 use Rattle.dropins.proofs.precedence.add_folder.Goals as goal
 
 pub loop-placed-init : goal.loop-placed-init

@@ -1,6 +1,5 @@
-use Rattle.std.proofs.Common.{◌≡◌, length, List, ℕ}
-use Rattle.std.specs.Option.{option_or}
-use Rattle.dropins.proofs.Prelude.{first_for, first_said, path, said_for, take_at}
+use Rattle.std.proofs.Common.{◌≡◌}
+use Rattle.dropins.proofs.Prelude.{first_for, first_said, length, List, option_or, path, said_for, take_at, ℕ}
 use Rattle.dropins.proofs.precedence.add_folder.Given as goal
 
 abbrev pub invariant-loop-placed : goal.invariant-loop-placed

@@ -1,6 +1,4 @@
-use Rattle.std.proofs.Common.{◌∙◌, ap, arith}
-use Rattle.std.specs.Option.{option_or}
-use Rattle.dropins.proofs.Prelude.{first_for, path, said_more, take_at}
+use Rattle.dropins.proofs.Prelude.{ap, arith, first_for, option_or, path, said_more, take_at, ◌∙◌}
 use Rattle.dropins.proofs.precedence.add_level.Goals as goal
 
 pub loop-dir-preserved : goal.loop-dir-preserved

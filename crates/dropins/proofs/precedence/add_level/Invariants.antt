@@ -1,6 +1,5 @@
-use Rattle.std.proofs.Common.{◌≡◌, List, take, ℕ}
-use Rattle.std.specs.Option.{option_or}
-use Rattle.dropins.proofs.Prelude.{first_for, took_in}
+use Rattle.std.proofs.Common.{◌≡◌}
+use Rattle.dropins.proofs.Prelude.{first_for, List, option_or, take, took_in, ℕ}
 use Rattle.dropins.proofs.precedence.add_level.Given as goal
 
 abbrev pub invariant-loop-dir : goal.invariant-loop-dir

@@ -1,6 +1,5 @@
-use Rattle.std.proofs.Common.{◌∙◌, ◌≡◌, ap, arith, sym, take}
-use Rattle.std.specs.Option.{option_or}
-use Rattle.dropins.proofs.Prelude.{first_for, first_said, level_is, levels, said_more, took_in}
+use Rattle.std.proofs.Common.{◌≡◌}
+use Rattle.dropins.proofs.Prelude.{ap, arith, first_for, first_said, level_is, levels, option_or, said_more, sym, take, took_in, ◌∙◌}
 use Rattle.dropins.proofs.precedence.add_levels.Goals as goal
 
 pub loop-level-preserved : goal.loop-level-preserved

@@ -1,6 +1,5 @@
-use Rattle.std.proofs.Common.{◌≡◌, List, take, ℕ}
-use Rattle.std.specs.Option.{option_or}
-use Rattle.dropins.proofs.Prelude.{first_for, first_said, levels, took_in}
+use Rattle.std.proofs.Common.{◌≡◌}
+use Rattle.dropins.proofs.Prelude.{first_for, first_said, levels, List, option_or, take, took_in, ℕ}
 use Rattle.dropins.proofs.precedence.add_levels.Given as goal
 
 abbrev pub invariant-loop-level : goal.invariant-loop-level

@@ -1,11 +1,5 @@
-use Rattle.std.proofs.Common.{◌∙◌, ◌≡◌, ap, List, None, ℕ}
-use Rattle.std.proofs.lemmas.Iterator.Adapters.{fact_from_collect, YieldsList-from_vec}
-use Rattle.std.proofs.lemmas.Result.{IfOk-weaker}
-use Rattle.std.specs.BTreeMap.{get, IsFromIterResult}
-use Rattle.std.specs.Map.{update_all}
-use Rattle.std.specs.Ordering.{eq_by_cmp}
-use Rattle.dropins.proofs.Prelude.{first_for, name_cmp}
-use Rattle.dropins.proofs.Placed.{firsts_stay}
+use Rattle.std.proofs.Common.{◌≡◌}
+use Rattle.dropins.proofs.{Placed.{firsts_stay}, Prelude.{ap, eq_by_cmp, fact_from_collect, first_for, get, IfOk-weaker, IsFromIterResult, List, name_cmp, None, update_all, YieldsList-from_vec, ℕ, ◌∙◌}}
 use Rattle.dropins.proofs.precedence.firsts.Goals as goal
 
 pub returns : goal.returns

@@ -1,8 +1,5 @@
-use Rattle.std.proofs.Common.{◌∙◌, ◌≡◌, ap, List, ℕ}
-use Rattle.std.proofs.lemmas.Result.{IfOk-weaker}
-use Rattle.std.specs.BTreeMap.{get}
-use Rattle.std.specs.Option.{option_or}
-use Rattle.dropins.proofs.Prelude.{first_for, name_cmp, took, took_over}
+use Rattle.std.proofs.Common.{◌≡◌}
+use Rattle.dropins.proofs.Prelude.{ap, first_for, get, IfOk-weaker, List, name_cmp, option_or, took, took_over, ℕ, ◌∙◌}
 use Rattle.dropins.proofs.precedence.taken.Goals as goal
 
 pub returns : goal.returns

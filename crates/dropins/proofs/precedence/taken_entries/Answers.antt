@@ -1,9 +1,5 @@
-use Rattle.std.proofs.Common.{◌↔◌, ◌≡◌, map, Some}
-use Rattle.std.proofs.lemmas.Result.{IfOk-weaker}
-use Rattle.std.specs.List.{Contains}
-use Rattle.std.specs.List.Sorted.{IsStrictlySortedBy}
-use Rattle.dropins.proofs.Prelude.{At, Entry, entry_name, IsTakenOver, name_cmp, PathParts, unmasked, view}
-use Rattle.dropins.proofs.Ascends.{ascending, exact}
+use Rattle.std.proofs.Common.{◌↔◌, ◌≡◌}
+use Rattle.dropins.proofs.{Ascends.{ascending, exact}, Prelude.{At, Contains, Entry, entry_name, IfOk-weaker, IsStrictlySortedBy, IsTakenOver, map, name_cmp, PathParts, Some, unmasked, view}}
 use Rattle.std.specs.FinMap as finmap
 use Rattle.dropins.proofs.precedence.taken_entries.Goals as goal
 

@@ -1,7 +1,4 @@
-use Rattle.std.proofs.lemmas.Result.{IfOk-weaker}
-use Rattle.std.specs.Option.{option_copied}
-use Rattle.fleet_answers.proofs.Prelude.{IsAnswer, IsReturned}
-use Rattle.fleet_answers.proofs.Returned.{answers, own_host, own_known}
+use Rattle.fleet_answers.proofs.{Prelude.{IfOk-weaker, IsAnswer, IsReturned, option_copied}, Returned.{answers, own_host, own_known}}
 use Rattle.fleet_answers.proofs.answers.answer_here.Goals as goal
 
 pub answer-requires : goal.answer-requires

@@ -1,6 +1,4 @@
-use Rattle.std.specs.Option.{option_copied}
-use Rattle.fleet_answers.proofs.Prelude.{IsAnswer, IsReturned}
-use Rattle.fleet_answers.proofs.Returned.{answers, of_mapped, own_host, own_known}
+use Rattle.fleet_answers.proofs.{Prelude.{IsAnswer, IsReturned, option_copied}, Returned.{answers, of_mapped, own_host, own_known}}
 use Rattle.fleet_answers.proofs.answers.answer_question.Goals as goal
 
 pub answer-requires : goal.answer-requires

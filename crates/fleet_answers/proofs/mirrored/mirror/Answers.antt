@@ -1,6 +1,4 @@
-use Rattle.std.proofs.Common.{◌∙◌, ap, arith, sym}
-use Rattle.fleet_answers.proofs.Prelude.{Edit, next_version, Replicated, visible_at, with_edit}
-use Rattle.fleet_answers.proofs.Mirrors.{put_elsewhere, put_there}
+use Rattle.fleet_answers.proofs.{Mirrors.{put_elsewhere, put_there}, Prelude.{ap, arith, Edit, next_version, Replicated, sym, visible_at, with_edit, ◌∙◌}}
 use Rattle.fleet_answers.proofs.mirrored.mirror.Goals as goal
 
 pub returns-in-Ok-clause-there : goal.returns-in-Ok-clause-there

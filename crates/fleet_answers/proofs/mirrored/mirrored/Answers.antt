@@ -1,6 +1,5 @@
-use Rattle.std.proofs.Common.{◌+◌, ◌∙◌, ◌∷◌, ◌≡◌, ap, arith, drop, drop-cons, suc, sym}
-use Rattle.fleet_answers.proofs.Prelude.{PlaceParts}
-use Rattle.fleet_answers.proofs.Mirrors.{one_fewer}
+use Rattle.std.proofs.Common.{◌+◌, ◌∷◌, ◌≡◌}
+use Rattle.fleet_answers.proofs.{Mirrors.{one_fewer}, Prelude.{ap, arith, drop, drop-cons, PlaceParts, suc, sym, ◌∙◌}}
 use Rattle.fleet_answers.proofs.mirrored.mirrored.Goals as goal
 
 pub loop-place-preserved : goal.loop-place-preserved

@@ -1,5 +1,5 @@
-use Rattle.std.proofs.Common.{◌≡◌, ◌⊎◌, drop}
-use Rattle.fleet_answers.proofs.Prelude.{IsAmong, PlaceParts, visible_at}
+use Rattle.std.proofs.Common.{◌≡◌, ◌⊎◌}
+use Rattle.fleet_answers.proofs.Prelude.{drop, IsAmong, PlaceParts, visible_at}
 use Rattle.fleet_answers.proofs.mirrored.mirrored.Given as goal
 
 -- stores show different contents only at the places that are left

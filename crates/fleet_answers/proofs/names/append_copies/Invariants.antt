@@ -1,4 +1,5 @@
-use Rattle.std.proofs.Common.{◌++◌, ◌≡◌, take}
+use Rattle.std.proofs.Common.{◌++◌, ◌≡◌}
+use Rattle.fleet_answers.proofs.Prelude.{take}
 use Rattle.fleet_answers.proofs.names.append_copies.Given as goal
 
 abbrev pub invariant-loop-other : goal.invariant-loop-other

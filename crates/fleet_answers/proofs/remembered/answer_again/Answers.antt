@@ -1,7 +1,4 @@
-use Rattle.std.proofs.Common.{[]}
-use Rattle.std.specs.Option.{option_copied}
-use Rattle.fleet_answers.proofs.Prelude.{IsAnswer, IsReturned}
-use Rattle.fleet_answers.proofs.Returned.{answers, of_mapped, own_known}
+use Rattle.fleet_answers.proofs.{Prelude.{[], IsAnswer, IsReturned, option_copied}, Returned.{answers, of_mapped, own_known}}
 use Rattle.fleet_answers.proofs.remembered.answer_again.Goals as goal
 
 pub returned-requires-clause-known : goal.returned-requires-clause-known

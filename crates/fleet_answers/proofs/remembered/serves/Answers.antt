@@ -1,5 +1,4 @@
-use Rattle.std.proofs.Common.{◌∙◌, ap, List, subst}
-use Rattle.fleet_answers.proofs.Prelude.{AreSources, host_view_of, HostViewMap, LoadMap, Name, Viewer}
+use Rattle.fleet_answers.proofs.Prelude.{ap, AreSources, host_view_of, HostViewMap, List, LoadMap, Name, subst, Viewer, ◌∙◌}
 use Rattle.fleet_answers.proofs.remembered.serves.Goals as goal
 
 pub returns-then-are_sources : goal.returns-then-are_sources

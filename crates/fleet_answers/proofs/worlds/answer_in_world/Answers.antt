@@ -1,7 +1,4 @@
-use Rattle.std.proofs.Common.{length, subst}
-use Rattle.fleet_answers.proofs.Prelude.{EntryMap, IsAnswer}
-use Rattle.fleet_answers.proofs.{Fleets.agrees, Fleets.by_events, Fleets.holds_least, Fleets.holds_same_later, Fleets.IsOfReplica, Fleets.of_store, Fleets.of_sum, Held.got}
-use Rattle.fleet_answers.proofs.worlds.answer_in_world.Given.{Over}
+use Rattle.fleet_answers.proofs.{Fleets.{agrees, by_events, holds_least, holds_same_later, IsOfReplica, of_store, of_sum}, Held.{got}, Prelude.{EntryMap, IsAnswer, length, subst}, worlds.answer_in_world.Given.{Over}}
 use Rattle.fleet_answers.proofs.worlds.answer_in_world.Goals as goal
 
 of_replica : (g : Over) (c : goal.After-drop-world-in-Some-3 g) → IsOfReplica c.in-Ok.world c.args.node c.args.extra.now c.args.question.now c.in_ok-answer_question-in-Some.field-0

@@ -1,6 +1,4 @@
-use Rattle.std.proofs.Common.{length}
-use Rattle.fleet_script.proofs.Prelude.{blank, stores_are_sums, valid_blank}
-use Rattle.fleet_script.proofs.WholeScripts.{run_valid}
+use Rattle.fleet_script.proofs.{Prelude.{blank, length, stores_are_sums, valid_blank}, WholeScripts.{run_valid}}
 use Rattle.fleet_script.proofs.laws.scripts_are_honest.Goals as goal
 
 pub returns-clause-honest : goal.returns-clause-honest

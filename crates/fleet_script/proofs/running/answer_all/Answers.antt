@@ -1,10 +1,6 @@
-use Rattle.std.proofs.Common.{◌∙◌, ap, Global, refl, rules, sym, Vec, ℕ}
-use Rattle.std.proofs.lemmas.Bool.{eqb-true}
-use Rattle.std.proofs.lemmas.List.{nil_from_length}
-use Rattle.fleet_script.proofs.Prelude.{kept_in, lines_of, lines_of-nil}
-use Rattle.fleet_script.proofs.{Rooms.has_room, Runs.answered, Runs.begins, Runs.extended, Runs.flushed, Runs.line_answered, Runs.moved, Runs.not_extended, Runs.prefix_written, Runs.whatever}
+use Rattle.fleet_script.proofs.Prelude.{ap, eqb-true, Global, kept_in, lines_of, lines_of-nil, nil_from_length, refl, rules, sym, Vec, ℕ, ◌∙◌}
+use Rattle.fleet_script.proofs.{Rooms.{has_room}, running.answer_all.Goals.{else-len-ge-BATCH, then-len-ge-BATCH+in_ok-write_all}, Runs.{answered, begins, extended, flushed, line_answered, moved, not_extended, prefix_written, whatever}}
 use Rattle.fleet_script.proofs.running.answer_all.Goals as goal
-use Rattle.fleet_script.proofs.running.answer_all.Goals.{then-len-ge-BATCH+in_ok-write_all, else-len-ge-BATCH}
 
 pub loop-rest-init : goal.loop-rest-init
 loop-rest-init g c = (begins c.args.script.now c.new-pending.result.items (kept_in c.new-shell.result) (g.K.Sink.contents c.args.writer.now) c.new-shell.ensures.blank c.new-pending.ensures.items, refl)

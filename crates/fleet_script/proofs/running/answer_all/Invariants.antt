@@ -1,6 +1,5 @@
-use Rattle.std.proofs.Common.{◌≡◌, length}
-use Rattle.fleet_script.proofs.Prelude.{kept_in}
-use Rattle.fleet_script.proofs.Runs.{Progress}
+use Rattle.std.proofs.Common.{◌≡◌}
+use Rattle.fleet_script.proofs.{Prelude.{kept_in, length}, Runs.{Progress}}
 use Rattle.fleet_script.proofs.running.answer_all.Given as goal
 
 abbrev pub invariant-loop-rest : goal.invariant-loop-rest

@@ -1,6 +1,4 @@
-use Rattle.std.proofs.Common.{List, Option, ℕ}
-use Rattle.fleet_script.proofs.Prelude.{AreAll-some, IsPrefixWritten}
-use Rattle.fleet_script.proofs.Runs.{nothing_written}
+use Rattle.fleet_script.proofs.{Prelude.{AreAll-some, IsPrefixWritten, List, Option, ℕ}, Runs.{nothing_written}}
 use Rattle.fleet_script.proofs.running.run.Goals as goal
 
 nothing : (known a : Option (List ℕ)) → IsPrefixWritten known a a

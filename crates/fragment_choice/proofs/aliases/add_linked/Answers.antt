@@ -1,5 +1,4 @@
-use Rattle.fragment_choice.proofs.Prelude.{IsOwnAt}
-use Rattle.fragment_choice.proofs.Indexing.{collects_all, collects_next, starts_collecting}
+use Rattle.fragment_choice.proofs.{Indexing.{collects_all, collects_next, starts_collecting}, Prelude.{IsOwnAt}}
 use Rattle.fragment_choice.proofs.aliases.add_linked.Goals as goal
 
 pub loop-placed-init : goal.loop-placed-init

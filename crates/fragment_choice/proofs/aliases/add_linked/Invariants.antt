@@ -1,6 +1,4 @@
-use Rattle.std.proofs.Common.{length}
-use Rattle.fragment_choice.proofs.Prelude.{IsOwnAt}
-use Rattle.fragment_choice.proofs.Indexing.{Collecting}
+use Rattle.fragment_choice.proofs.{Indexing.{Collecting}, Prelude.{IsOwnAt, length}}
 use Rattle.fragment_choice.proofs.aliases.add_linked.Given as goal
 
 abbrev pub invariant-loop-placed : goal.invariant-loop-placed

@@ -1,6 +1,4 @@
-use Rattle.std.proofs.Common.{◌∙◌, sym}
-use Rattle.std.proofs.lemmas.Result.{on_ok_weaker}
-use Rattle.fragment_choice.proofs.Indexing.{collects_name, collects_unread}
+use Rattle.fragment_choice.proofs.{Indexing.{collects_name, collects_unread}, Prelude.{on_ok_weaker, sym, ◌∙◌}}
 use Rattle.fragment_choice.proofs.aliases.add_own.Goals as goal
 
 pub returns-in-Some : goal.returns-in-Some

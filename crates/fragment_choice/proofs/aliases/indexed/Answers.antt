@@ -1,8 +1,5 @@
-use Rattle.std.proofs.Common.{◌∙◌, ◌≡◌, List, map, subst, sym}
-use Rattle.std.proofs.lemmas.List.{map-id}
-use Rattle.std.proofs.lemmas.Map.Iter.{iter_end}
-use Rattle.fragment_choice.proofs.Prelude.{Name}
-use Rattle.fragment_choice.proofs.Indexing.{all_indexed, AreIndexed, more_indexed, none_indexed}
+use Rattle.std.proofs.Common.{◌≡◌}
+use Rattle.fragment_choice.proofs.{Indexing.{all_indexed, AreIndexed, more_indexed, none_indexed}, Prelude.{iter_end, List, map, map-id, Name, subst, sym, ◌∙◌}}
 use Rattle.fragment_choice.proofs.aliases.indexed.Goals as goal
 
 pub loop-own-init : goal.loop-own-init

@@ -1,6 +1,5 @@
-use Rattle.std.proofs.Common.{◌+◌, arith, List, subst}
-use Rattle.fragment_choice.proofs.Prelude.{Collects, IsOwnLink, Name}
-use Rattle.fragment_choice.proofs.Indexing.{collects_level, collects_levels, collects_none, IsOwnBelow}
+use Rattle.std.proofs.Common.{◌+◌}
+use Rattle.fragment_choice.proofs.{Indexing.{collects_level, collects_levels, collects_none, IsOwnBelow}, Prelude.{arith, Collects, IsOwnLink, List, Name, subst}}
 use Rattle.fragment_choice.proofs.aliases.linked_names.Goals as goal
 
 pub loop-level-init : goal.loop-level-init

@@ -1,5 +1,4 @@
-use Rattle.fragment_choice.proofs.Prelude.{Collects}
-use Rattle.fragment_choice.proofs.Indexing.{IsOwnBelow}
+use Rattle.fragment_choice.proofs.{Indexing.{IsOwnBelow}, Prelude.{Collects}}
 use Rattle.fragment_choice.proofs.aliases.linked_names.Given as goal
 
 abbrev pub invariant-loop-level : goal.invariant-loop-level

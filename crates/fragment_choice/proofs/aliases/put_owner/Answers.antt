@@ -1,7 +1,5 @@
-use Rattle.std.proofs.Common.{◌∙◌, ◌≡◌, ap, Some, subst, sym}
-use Rattle.std.proofs.lemmas.Result.{on_ok_weaker}
-use Rattle.fragment_choice.proofs.Prelude.{Alias, Choice, Name, Puts}
-use Rattle.fragment_choice.proofs.Indexing.{puts_said}
+use Rattle.std.proofs.Common.{◌≡◌}
+use Rattle.fragment_choice.proofs.{Indexing.{puts_said}, Prelude.{Alias, ap, Choice, Name, on_ok_weaker, Puts, Some, subst, sym, ◌∙◌}}
 use Rattle.fragment_choice.proofs.aliases.put_owner.Goals as goal
 
 pub returns-in_ok-try_clone-in-Some-Alias-2 : goal.returns-in_ok-try_clone-in-Some-Alias-2

@@ -1,5 +1,5 @@
-use Rattle.std.proofs.Common.{◌≡◌, IfOk, subst}
-use Rattle.fragment_choice.proofs.Prelude.{choice, HostViewMap}
+use Rattle.std.proofs.Common.{◌≡◌}
+use Rattle.fragment_choice.proofs.Prelude.{choice, HostViewMap, IfOk, subst}
 use Rattle.fragment_choice.proofs.choices.choose.Goals as goal
 
 pub returns : goal.returns

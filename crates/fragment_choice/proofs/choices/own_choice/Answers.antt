@@ -1,5 +1,4 @@
-use Rattle.std.proofs.Common.{◌∙◌, arith, sym}
-use Rattle.fragment_choice.proofs.Prelude.{passed_over, said_there, says}
+use Rattle.fragment_choice.proofs.Prelude.{arith, passed_over, said_there, says, sym, ◌∙◌}
 use Rattle.fragment_choice.proofs.choices.own_choice.Goals as goal
 
 pub returns-in-Some : goal.returns-in-Some

@@ -1,5 +1,5 @@
-use Rattle.std.proofs.Common.{◌<◌, ◌≡◌, drop}
-use Rattle.fragment_choice.proofs.Prelude.{first_said, IsName, levels, own_choice, says}
+use Rattle.std.proofs.Common.{◌<◌, ◌≡◌}
+use Rattle.fragment_choice.proofs.Prelude.{drop, first_said, IsName, levels, own_choice, says}
 use Rattle.fragment_choice.proofs.choices.own_choice.Given as goal
 
 abbrev pub invariant-loop-level : goal.invariant-loop-level

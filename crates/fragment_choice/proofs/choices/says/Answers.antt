@@ -1,6 +1,5 @@
-use Rattle.std.proofs.Common.{[], ◌∙◌, ◌≡◌, ap, IfOk, Some, subst}
-use Rattle.fragment_choice.proofs.Prelude.{content_says, own_path, path_at, PathParts, view, viewed_place}
-use Rattle.fragment_choice.proofs.EntrySays.{entry_says, nothing_says}
+use Rattle.std.proofs.Common.{◌≡◌}
+use Rattle.fragment_choice.proofs.{EntrySays.{entry_says, nothing_says}, Prelude.{[], ap, content_says, IfOk, own_path, path_at, PathParts, Some, subst, view, viewed_place, ◌∙◌}}
 use Rattle.std.specs.FinMap as finmap
 use Rattle.fragment_choice.proofs.choices.says.Goals as goal
 

@@ -1,7 +1,5 @@
-use Rattle.std.proofs.Common.{◌-◌, ◌<◌, ◌∙◌, ◌≡◌, ◌≤◌, ap, arith, eq-eqb, false, get_or, length, List, not, sym, true, ℕ}
-use Rattle.std.proofs.lemmas.List.Sums.{suffix_len_is}
-use Rattle.std.specs.List.{suffix_len}
-use Rattle.fragment_choice.proofs.Prelude.{is_slash}
+use Rattle.std.proofs.Common.{◌-◌, ◌<◌, ◌≡◌, ◌≤◌}
+use Rattle.fragment_choice.proofs.Prelude.{ap, arith, eq-eqb, false, get_or, is_slash, length, List, not, suffix_len, suffix_len_is, sym, true, ℕ, ◌∙◌}
 use Rattle.fragment_choice.proofs.links.after_slash.Goals as goal
 
 ended : (xs : List ℕ) (n : ℕ) → n ≤ length xs → ((k : ℕ) → n ≤ k → k < length xs → is_slash (get_or xs k 0) ≡ false) → (0 < n → is_slash (get_or xs (n - 1) 0) ≡ true) → n ≡ length xs - suffix_len (λ b. not (is_slash b)) xs

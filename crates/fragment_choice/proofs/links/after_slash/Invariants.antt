@@ -1,5 +1,5 @@
-use Rattle.std.proofs.Common.{◌<◌, ◌≡◌, ◌≤◌, false, get_or, length, ℕ}
-use Rattle.fragment_choice.proofs.Prelude.{is_slash}
+use Rattle.std.proofs.Common.{◌<◌, ◌≡◌, ◌≤◌}
+use Rattle.fragment_choice.proofs.Prelude.{false, get_or, is_slash, length, ℕ}
 use Rattle.fragment_choice.proofs.links.after_slash.Given as goal
 
 -- No byte from `end` on is a slash.

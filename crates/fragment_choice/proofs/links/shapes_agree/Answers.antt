@@ -1,4 +1,4 @@
-use Rattle.std.proofs.Common.{rules}
+use Rattle.fragment_choice.proofs.Prelude.{rules}
 use Rattle.fragment_choice.proofs.links.shapes_agree.Goals as goal
 
 pub returns-in-Instance-Instance : goal.returns-in-Instance-Instance

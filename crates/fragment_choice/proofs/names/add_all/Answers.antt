@@ -1,9 +1,5 @@
-use Rattle.std.proofs.Common.{[], ◌++◌, ◌∙◌, ◌∷◌, ◌≡◌, ap, List, map, refl, subst, sym}
-use Rattle.std.proofs.lemmas.List.{map-id}
-use Rattle.std.proofs.lemmas.Map.Iter.{iter_end}
-use Rattle.std.specs.BTreeSet.{insert_key}
-use Rattle.fragment_choice.proofs.Prelude.{Adds, Name, name_cmp}
-use Rattle.fragment_choice.proofs.Levels.{adds_none, adds_one}
+use Rattle.std.proofs.Common.{◌++◌, ◌∷◌, ◌≡◌}
+use Rattle.fragment_choice.proofs.{Levels.{adds_none, adds_one}, Prelude.{[], Adds, ap, insert_key, iter_end, List, map, map-id, Name, name_cmp, refl, subst, sym, ◌∙◌}}
 use Rattle.fragment_choice.proofs.names.add_all.Goals as goal
 
 pub loop-name-init : goal.loop-name-init

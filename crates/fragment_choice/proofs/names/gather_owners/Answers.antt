@@ -1,8 +1,5 @@
-use Rattle.std.proofs.Common.{[], ◌++◌, ◌+◌, ◌∙◌, ◌∷◌, ap, List, refl, subst, sym, take}
-use Rattle.std.proofs.lemmas.List.{take_all, take_more}
-use Rattle.std.specs.BTreeSet.{insert_key}
-use Rattle.fragment_choice.proofs.Prelude.{Adds, Name, name_cmp}
-use Rattle.fragment_choice.proofs.Levels.{adds_none, adds_one}
+use Rattle.std.proofs.Common.{◌++◌, ◌+◌, ◌∷◌}
+use Rattle.fragment_choice.proofs.{Levels.{adds_none, adds_one}, Prelude.{[], Adds, ap, insert_key, List, Name, name_cmp, refl, subst, sym, take, take_all, take_more, ◌∙◌}}
 use Rattle.fragment_choice.proofs.names.gather_owners.Goals as goal
 
 pub loop-owner-init : goal.loop-owner-init

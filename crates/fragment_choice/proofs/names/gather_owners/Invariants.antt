@@ -1,5 +1,4 @@
-use Rattle.std.proofs.Common.{take}
-use Rattle.fragment_choice.proofs.Prelude.{Adds}
+use Rattle.fragment_choice.proofs.Prelude.{Adds, take}
 use Rattle.fragment_choice.proofs.names.gather_owners.Given as goal
 
 abbrev pub invariant-loop-owner : goal.invariant-loop-owner

@@ -1,6 +1,5 @@
-use Rattle.std.proofs.Common.{◌-◌, ◌∙◌, ap, arith, sym}
-use Rattle.fragment_choice.proofs.Prelude.{follow}
-use Rattle.fragment_choice.proofs.Steps.{asked, ended_here, stands, unasked}
+use Rattle.std.proofs.Common.{◌-◌}
+use Rattle.fragment_choice.proofs.{Prelude.{ap, arith, follow, sym, ◌∙◌}, Steps.{asked, ended_here, stands, unasked}}
 use Rattle.fragment_choice.proofs.resolutions.follow_aliases.Goals as goal
 
 pub loop-step-init : goal.loop-step-init

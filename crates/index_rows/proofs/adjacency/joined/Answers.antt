@@ -1,5 +1,5 @@
-use Rattle.std.proofs.Common.{◌++◌, ◌<◌, ◌∙◌, ◌≡◌, ◌⊎◌, ap, arith, inl, inr, length, List, refl, ℕ}
-use Rattle.index_rows.proofs.Prelude.{IsAmong, neighbors-below, neighbors_of}
+use Rattle.std.proofs.Common.{◌++◌, ◌<◌, ◌≡◌, ◌⊎◌}
+use Rattle.index_rows.proofs.Prelude.{ap, arith, inl, inr, IsAmong, length, List, neighbors-below, neighbors_of, refl, ℕ, ◌∙◌}
 use Rattle.index_rows.proofs.Building.{append_is, AreMade-adjacency, AreMade-all, AreMade-more, AreMade-none, ascend-more, ascend-none, neighbors-from}
 use Rattle.index_rows.proofs.adjacency.joined.Goals as goal
 

@@ -1,6 +1,5 @@
 use Rattle.std.proofs.Common.{◌⊎◌}
-use Rattle.index_rows.proofs.Prelude.{IsAmong, neighbors}
-use Rattle.index_rows.proofs.Building.{AllAscend, AreMade}
+use Rattle.index_rows.proofs.{Building.{AllAscend, AreMade}, Prelude.{IsAmong, neighbors}}
 use Rattle.index_rows.proofs.adjacency.joined.Given as goal
 
 abbrev pub invariant-loop-node : goal.invariant-loop-node

@@ -1,5 +1,4 @@
-use Rattle.std.proofs.Common.{◌∙◌, arith, sym}
-use Rattle.index_rows.proofs.Prelude.{neighbors-at}
+use Rattle.index_rows.proofs.Prelude.{arith, neighbors-at, sym, ◌∙◌}
 use Rattle.index_rows.proofs.adjacency.neighbors.Goals as goal
 
 pub returns : goal.returns

@@ -1,8 +1,5 @@
-use Rattle.std.proofs.Common.{[], ◌++◌, ◌+◌, ◌∷◌, ◌≡◌, ap, arith, length, length-append, List, subst, sym, ℕ}
-use Rattle.std.specs.declared.alloc.Global.{Global}
-use Rattle.std.specs.declared.vec.Vec.{Vec}
-use Rattle.index_rows.proofs.Prelude.{neighbors_of}
-use Rattle.index_rows.proofs.Notes.{neighbors-push_none}
+use Rattle.std.proofs.Common.{◌++◌, ◌+◌, ◌∷◌, ◌≡◌}
+use Rattle.index_rows.proofs.{Notes.{neighbors-push_none}, Prelude.{[], ap, arith, Global, length, length-append, List, neighbors_of, subst, sym, Vec, ℕ}}
 use Rattle.index_rows.proofs.adjacency.no_adjacency.Goals as goal
 
 pub loop-node-preserved : goal.loop-node-preserved

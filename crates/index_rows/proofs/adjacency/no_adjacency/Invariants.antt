@@ -1,5 +1,5 @@
-use Rattle.std.proofs.Common.{[], ◌≡◌, length, ℕ}
-use Rattle.index_rows.proofs.Prelude.{neighbors}
+use Rattle.std.proofs.Common.{◌≡◌}
+use Rattle.index_rows.proofs.Prelude.{[], length, neighbors, ℕ}
 use Rattle.index_rows.proofs.adjacency.no_adjacency.Given as goal
 
 abbrev pub invariant-loop-node : goal.invariant-loop-node

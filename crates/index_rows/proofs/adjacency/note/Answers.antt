@@ -1,6 +1,4 @@
-use Rattle.std.proofs.Common.{refl}
-use Rattle.std.proofs.lemmas.List.{take_more}
-use Rattle.index_rows.proofs.Notes.{IsNoted-more}
+use Rattle.index_rows.proofs.{Notes.{IsNoted-more}, Prelude.{refl, take_more}}
 use Rattle.index_rows.proofs.adjacency.note.Goals as goal
 
 pub loop-other-preserved : goal.loop-other-preserved

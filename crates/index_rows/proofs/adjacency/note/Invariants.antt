@@ -1,5 +1,4 @@
-use Rattle.std.proofs.Common.{take}
-use Rattle.index_rows.proofs.Prelude.{IsNoted}
+use Rattle.index_rows.proofs.Prelude.{IsNoted, take}
 use Rattle.index_rows.proofs.adjacency.note.Given as goal
 
 abbrev pub invariant-loop-other : goal.invariant-loop-other

@@ -1,6 +1,5 @@
-use Rattle.std.proofs.Common.{[], ◌++◌, ◌∙◌, ◌∷◌, ◌≡◌, ap, List, sym, ℕ}
-use Rattle.index_rows.proofs.Prelude.{neighbors-at, neighbors_of}
-use Rattle.index_rows.proofs.Notes.{IsNoted-one}
+use Rattle.std.proofs.Common.{◌++◌, ◌∷◌, ◌≡◌}
+use Rattle.index_rows.proofs.{Notes.{IsNoted-one}, Prelude.{[], ap, List, neighbors-at, neighbors_of, sym, ℕ, ◌∙◌}}
 use Rattle.index_rows.proofs.adjacency.note_at.Goals as goal
 
 pub returns : goal.returns

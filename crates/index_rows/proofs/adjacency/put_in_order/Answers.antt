@@ -1,12 +1,5 @@
-use Rattle.std.proofs.Common.{◌≡◌, eqb, subst, sym}
-use Rattle.std.proofs.lemmas.List.Filters.{dedup_is}
-use Rattle.std.proofs.lemmas.List.Kept.{Contains-dedup_nat, Contains-from_dedup}
-use Rattle.std.proofs.lemmas.List.Sorted.{Contains-permutation, IsPermutation-sym}
-use Rattle.std.proofs.lemmas.Map.Keys.{IsStrictlyIncreasing-dedup, sorted_from_strictly_increasing}
-use Rattle.std.specs.List.{Contains, dedup}
-use Rattle.std.specs.List.Sorted.{IsStrictlySortedBy}
-use Rattle.std.specs.Ordering.{nat_cmp}
-use Rattle.index_rows.proofs.Prelude.{among_from_contains, contains_from_among}
+use Rattle.std.proofs.Common.{◌≡◌}
+use Rattle.index_rows.proofs.Prelude.{among_from_contains, Contains, Contains-dedup_nat, Contains-from_dedup, Contains-permutation, contains_from_among, dedup, dedup_is, eqb, IsPermutation-sym, IsStrictlyIncreasing-dedup, IsStrictlySortedBy, nat_cmp, sorted_from_strictly_increasing, subst, sym}
 use Rattle.index_rows.proofs.adjacency.put_in_order.Goals as goal
 
 pub returns-clause-ascending : goal.returns-clause-ascending

@@ -1,6 +1,5 @@
-use Rattle.std.proofs.Common.{◌<◌, All, arith, length, List, subst, sym, ℕ}
-use Rattle.index_rows.proofs.Prelude.{All-neighbors, AreTransposed, AreTransposed-among, neighbors_of}
-use Rattle.index_rows.proofs.Notes.{AreTransposed-below, IsBegun-all, IsBegun-more}
+use Rattle.std.proofs.Common.{◌<◌}
+use Rattle.index_rows.proofs.{Notes.{AreTransposed-below, IsBegun-all, IsBegun-more}, Prelude.{All, All-neighbors, AreTransposed, AreTransposed-among, arith, length, List, neighbors_of, subst, sym, ℕ}}
 use Rattle.index_rows.proofs.adjacency.transposed.Goals as goal
 
 pub note-requires : goal.note-requires

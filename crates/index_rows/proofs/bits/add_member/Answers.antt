@@ -1,6 +1,5 @@
-use Rattle.std.proofs.Common.{[], ◌∷◌, List, set, subst, sym, true, ℕ}
-use Rattle.index_rows.proofs.Prelude.{IsSpread, non_members_read}
-use Rattle.index_rows.proofs.Spreading.{IsSpread-more, IsSpread-none}
+use Rattle.std.proofs.Common.{◌∷◌}
+use Rattle.index_rows.proofs.{Prelude.{[], IsSpread, List, non_members_read, set, subst, sym, true, ℕ}, Spreading.{IsSpread-more, IsSpread-none}}
 use Rattle.index_rows.proofs.bits.add_member.Goals as goal
 
 pub returns-in_ok-push : goal.returns-in_ok-push

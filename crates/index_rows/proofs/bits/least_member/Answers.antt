@@ -1,6 +1,5 @@
-use Rattle.std.proofs.Common.{◌<◌, ◌∙◌, ◌≡◌, ◌≤◌, arith, Bool, get_or, length, List, subst, sym, ℕ}
-use Rattle.std.proofs.lemmas.List.{get_or_default}
-use Rattle.index_rows.proofs.Prelude.{among_from_contains, cmp_below, contains_from_among, IsAmong, IsMember, IsMember-within}
+use Rattle.std.proofs.Common.{◌<◌, ◌≡◌, ◌≤◌}
+use Rattle.index_rows.proofs.Prelude.{among_from_contains, arith, Bool, cmp_below, contains_from_among, get_or, get_or_default, IsAmong, IsMember, IsMember-within, length, List, subst, sym, ℕ, ◌∙◌}
 use Rattle.index_rows.proofs.bits.least_member.Goals as goal
 
 -- no member in the list is below `least`

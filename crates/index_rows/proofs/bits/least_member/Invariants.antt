@@ -1,6 +1,5 @@
-use Rattle.std.proofs.Common.{◌<◌, ◌≤◌, get_or, length, ℕ}
-use Rattle.std.specs.List.{Contains}
-use Rattle.index_rows.proofs.Prelude.{IsMember}
+use Rattle.std.proofs.Common.{◌<◌, ◌≤◌}
+use Rattle.index_rows.proofs.Prelude.{Contains, get_or, IsMember, length, ℕ}
 use Rattle.index_rows.proofs.bits.least_member.Given as goal
 
 abbrev pub invariant-loop-node : goal.invariant-loop-node

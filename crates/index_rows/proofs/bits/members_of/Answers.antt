@@ -1,10 +1,7 @@
-use Rattle.std.proofs.Common.{◌∙◌, ◌≡◌, ap, Bool, false, List, subst, sym, true, ℕ}
-use Rattle.std.specs.declared.alloc.Global.{Global}
-use Rattle.std.specs.declared.vec.Vec.{Vec}
-use Rattle.index_rows.proofs.Prelude.{IsMember}
-use Rattle.index_rows.proofs.Listing.{IsListedBelow, IsListedBelow-more, IsListedBelow-none, IsListedBelow-skip}
+use Rattle.std.proofs.Common.{◌≡◌}
+use Rattle.index_rows.proofs.Prelude.{ap, Bool, false, Global, IsMember, List, subst, sym, true, Vec, ℕ, ◌∙◌}
+use Rattle.index_rows.proofs.{bits.members_of.Goals.{else-is_member, then-is_member+in_ok-push}, Listing.{IsListedBelow, IsListedBelow-more, IsListedBelow-none, IsListedBelow-skip}}
 use Rattle.index_rows.proofs.bits.members_of.Goals as goal
-use Rattle.index_rows.proofs.bits.members_of.Goals.{then-is_member+in_ok-push, else-is_member}
 
 pub loop-node-init : goal.loop-node-init
 loop-node-init c =

@@ -1,5 +1,4 @@
-use Rattle.index_rows.proofs.Prelude.{IsMember}
-use Rattle.index_rows.proofs.Listing.{IsListedBelow}
+use Rattle.index_rows.proofs.{Listing.{IsListedBelow}, Prelude.{IsMember}}
 use Rattle.index_rows.proofs.bits.members_of.Given as goal
 
 abbrev pub invariant-loop-node : goal.invariant-loop-node

@@ -1,5 +1,5 @@
-use Rattle.std.proofs.Common.{◌<◌, ◌↔◌, ◌≡◌, length, ℕ}
-use Rattle.index_rows.proofs.Prelude.{IsMember}
+use Rattle.std.proofs.Common.{◌<◌, ◌↔◌, ◌≡◌}
+use Rattle.index_rows.proofs.Prelude.{IsMember, length, ℕ}
 use Rattle.index_rows.proofs.bits.non_members.Given as goal
 
 abbrev pub invariant-loop-is_member : goal.invariant-loop-is_member

@@ -1,6 +1,4 @@
-use Rattle.std.proofs.Common.{refl}
-use Rattle.std.proofs.lemmas.List.{take_more}
-use Rattle.index_rows.proofs.{Levels.IsSpread-append, Spreading.IsSpread-at}
+use Rattle.index_rows.proofs.{Levels.{IsSpread-append}, Prelude.{refl, take_more}, Spreading.{IsSpread-at}}
 use Rattle.index_rows.proofs.bits.spread.Goals as goal
 
 pub loop-node-preserved : goal.loop-node-preserved

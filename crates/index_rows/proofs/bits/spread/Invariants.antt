@@ -1,5 +1,4 @@
-use Rattle.std.proofs.Common.{take}
-use Rattle.index_rows.proofs.Prelude.{IsSpread}
+use Rattle.index_rows.proofs.Prelude.{IsSpread, take}
 use Rattle.index_rows.proofs.bits.spread.Given as goal
 
 abbrev pub invariant-loop-node : goal.invariant-loop-node

@@ -1,10 +1,6 @@
-use Rattle.std.proofs.Common.{ap, get_or, List, refl}
-use Rattle.std.proofs.lemmas.List.{take_more}
-use Rattle.std.specs.declared.alloc.Global.{Global}
-use Rattle.std.specs.declared.vec.Vec.{Vec}
-use Rattle.index_rows.proofs.{Insides.spread_member, Insides.spread_non_members, Spreading.IsSpread-at}
+use Rattle.index_rows.proofs.Prelude.{ap, get_or, Global, List, refl, take_more, Vec}
+use Rattle.index_rows.proofs.{bits.spread_inside.Goals.{else-inside-node, then-inside-node+in_ok-add_member}, Insides.{spread_member, spread_non_members}, Spreading.{IsSpread-at}}
 use Rattle.index_rows.proofs.bits.spread_inside.Goals as goal
-use Rattle.index_rows.proofs.bits.spread_inside.Goals.{then-inside-node+in_ok-add_member, else-inside-node}
 
 abbrev items : {A : Type 0} → Vec A Global → List A
 items v = v.items

@@ -1,5 +1,4 @@
-use Rattle.std.proofs.Common.{filter, take}
-use Rattle.index_rows.proofs.Prelude.{is_member, IsSpread}
+use Rattle.index_rows.proofs.Prelude.{filter, is_member, IsSpread, take}
 use Rattle.index_rows.proofs.bits.spread_inside.Given as goal
 
 abbrev pub invariant-loop-node : goal.invariant-loop-node

@@ -1,5 +1,5 @@
-use Rattle.std.proofs.Common.{◌<◌, ◌↔◌, ◌≡◌, length, ℕ}
-use Rattle.index_rows.proofs.Prelude.{IsMember}
+use Rattle.std.proofs.Common.{◌<◌, ◌↔◌, ◌≡◌}
+use Rattle.index_rows.proofs.Prelude.{IsMember, length, ℕ}
 use Rattle.index_rows.proofs.bits.without.Given as goal
 
 abbrev pub invariant-loop-node : goal.invariant-loop-node

@@ -1,9 +1,5 @@
-use Rattle.std.proofs.Common.{◌↔◌, ◌≡◌, Bool, Err, IfOk, List, Ok, Result, subst, ℕ}
-use Rattle.std.specs.List.Sorted.{IsStrictlySortedBy}
-use Rattle.std.specs.Ordering.{nat_cmp}
-use Rattle.std.specs.declared.alloc.Global.{Global}
-use Rattle.std.specs.declared.vec.Vec.{Vec}
-use Rattle.index_rows.proofs.Prelude.{IsAmong, IsClosure, IsMember, IsReached}
+use Rattle.std.proofs.Common.{◌↔◌, ◌≡◌}
+use Rattle.index_rows.proofs.Prelude.{Bool, Err, Global, IfOk, IsAmong, IsClosure, IsMember, IsReached, IsStrictlySortedBy, List, nat_cmp, Ok, Result, subst, Vec, ℕ}
 use Rattle.index_rows.proofs.closures.closure.Goals as goal
 
 -- the listed members are the closure

@@ -1,7 +1,5 @@
-use Rattle.std.proofs.Common.{◌<◌, ◌↔◌, ◌∙◌, ◌≡◌, All, ap, Bool, Err, IfOk, length, List, Ok, replicate, Result, subst, sym, true, ℕ}
-use Rattle.std.specs.declared.alloc.Global.{Global}
-use Rattle.std.specs.declared.vec.Vec.{Vec}
-use Rattle.index_rows.proofs.Prelude.{AreSuccessorsOf, IsMember, IsMember-all, IsReached, LeadsInside, Listed, Named, same_reached, successors-below, successors_from}
+use Rattle.std.proofs.Common.{◌<◌, ◌↔◌, ◌≡◌}
+use Rattle.index_rows.proofs.Prelude.{All, ap, AreSuccessorsOf, Bool, Err, Global, IfOk, IsMember, IsMember-all, IsReached, LeadsInside, length, List, Listed, Named, Ok, replicate, Result, same_reached, subst, successors-below, successors_from, sym, true, Vec, ℕ, ◌∙◌}
 use Rattle.index_rows.proofs.closures.reached.Goals as goal
 
 pub reached_inside-requires : goal.reached_inside-requires

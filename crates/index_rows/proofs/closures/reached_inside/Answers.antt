@@ -1,5 +1,5 @@
-use Rattle.std.proofs.Common.{[], ◌++◌, ◌<◌, ◌∷◌, arith, length, List, subst, sym, vec_len, ℕ}
-use Rattle.index_rows.proofs.Prelude.{AreSuccessorsOf, empty_list, inside_is, IsAmong-push, IsMember-within, LeadsInside}
+use Rattle.std.proofs.Common.{◌++◌, ◌<◌, ◌∷◌}
+use Rattle.index_rows.proofs.Prelude.{[], AreSuccessorsOf, arith, empty_list, inside_is, IsAmong-push, IsMember-within, LeadsInside, length, List, subst, sym, vec_len, ℕ}
 use Rattle.index_rows.proofs.Works.{IsWork, IsWork-done, IsWork-init, IsWork-step}
 use Rattle.index_rows.proofs.closures.reached_inside.Goals as goal
 

@@ -1,6 +1,5 @@
-use Rattle.std.proofs.Common.{◌+◌, length}
-use Rattle.index_rows.proofs.Prelude.{LeadsInside, unset}
-use Rattle.index_rows.proofs.Works.{IsWork}
+use Rattle.std.proofs.Common.{◌+◌}
+use Rattle.index_rows.proofs.{Prelude.{LeadsInside, length, unset}, Works.{IsWork}}
 use Rattle.index_rows.proofs.closures.reached_inside.Given as goal
 
 abbrev pub invariant-loop-node : goal.invariant-loop-node

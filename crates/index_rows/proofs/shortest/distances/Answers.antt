@@ -1,7 +1,5 @@
-use Rattle.std.proofs.Common.{◌<◌, ◌==◌, ◌≡◌, All, arith, Bool, false, get_or, inl, inr, length, subst, sym, true, vec_len, ℕ}
-use Rattle.std.proofs.lemmas.Bool.{cases_eq, eq-eqb, ne_eqb}
-use Rattle.std.proofs.lemmas.List.Elements.{Contains-get_or}
-use Rattle.index_rows.proofs.Prelude.{among_from_contains, empty_list, IsAmong, IsMember-within, successors_from}
+use Rattle.std.proofs.Common.{◌<◌, ◌==◌, ◌≡◌}
+use Rattle.index_rows.proofs.Prelude.{All, among_from_contains, arith, Bool, cases_eq, Contains-get_or, empty_list, eq-eqb, false, get_or, inl, inr, IsAmong, IsMember-within, length, ne_eqb, subst, successors_from, sym, true, vec_len, ℕ}
 use Rattle.index_rows.proofs.Levels.{IsLevel-done, IsLevel-init, IsLevel-next}
 use Rattle.index_rows.proofs.shortest.distances.Goals as goal
 

@@ -1,6 +1,5 @@
-use Rattle.std.proofs.Common.{◌+◌, length}
-use Rattle.index_rows.proofs.Prelude.{successors_from, unset}
-use Rattle.index_rows.proofs.Levels.{IsLevel}
+use Rattle.std.proofs.Common.{◌+◌}
+use Rattle.index_rows.proofs.{Levels.{IsLevel}, Prelude.{length, successors_from, unset}}
 use Rattle.index_rows.proofs.shortest.distances.Given as goal
 
 abbrev pub invariant-loop-alloc : goal.invariant-loop-alloc

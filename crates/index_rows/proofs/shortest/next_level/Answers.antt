@@ -1,8 +1,5 @@
-use Rattle.std.proofs.Common.{[], ◌++◌, ◌∙◌, ◌∷◌, ◌≡◌, ap, append-nil, arith, get_or, length, List, subst, sym, take, true, ℕ}
-use Rattle.std.proofs.lemmas.List.{length-replicate, take_more}
-use Rattle.std.proofs.lemmas.List.Concat.{flat_map-append}
-use Rattle.std.specs.List.{flat_map}
-use Rattle.index_rows.proofs.Prelude.{AreSuccessorsOf, inside_all, IsSpread, successors_from, successors_inside}
+use Rattle.std.proofs.Common.{◌++◌, ◌∷◌, ◌≡◌}
+use Rattle.index_rows.proofs.Prelude.{[], ap, append-nil, AreSuccessorsOf, arith, flat_map, flat_map-append, get_or, inside_all, IsSpread, length, length-replicate, List, subst, successors_from, successors_inside, sym, take, take_more, true, ℕ, ◌∙◌}
 use Rattle.index_rows.proofs.Levels.{IsSpread-append}
 use Rattle.index_rows.proofs.shortest.next_level.Goals as goal
 

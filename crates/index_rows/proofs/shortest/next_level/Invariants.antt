@@ -1,6 +1,4 @@
-use Rattle.std.proofs.Common.{[], take}
-use Rattle.std.specs.List.{flat_map}
-use Rattle.index_rows.proofs.Prelude.{IsSpread, successors_from}
+use Rattle.index_rows.proofs.Prelude.{[], flat_map, IsSpread, successors_from, take}
 use Rattle.index_rows.proofs.shortest.next_level.Given as goal
 
 abbrev pub invariant-loop-node : goal.invariant-loop-node

@@ -1,4 +1,5 @@
-use Rattle.std.proofs.Common.{◌++◌, ◌≡◌, map, take}
+use Rattle.std.proofs.Common.{◌++◌, ◌≡◌}
+use Rattle.index_rows.proofs.Prelude.{map, take}
 use Rattle.index_rows.proofs.shortest.push_level.Given as goal
 
 abbrev pub invariant-loop-node : goal.invariant-loop-node

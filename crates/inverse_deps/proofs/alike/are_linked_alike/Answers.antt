@@ -1,6 +1,4 @@
-use Rattle.std.proofs.Common.{◌∙◌, IsTrue, sym}
-use Rattle.inverse_deps.proofs.Prelude.{adjacency_makes_the_edges, adjacency_makes_the_links, HaveSameAdjacency}
-use Rattle.inverse_deps.proofs.SameAdjacency.{adjacency_alike}
+use Rattle.inverse_deps.proofs.{Prelude.{adjacency_makes_the_edges, adjacency_makes_the_links, HaveSameAdjacency, IsTrue, sym, ◌∙◌}, SameAdjacency.{adjacency_alike}}
 use Rattle.inverse_deps.proofs.alike.are_linked_alike.Goals as goal
 
 pub returns-then-have_same_names : goal.returns-then-have_same_names

@@ -1,5 +1,5 @@
-use Rattle.std.proofs.Common.{◌<◌, arith, length}
-use Rattle.inverse_deps.proofs.SameAdjacency.{names_differ, names_go_on}
+use Rattle.std.proofs.Common.{◌<◌}
+use Rattle.inverse_deps.proofs.{Prelude.{arith, length}, SameAdjacency.{names_differ, names_go_on}}
 use Rattle.inverse_deps.proofs.alike.have_same_names.Goals as goal
 
 pub returns-then-ne : goal.returns-then-ne

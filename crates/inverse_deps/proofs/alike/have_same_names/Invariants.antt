@@ -1,5 +1,5 @@
-use Rattle.std.proofs.Common.{◌≡◌, take}
-use Rattle.std.specs.Map.{keys_of}
+use Rattle.std.proofs.Common.{◌≡◌}
+use Rattle.inverse_deps.proofs.Prelude.{keys_of, take}
 use Rattle.inverse_deps.proofs.alike.have_same_names.Given as goal
 
 abbrev pub invariant-loop-index : goal.invariant-loop-index

@@ -1,8 +1,6 @@
-use Rattle.std.proofs.Common.{◌↔◌, ◌∙◌, arith, get_or, length, List, subst, sym, ℕ}
-use Rattle.std.specs.declared.alloc.Global.{Global}
-use Rattle.std.specs.declared.vec.Vec.{Vec}
-use Rattle.inverse_deps.proofs.Prelude.{AreAdjacencyOf, AreEdgeAdjacency, Before, IsAmong, made_more, made_none, neighbors}
-use Rattle.inverse_deps.proofs.{Stepping.edge_successors, Tabling.made_by_kinds, Tabling.naming_adjacency, Tabling.own_adjacency}
+use Rattle.std.proofs.Common.{◌↔◌}
+use Rattle.inverse_deps.proofs.Prelude.{AreAdjacencyOf, AreEdgeAdjacency, arith, Before, get_or, Global, IsAmong, length, List, made_more, made_none, neighbors, subst, sym, Vec, ℕ, ◌∙◌}
+use Rattle.inverse_deps.proofs.{Stepping.{edge_successors}, Tabling.{made_by_kinds, naming_adjacency, own_adjacency}}
 use Rattle.inverse_deps.proofs.building.edge_adjacency.Goals as goal
 
 pub loop-kind-init : goal.loop-kind-init

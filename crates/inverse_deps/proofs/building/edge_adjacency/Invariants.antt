@@ -1,5 +1,4 @@
-use Rattle.std.specs.Prelude.{slice_index_or}
-use Rattle.inverse_deps.proofs.Prelude.{AreEdgeAdjacency, AreMade, Before}
+use Rattle.inverse_deps.proofs.Prelude.{AreEdgeAdjacency, AreMade, Before, slice_index_or}
 use Rattle.inverse_deps.proofs.building.edge_adjacency.Given as goal
 
 abbrev pub invariant-loop-kind : goal.invariant-loop-kind

@@ -1,8 +1,5 @@
-use Rattle.std.proofs.Common.{[], ◌++◌, ◌+◌, ◌<◌, ◌∙◌, ◌∷◌, ◌≡◌, All, ap, arith, get_or, List, map, subst, sym, take, ℕ}
-use Rattle.std.proofs.lemmas.List.{map-append, take_all, take_more}
-use Rattle.std.specs.declared.alloc.Global.{Global}
-use Rattle.std.specs.declared.vec.Vec.{Vec}
-use Rattle.inverse_deps.proofs.Prelude.{adjacency_at, All-neighbors, AreEdgeAdjacency, Before, count_of, DepKind, lists_by, Name, name_at, neighbors}
+use Rattle.std.proofs.Common.{◌++◌, ◌+◌, ◌<◌, ◌∷◌, ◌≡◌}
+use Rattle.inverse_deps.proofs.Prelude.{[], adjacency_at, All, All-neighbors, ap, AreEdgeAdjacency, arith, Before, count_of, DepKind, get_or, Global, List, lists_by, map, map-append, Name, name_at, neighbors, subst, sym, take, take_all, take_more, Vec, ℕ, ◌∙◌}
 use Rattle.inverse_deps.proofs.building.lists_at.Goals as goal
 
 pub loop-kind-init : goal.loop-kind-init

@@ -1,5 +1,5 @@
-use Rattle.std.proofs.Common.{◌≡◌, take}
-use Rattle.inverse_deps.proofs.Prelude.{lists_by}
+use Rattle.std.proofs.Common.{◌≡◌}
+use Rattle.inverse_deps.proofs.Prelude.{lists_by, take}
 use Rattle.inverse_deps.proofs.building.lists_at.Given as goal
 
 abbrev pub invariant-loop-kind : goal.invariant-loop-kind

@@ -1,10 +1,5 @@
-use Rattle.std.proofs.Common.{[], ◌++◌, ◌<◌, ◌∙◌, ◌∷◌, ◌≡◌, ◌≤◌, ap, arith, Bool, get_or, IsTrue, length, List, subst, sym, take, ℕ}
-use Rattle.std.proofs.lemmas.List.{map-append, take_all, take_more}
-use Rattle.std.specs.FinMap.Entries.{is_sorted}
-use Rattle.std.specs.Map.{keys_of}
-use Rattle.std.specs.declared.alloc.Global.{Global}
-use Rattle.std.specs.declared.vec.Vec.{Vec}
-use Rattle.inverse_deps.proofs.Prelude.{AreEdges, AreKept, AreMade, AreTables, EdgeMap, key_at_place, keys_length, lists_from, LoadMap, made_more, Name, name_cmp, NameLoad, sorted_by_keys}
+use Rattle.std.proofs.Common.{◌++◌, ◌<◌, ◌∷◌, ◌≡◌, ◌≤◌}
+use Rattle.inverse_deps.proofs.Prelude.{[], ap, AreEdges, AreKept, AreMade, AreTables, arith, Bool, EdgeMap, get_or, Global, is_sorted, IsTrue, key_at_place, keys_length, keys_of, length, List, lists_from, LoadMap, made_more, map-append, Name, name_cmp, NameLoad, sorted_by_keys, subst, sym, take, take_all, take_more, Vec, ℕ, ◌∙◌}
 use Rattle.inverse_deps.proofs.Tabling.{all_edges, all_kept}
 use Rattle.inverse_deps.proofs.building.unit_lists.Goals as goal
 

@@ -1,6 +1,5 @@
-use Rattle.std.proofs.Common.{◌≡◌, take}
-use Rattle.std.specs.Map.{keys_of}
-use Rattle.inverse_deps.proofs.Prelude.{AreMade, lists_from}
+use Rattle.std.proofs.Common.{◌≡◌}
+use Rattle.inverse_deps.proofs.Prelude.{AreMade, keys_of, lists_from, take}
 use Rattle.inverse_deps.proofs.building.unit_lists.Given as goal
 
 abbrev pub invariant-loop-index : goal.invariant-loop-index

@@ -1,7 +1,5 @@
-use Rattle.std.proofs.Common.{[], ◌++◌, ◌+◌, ◌<◌, ◌∙◌, ◌∷◌, ◌≡◌, ap, arith, get_or, length, List, map, sym, take, ℕ}
-use Rattle.std.proofs.lemmas.List.{map-append, take_all, take_more}
-use Rattle.std.specs.Map.{keys_of}
-use Rattle.inverse_deps.proofs.Prelude.{key_at_place, Name, name_at}
+use Rattle.std.proofs.Common.{◌++◌, ◌+◌, ◌<◌, ◌∷◌, ◌≡◌}
+use Rattle.inverse_deps.proofs.Prelude.{[], ap, arith, get_or, key_at_place, keys_of, length, List, map, map-append, Name, name_at, sym, take, take_all, take_more, ℕ, ◌∙◌}
 use Rattle.inverse_deps.proofs.indices.names_at.Goals as goal
 
 pub loop-index-init : goal.loop-index-init

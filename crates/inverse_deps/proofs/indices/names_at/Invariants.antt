@@ -1,5 +1,5 @@
-use Rattle.std.proofs.Common.{◌≡◌, map, take}
-use Rattle.inverse_deps.proofs.Prelude.{name_at}
+use Rattle.std.proofs.Common.{◌≡◌}
+use Rattle.inverse_deps.proofs.Prelude.{map, name_at, take}
 use Rattle.inverse_deps.proofs.indices.names_at.Given as goal
 
 abbrev pub invariant-loop-index : goal.invariant-loop-index

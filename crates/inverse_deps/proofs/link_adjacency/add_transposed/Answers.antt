@@ -1,9 +1,6 @@
-use Rattle.std.proofs.Common.{[], ◌++◌, ◌+◌, ◌<◌, ◌∙◌, ◌∷◌, ◌≡◌, ap, arith, get_or, length, List, refl, set, subst, sym, take}
-use Rattle.std.proofs.lemmas.List.{get_or-map, length-map, map-set, take_all, take_more}
-use Rattle.std.specs.declared.alloc.Global.{Global}
-use Rattle.std.specs.declared.vec.Vec.{Vec}
-use Rattle.inverse_deps.proofs.Prelude.{AreTransposedIn, Dependency, links_in}
-use Rattle.inverse_deps.proofs.{Linking.transposed_in_more, Linking.transposed_in_none, Listing.no_dependency}
+use Rattle.std.proofs.Common.{◌++◌, ◌+◌, ◌<◌, ◌∷◌, ◌≡◌}
+use Rattle.inverse_deps.proofs.Prelude.{[], ap, AreTransposedIn, arith, Dependency, get_or, get_or-map, Global, length, length-map, links_in, List, map-set, refl, set, subst, sym, take, take_all, take_more, Vec, ◌∙◌}
+use Rattle.inverse_deps.proofs.{Linking.{transposed_in_more, transposed_in_none}, Listing.{no_dependency}}
 use Rattle.inverse_deps.proofs.link_adjacency.add_transposed.Goals as goal
 
 pub loop-dep-init : goal.loop-dep-init

@@ -1,5 +1,4 @@
-use Rattle.std.proofs.Common.{take}
-use Rattle.inverse_deps.proofs.Prelude.{AreTransposedIn, links_in}
+use Rattle.inverse_deps.proofs.Prelude.{AreTransposedIn, links_in, take}
 use Rattle.inverse_deps.proofs.link_adjacency.add_transposed.Given as goal
 
 abbrev pub invariant-loop-dep : goal.invariant-loop-dep

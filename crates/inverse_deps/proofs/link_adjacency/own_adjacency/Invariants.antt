@@ -1,5 +1,5 @@
-use Rattle.std.proofs.Common.{◌≡◌, take}
-use Rattle.inverse_deps.proofs.Prelude.{links_in}
+use Rattle.std.proofs.Common.{◌≡◌}
+use Rattle.inverse_deps.proofs.Prelude.{links_in, take}
 use Rattle.inverse_deps.proofs.link_adjacency.own_adjacency.Given as goal
 
 abbrev pub invariant-loop-index : goal.invariant-loop-index

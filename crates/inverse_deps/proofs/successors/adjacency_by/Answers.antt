@@ -1,8 +1,5 @@
-use Rattle.std.proofs.Common.{◌∙◌, ◌≡◌, arith, IsTrue, length, List, subst, ℕ}
-use Rattle.std.specs.FinMap.Entries.{is_sorted}
-use Rattle.std.specs.declared.alloc.Global.{Global}
-use Rattle.std.specs.declared.vec.Vec.{Vec}
-use Rattle.inverse_deps.proofs.Prelude.{adjacency_of_successors, AreIndicesBy, AreNames, count_of, Dependency, DependsOn, Listed, made_more, made_none, Name, name_at, name_cmp, NameLoad, neighbors, neighbors_holds}
+use Rattle.std.proofs.Common.{◌≡◌}
+use Rattle.inverse_deps.proofs.Prelude.{adjacency_of_successors, AreIndicesBy, AreNames, arith, count_of, Dependency, DependsOn, Global, is_sorted, IsTrue, length, List, Listed, made_more, made_none, Name, name_at, name_cmp, NameLoad, neighbors, neighbors_holds, subst, Vec, ℕ, ◌∙◌}
 use Rattle.inverse_deps.proofs.Stepping.{neighbors_named}
 use Rattle.inverse_deps.proofs.successors.adjacency_by.Goals as goal
 

@@ -1,8 +1,4 @@
-use Rattle.std.proofs.Common.{arith, get_or, List, ℕ}
-use Rattle.std.specs.declared.alloc.Global.{Global}
-use Rattle.std.specs.declared.vec.Vec.{Vec}
-use Rattle.inverse_deps.proofs.Prelude.{AreNamingAdjacency, Before, made_more, made_none}
-use Rattle.inverse_deps.proofs.Tabling.{made_by_kinds}
+use Rattle.inverse_deps.proofs.{Prelude.{AreNamingAdjacency, arith, Before, get_or, Global, List, made_more, made_none, Vec, ℕ}, Tabling.{made_by_kinds}}
 use Rattle.inverse_deps.proofs.successors.dependency_adjacency.Goals as goal
 
 pub loop-kind-init : goal.loop-kind-init

@@ -1,5 +1,4 @@
-use Rattle.std.specs.Prelude.{slice_index_or}
-use Rattle.inverse_deps.proofs.Prelude.{AreMade, AreNamingAdjacency, Before}
+use Rattle.inverse_deps.proofs.Prelude.{AreMade, AreNamingAdjacency, Before, slice_index_or}
 use Rattle.inverse_deps.proofs.successors.dependency_adjacency.Given as goal
 
 abbrev pub invariant-loop-kind : goal.invariant-loop-kind

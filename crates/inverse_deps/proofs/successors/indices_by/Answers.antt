@@ -1,13 +1,9 @@
-use Rattle.std.proofs.Common.{[], ◌++◌, ◌+◌, ◌∙◌, ◌∷◌, ◌≡◌, ap, arith, get_or, List, subst, sym, take, ℕ}
-use Rattle.std.proofs.lemmas.List.{take_all, take_more}
-use Rattle.std.specs.declared.alloc.Global.{Global}
-use Rattle.std.specs.declared.vec.Vec.{Vec}
+use Rattle.std.proofs.Common.{◌++◌, ◌+◌, ◌∷◌, ◌≡◌}
 use denote.Enum.Bare.{same_false, same_true}
-use Rattle.inverse_deps.proofs.Prelude.{AreIndicesBy, Dependency}
-use Rattle.inverse_deps.proofs.Listing.{index_passed, index_read, no_dependency}
+use Rattle.inverse_deps.proofs.Prelude.{[], ap, AreIndicesBy, arith, Dependency, get_or, Global, List, subst, sym, take, take_all, take_more, Vec, ℕ, ◌∙◌}
+use Rattle.inverse_deps.proofs.{Listing.{index_passed, index_read, no_dependency}, successors.indices_by.Goals.{else-eq, then-eq+in_ok-push}}
 use Rattle.setting_rules.specs.contracts.kinds.DepKind as kinds
 use Rattle.inverse_deps.proofs.successors.indices_by.Goals as goal
-use Rattle.inverse_deps.proofs.successors.indices_by.Goals.{then-eq+in_ok-push, else-eq}
 
 pub loop-dep-preserved : goal.loop-dep-preserved
 loop-dep-preserved c =

@@ -1,5 +1,4 @@
-use Rattle.std.proofs.Common.{take}
-use Rattle.inverse_deps.proofs.Prelude.{AreIndicesBy}
+use Rattle.inverse_deps.proofs.Prelude.{AreIndicesBy, take}
 use Rattle.inverse_deps.proofs.successors.indices_by.Given as goal
 
 abbrev pub invariant-loop-dep : goal.invariant-loop-dep

@@ -1,8 +1,5 @@
-use Rattle.std.proofs.Common.{[], ◌++◌, ◌+◌, ◌∙◌, ◌∷◌, ◌≡◌, All, ap, get_or, List, map, subst, sym, take}
-use Rattle.std.proofs.lemmas.List.{map-append, take_more}
-use Rattle.std.proofs.lemmas.List.Elements.{All-push}
-use Rattle.inverse_deps.proofs.Prelude.{AreEdgesFrom, Before, DependencyList, DepKind}
-use Rattle.inverse_deps.proofs.Linking.{edges_linked}
+use Rattle.std.proofs.Common.{◌++◌, ◌+◌, ◌∷◌, ◌≡◌}
+use Rattle.inverse_deps.proofs.{Linking.{edges_linked}, Prelude.{[], All, All-push, ap, AreEdgesFrom, Before, DependencyList, DepKind, get_or, List, map, map-append, subst, sym, take, take_more, ◌∙◌}}
 use Rattle.inverse_deps.proofs.unit_edges.edges_of.Goals as goal
 
 pub loop-kind-preserved : goal.loop-kind-preserved

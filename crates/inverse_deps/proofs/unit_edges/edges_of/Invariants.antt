@@ -1,5 +1,5 @@
-use Rattle.std.proofs.Common.{◌≡◌, All, map, take}
-use Rattle.inverse_deps.proofs.Prelude.{AreEdgesFrom, DependencyList}
+use Rattle.std.proofs.Common.{◌≡◌}
+use Rattle.inverse_deps.proofs.Prelude.{All, AreEdgesFrom, DependencyList, map, take}
 use Rattle.inverse_deps.proofs.unit_edges.edges_of.Given as goal
 
 abbrev pub invariant-loop-kind : goal.invariant-loop-kind

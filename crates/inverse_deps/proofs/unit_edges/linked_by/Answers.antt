@@ -1,6 +1,5 @@
-use Rattle.std.proofs.Common.{◌<◌, ◌∙◌, All, ap, List, map, subst, sym, ℕ}
-use Rattle.inverse_deps.proofs.Prelude.{count_of, name_at}
-use Rattle.inverse_deps.proofs.Linking.{indices_within, linked}
+use Rattle.std.proofs.Common.{◌<◌}
+use Rattle.inverse_deps.proofs.{Linking.{indices_within, linked}, Prelude.{All, ap, count_of, List, map, name_at, subst, sym, ℕ, ◌∙◌}}
 use Rattle.inverse_deps.proofs.unit_edges.linked_by.Goals as goal
 
 pub names_at-requires : goal.names_at-requires

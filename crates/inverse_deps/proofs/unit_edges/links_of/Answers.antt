@@ -1,5 +1,4 @@
-use Rattle.std.proofs.Common.{[], get_or, List, subst, sym}
-use Rattle.inverse_deps.proofs.Prelude.{AreLinksOf, Dependency, Name}
+use Rattle.inverse_deps.proofs.Prelude.{[], AreLinksOf, Dependency, get_or, List, Name, subst, sym}
 use Rattle.inverse_deps.proofs.unit_edges.links_of.Goals as goal
 
 pub returns-in-Some : goal.returns-in-Some

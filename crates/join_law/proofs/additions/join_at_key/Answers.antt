@@ -1,6 +1,5 @@
-use Rattle.std.proofs.Common.{◌∙◌, ap, refl, Some, sym}
-use Rattle.join_law.proofs.Prelude.{entry_not_least, find_at, find_gap, is_none_or}
-use Rattle.join_law.proofs.{MapEdits.added_with, MapEdits.between_is_between, MapEdits.between_is_map, MapEdits.inserted_is_join, MapEdits.inserted_is_map, MapEdits.joined_is_join, MapEdits.joined_is_map, Outcomes.by_outcome, Outcomes.if_ok_weaker, Outcomes.on_err_weaker, Outcomes.on_ok_weaker}
+use Rattle.join_law.proofs.Prelude.{ap, entry_not_least, find_at, find_gap, is_none_or, refl, Some, sym, ◌∙◌}
+use Rattle.join_law.proofs.{MapEdits.{added_with, between_is_between, between_is_map, inserted_is_join, inserted_is_map, joined_is_join, joined_is_map}, Outcomes.{by_outcome, if_ok_weaker, on_err_weaker, on_ok_weaker}}
 use Rattle.join_law.proofs.additions.join_at_key.Goals as goal
 
 pub returns-in-Ok-clause-ok : goal.returns-in-Ok-clause-ok

@@ -1,6 +1,4 @@
-use Rattle.std.proofs.Common.{◌∙◌, ap, set, Some, subst, sym}
-use Rattle.join_law.proofs.Prelude.{find_at, find_gap, is_some_and, IsMap}
-use Rattle.join_law.proofs.{MapEdits.joined_is_join, MapEdits.joined_is_map, MapEdits.set_same, Outcomes.by_answer, Outcomes.on_false_weaker, Outcomes.on_true_weaker}
+use Rattle.join_law.proofs.{MapEdits.{joined_is_join, joined_is_map, set_same}, Outcomes.{by_answer, on_false_weaker, on_true_weaker}, Prelude.{ap, find_at, find_gap, is_some_and, IsMap, set, Some, subst, sym, ◌∙◌}}
 use Rattle.join_law.proofs.changes.change_pair.Goals as goal
 
 pub returns-in-Ok-clause-made : goal.returns-in-Ok-clause-made

@@ -1,4 +1,5 @@
-use Rattle.std.proofs.Common.{◌≡◌, take}
+use Rattle.std.proofs.Common.{◌≡◌}
+use Rattle.join_law.proofs.Prelude.{take}
 use Rattle.join_law.proofs.copies.copy_pairs.Given as goal
 
 abbrev pub invariant-loop-pair : goal.invariant-loop-pair

@@ -1,8 +1,6 @@
-use Rattle.std.proofs.Common.{[], ◌∷◌, ◌≡◌, arith, drop, None, subst, sym}
-use Rattle.std.specs.Bool.{OnFalse, OnTrue}
-use Rattle.join_law.proofs.Prelude.{AreCopiesJoined, IsHeld, IsJoin, IsMap, MapBelow}
+use Rattle.std.{proofs.Common.{◌∷◌, ◌≡◌}, specs.FinMap.{find}}
+use Rattle.join_law.proofs.Prelude.{[], AreCopiesJoined, arith, drop, IsHeld, IsJoin, IsMap, MapBelow, None, OnFalse, OnTrue, subst, sym}
 use Rattle.join_law.proofs.CopyWalks.{copied_all, copied_first, copied_more, drop_is_map, held_at, not_known, rest_copied, still_known, stopped_joined, take_rest}
-use Rattle.std.specs.FinMap.{find}
 use Rattle.join_law.proofs.copies.join_copies.Goals as goal
 
 pub join_pair_copy-requires-clause-held : goal.join_pair_copy-requires-clause-held

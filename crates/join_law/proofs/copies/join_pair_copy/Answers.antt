@@ -1,6 +1,6 @@
-use Rattle.std.proofs.Common.{◌∙◌, ◌≡◌, ap, set}
-use Rattle.join_law.proofs.Prelude.{find_gap}
-use Rattle.join_law.proofs.{MapEdits.between_is_between, MapEdits.between_is_map, MapEdits.inserted_is_join, MapEdits.inserted_is_map, MapEdits.joined_is_join, MapEdits.joined_is_map, MapEdits.known_here, MapEdits.not_known, MapEdits.set_same, MapEdits.unchanged_is_between, Outcomes.on_err}
+use Rattle.std.proofs.Common.{◌≡◌}
+use Rattle.join_law.proofs.Prelude.{ap, find_gap, set, ◌∙◌}
+use Rattle.join_law.proofs.{MapEdits.{between_is_between, between_is_map, inserted_is_join, inserted_is_map, joined_is_join, joined_is_map, known_here, not_known, set_same, unchanged_is_between}, Outcomes.{on_err}}
 use Rattle.join_law.proofs.copies.join_pair_copy.Goals as goal
 
 pub returns-in_err-insert_copy-in-Err-clause-known : goal.returns-in_err-insert_copy-in-Err-clause-known

@@ -1,4 +1,5 @@
-use Rattle.std.proofs.Common.{◌≡◌, map, take}
+use Rattle.std.proofs.Common.{◌≡◌}
+use Rattle.join_law.proofs.Prelude.{map, take}
 use Rattle.join_law.proofs.copies.keys_of.Given as goal
 
 abbrev pub invariant-loop-pair : goal.invariant-loop-pair

@@ -1,8 +1,5 @@
-use Rattle.std.proofs.Common.{◌∙◌, ◌≡◌, ap, arith, false, refl, sym, true}
-use Rattle.std.specs.Cmp.{tied_itself}
-use Rattle.std.specs.Ordering.{is_eq}
-use Rattle.join_law.proofs.Prelude.{is_equal}
-use Rattle.join_law.proofs.CopyWalks.{same_at, same_more}
+use Rattle.std.proofs.Common.{◌≡◌}
+use Rattle.join_law.proofs.{CopyWalks.{same_at, same_more}, Prelude.{ap, arith, false, is_eq, is_equal, refl, sym, tied_itself, true, ◌∙◌}}
 use Rattle.join_law.proofs.copies.same_pairs.Goals as goal
 
 pub loop-i-preserved : goal.loop-i-preserved

@@ -1,4 +1,5 @@
-use Rattle.std.proofs.Common.{◌≡◌, length, take}
+use Rattle.std.proofs.Common.{◌≡◌}
+use Rattle.join_law.proofs.Prelude.{length, take}
 use Rattle.join_law.proofs.copies.same_pairs.Given as goal
 
 abbrev pub invariant-loop-i : goal.invariant-loop-i

@@ -1,5 +1,4 @@
-use Rattle.std.proofs.Common.{◌∙◌, ap, IsSome, refl, set, subst, sym}
-use Rattle.join_law.proofs.Prelude.{find_at, find_gap}
+use Rattle.join_law.proofs.Prelude.{ap, find_at, find_gap, IsSome, refl, set, subst, sym, ◌∙◌}
 use Rattle.join_law.proofs.MapEdits.{inserted_is_join, inserted_is_map, joined_is_join, joined_is_map, partly_is_join, partly_is_map, refused_is_join, set_same}
 use Rattle.join_law.proofs.edits.join_pair.Goals as goal
 

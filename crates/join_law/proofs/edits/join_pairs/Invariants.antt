@@ -1,5 +1,4 @@
-use Rattle.std.proofs.Common.{length}
-use Rattle.join_law.proofs.Ends.{IsUnderWay}
+use Rattle.join_law.proofs.{Ends.{IsUnderWay}, Prelude.{length}}
 use Rattle.join_law.proofs.edits.join_pairs.Given as goal
 
 abbrev pub invariant-loop-key : goal.invariant-loop-key

@@ -1,5 +1,5 @@
-use Rattle.std.proofs.Common.{◌++◌, ◌∙◌, ◌≡◌, ap, subst, sym}
-use Rattle.join_law.proofs.Prelude.{AreCopiesJoined}
+use Rattle.std.proofs.Common.{◌++◌, ◌≡◌}
+use Rattle.join_law.proofs.Prelude.{ap, AreCopiesJoined, subst, sym, ◌∙◌}
 use Rattle.join_law.proofs.passes.join_copies_in_one.Goals as goal
 
 pub returns : goal.returns

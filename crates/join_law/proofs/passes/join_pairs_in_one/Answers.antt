@@ -1,5 +1,5 @@
-use Rattle.std.proofs.Common.{◌∙◌, ◌≡◌, ap, arith, refl, sym}
-use Rattle.join_law.proofs.PrefixWalks.{nothing_done}
+use Rattle.std.proofs.Common.{◌≡◌}
+use Rattle.join_law.proofs.{PrefixWalks.{nothing_done}, Prelude.{ap, arith, refl, sym, ◌∙◌}}
 use Rattle.join_law.proofs.passes.join_pairs_in_one.Goals as goal
 
 pub returns-in-Err : goal.returns-in-Err

@@ -1,7 +1,6 @@
-use Rattle.std.proofs.Common.{[], ◌++◌, ◌∙◌, ◌∷◌, ◌≡◌, ap, arith, get_or, length, subst, sym}
-use Rattle.std.specs.declared.cmp.Ordering.TheVariants.{Less}
-use Rattle.join_law.proofs.Prelude.{AreBelow, IsBetween, IsHeld, IsJoin, IsMap, MapBelow}
-use Rattle.join_law.proofs.{After.keys_ascend, CopyWalks.copied_all, CopyWalks.copied_first, CopyWalks.copied_more, CopyWalks.held_at, CopyWalks.stopped_joined}
+use Rattle.std.proofs.Common.{◌++◌, ◌∷◌, ◌≡◌}
+use Rattle.join_law.proofs.Prelude.{[], ap, AreBelow, arith, get_or, IsBetween, IsHeld, IsJoin, IsMap, length, Less, MapBelow, subst, sym, ◌∙◌}
+use Rattle.join_law.proofs.{After.{keys_ascend}, CopyWalks.{copied_all, copied_first, copied_more, held_at, stopped_joined}}
 use Rattle.join_law.proofs.passes.pass_copies.Goals as goal
 
 pub loop-pair-init : goal.loop-pair-init

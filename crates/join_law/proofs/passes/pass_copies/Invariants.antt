@@ -1,8 +1,5 @@
-use Rattle.std.proofs.Common.{◌++◌, ◌+◌, ◌-◌, ◌<◌, ◌≤◌, get_or, length, vec_len, ℕ}
-use Rattle.std.specs.Vec.{vec_capacity}
-use Rattle.std.specs.VecDeque.{deque_len}
-use Rattle.join_law.proofs.Prelude.{AreBelow}
-use Rattle.join_law.proofs.CopyWalks.{IsCopied}
+use Rattle.std.proofs.Common.{◌++◌, ◌+◌, ◌-◌, ◌<◌, ◌≤◌}
+use Rattle.join_law.proofs.{CopyWalks.{IsCopied}, Prelude.{AreBelow, deque_len, get_or, length, vec_capacity, vec_len, ℕ}}
 use Rattle.join_law.proofs.passes.pass_copies.Given as goal
 
 abbrev pub invariant-loop-pair : goal.invariant-loop-pair

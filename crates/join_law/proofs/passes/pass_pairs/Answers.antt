@@ -1,6 +1,6 @@
-use Rattle.std.proofs.Common.{[], ◌++◌, ◌<◌, ◌∙◌, ◌∷◌, ap, arith, get_or, length, List, subst, suc, sym}
-use Rattle.join_law.proofs.Prelude.{AreBelow, IsJoin, IsMap, IsPartialJoin, MapBelow}
-use Rattle.join_law.proofs.{After.keys_ascend, Ends.IsUnderWay, Ends.under_way_first, PrefixWalks.prefix_back, PrefixWalks.prefix_held, PrefixWalks.prefix_more, PrefixWalks.prefix_single, PrefixWalks.prefix_stopped}
+use Rattle.std.proofs.Common.{◌++◌, ◌<◌, ◌∷◌}
+use Rattle.join_law.proofs.Prelude.{[], ap, AreBelow, arith, get_or, IsJoin, IsMap, IsPartialJoin, length, List, MapBelow, subst, suc, sym, ◌∙◌}
+use Rattle.join_law.proofs.{After.{keys_ascend}, Ends.{IsUnderWay, under_way_first}, PrefixWalks.{prefix_back, prefix_held, prefix_more, prefix_single, prefix_stopped}}
 use Rattle.join_law.proofs.passes.pass_pairs.Goals as goal
 
 pub loop-key-init : goal.loop-key-init

@@ -1,6 +1,5 @@
-use Rattle.std.proofs.Common.{[], ◌∷◌}
-use Rattle.join_law.proofs.Prelude.{below_append, below_further}
-use Rattle.join_law.proofs.{Outcomes.on_err, PassEdits.added_is_join, PassEdits.added_is_map, PassEdits.between_is_between, PassEdits.between_is_map, PassEdits.joined_is_join, PassEdits.joined_is_map}
+use Rattle.std.proofs.Common.{◌∷◌}
+use Rattle.join_law.proofs.{Outcomes.{on_err}, PassEdits.{added_is_join, added_is_map, between_is_between, between_is_map, joined_is_join, joined_is_map}, Prelude.{[], below_append, below_further}}
 use Rattle.join_law.proofs.passes.place_copy.Goals as goal
 
 pub returns-in_err-join_copy-clause-map : goal.returns-in_err-join_copy-clause-map

@@ -1,6 +1,5 @@
-use Rattle.std.proofs.Common.{[], ◌∷◌}
-use Rattle.join_law.proofs.Prelude.{below_append, below_further}
-use Rattle.join_law.proofs.PassEdits.{added_is_join, added_is_map, joined_is_join, joined_is_map, partly_is_join, partly_is_map}
+use Rattle.std.proofs.Common.{◌∷◌}
+use Rattle.join_law.proofs.{PassEdits.{added_is_join, added_is_map, joined_is_join, joined_is_map, partly_is_join, partly_is_map}, Prelude.{[], below_append, below_further}}
 use Rattle.join_law.proofs.passes.place_pair.Goals as goal
 
 pub returns-in-Err-clause-map : goal.returns-in-Err-clause-map

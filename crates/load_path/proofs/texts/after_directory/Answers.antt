@@ -1,8 +1,5 @@
-use Rattle.std.proofs.Common.{[], ◌∷◌, None, Some, sym}
-use Rattle.std.proofs.lemmas.Bool.Decides.{Decides-eqb}
-use Rattle.std.proofs.lemmas.Slice.Eq.{strip_prefix_is}
-use Rattle.load_path.proofs.Prelude.{below_none}
-use Rattle.load_path.proofs.CutLemmas.{after_slash}
+use Rattle.std.proofs.Common.{◌∷◌}
+use Rattle.load_path.proofs.{CutLemmas.{after_slash}, Prelude.{[], below_none, Decides-eqb, None, Some, strip_prefix_is, sym}}
 use Rattle.load_path.proofs.texts.after_directory.Goals as goal
 
 pub returns-in_err-strip_prefix : goal.returns-in_err-strip_prefix

@@ -1,6 +1,4 @@
-use Rattle.std.proofs.Common.{sym}
-use Rattle.std.proofs.lemmas.List.{take_rest}
-use Rattle.load_path.proofs.CutLemmas.{cut_found, cut_none}
+use Rattle.load_path.proofs.{CutLemmas.{cut_found, cut_none}, Prelude.{sym, take_rest}}
 use Rattle.load_path.proofs.texts.cut.Goals as goal
 
 pub returns-in-Some : goal.returns-in-Some

@@ -1,5 +1,4 @@
-use Rattle.std.proofs.Common.{◌∙◌, ap, sym}
-use Rattle.load_path.proofs.Prelude.{below_directory, located-start, located_here, located_later}
+use Rattle.load_path.proofs.Prelude.{ap, below_directory, located-start, located_here, located_later, sym, ◌∙◌}
 use Rattle.load_path.proofs.texts.located_in.Goals as goal
 
 pub loop-rank-init : goal.loop-rank-init

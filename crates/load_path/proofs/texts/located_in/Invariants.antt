@@ -1,5 +1,5 @@
-use Rattle.std.proofs.Common.{◌≡◌, drop}
-use Rattle.load_path.proofs.Prelude.{directories, located, located_from}
+use Rattle.std.proofs.Common.{◌≡◌}
+use Rattle.load_path.proofs.Prelude.{directories, drop, located, located_from}
 use Rattle.load_path.proofs.texts.located_in.Given as goal
 
 abbrev pub invariant-loop-rank : goal.invariant-loop-rank

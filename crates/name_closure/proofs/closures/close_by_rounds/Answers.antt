@@ -1,8 +1,5 @@
-use Rattle.std.proofs.Common.{◌-◌, ◌<◌, ◌≤◌, arith, length, rules}
-use Rattle.std.proofs.lemmas.Map.Entries.{length-keys_of}
-use Rattle.std.specs.BTreeMap.{keys}
-use Rattle.name_closure.proofs.Prelude.{LeadsByLoad, Listed, not_over}
-use Rattle.name_closure.proofs.Rounding.{closure_at_end, length-found, over_in_round, under_way_more, under_way_start}
+use Rattle.std.proofs.Common.{◌-◌, ◌<◌, ◌≤◌}
+use Rattle.name_closure.proofs.{Prelude.{arith, keys, LeadsByLoad, length, length-keys_of, Listed, not_over, rules}, Rounding.{closure_at_end, length-found, over_in_round, under_way_more, under_way_start}}
 use Rattle.name_closure.proofs.closures.close_by_rounds.Goals as goal
 
 pub loop-alloc-init : goal.loop-alloc-init

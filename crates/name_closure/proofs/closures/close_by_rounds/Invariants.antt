@@ -1,5 +1,5 @@
-use Rattle.std.proofs.Common.{◌-◌, ◌≤◌, length}
-use Rattle.name_closure.proofs.Rounding.{IsUnderWay}
+use Rattle.std.proofs.Common.{◌-◌, ◌≤◌}
+use Rattle.name_closure.proofs.{Prelude.{length}, Rounding.{IsUnderWay}}
 use Rattle.name_closure.proofs.closures.close_by_rounds.Given as goal
 
 abbrev pub invariant-loop-alloc : goal.invariant-loop-alloc

@@ -1,5 +1,4 @@
-use Rattle.std.proofs.Common.{add-one}
-use Rattle.name_closure.proofs.Prelude.{distance-zero, distance_reached, node_before, one_distance, one_list_of_distances, step_nearer}
+use Rattle.name_closure.proofs.Prelude.{add-one, distance-zero, distance_reached, node_before, one_distance, one_list_of_distances, step_nearer}
 use Rattle.name_closure.proofs.laws.distances_of_nodes.Goals as goal
 
 pub returns-clause-one : goal.returns-clause-one

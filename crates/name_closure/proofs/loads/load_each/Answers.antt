@@ -1,7 +1,5 @@
-use Rattle.std.proofs.Common.{[], ◌∷◌, rules}
-use Rattle.std.proofs.lemmas.List.Elements.{All-rest}
-use Rattle.name_closure.proofs.Prelude.{loads_append, loads_none, loads_one}
-use Rattle.name_closure.proofs.Insertions.{holds_next}
+use Rattle.std.proofs.Common.{◌∷◌}
+use Rattle.name_closure.proofs.{Insertions.{holds_next}, Prelude.{[], All-rest, loads_append, loads_none, loads_one, rules}}
 use Rattle.name_closure.proofs.loads.load_each.Goals as goal
 
 pub loop-node-init : goal.loop-node-init

@@ -1,5 +1,4 @@
-use Rattle.std.proofs.Common.{All}
-use Rattle.name_closure.proofs.Prelude.{AreLoads}
+use Rattle.name_closure.proofs.Prelude.{All, AreLoads}
 use Rattle.name_closure.proofs.loads.load_each.Given as goal
 
 abbrev pub invariant-loop-node : goal.invariant-loop-node

@@ -1,7 +1,5 @@
-use Rattle.std.proofs.Common.{◌∙◌, ◌≡◌, append_assoc, false, IsTrue, rules, sym}
-use Rattle.std.proofs.lemmas.Bool.{true≢false}
-use Rattle.std.specs.Map.{keys_of}
-use Rattle.name_closure.proofs.Others.{apart_more, others_kept, others_more}
+use Rattle.std.proofs.Common.{◌≡◌}
+use Rattle.name_closure.proofs.{Others.{apart_more, others_kept, others_more}, Prelude.{append_assoc, false, IsTrue, keys_of, rules, sym, true≢false, ◌∙◌}}
 use Rattle.name_closure.proofs.names.add_others.Goals as goal
 
 pub loop-node-preserved-in-Continue-1 : goal.loop-node-preserved-in-Continue-1

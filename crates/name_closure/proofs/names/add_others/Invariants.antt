@@ -1,7 +1,5 @@
 use Rattle.std.proofs.Common.{◌++◌}
-use Rattle.std.specs.List.Sorted.{IsStrictlySortedBy}
-use Rattle.std.specs.Map.{keys_of}
-use Rattle.name_closure.proofs.Prelude.{AreApart, AreOthers}
+use Rattle.name_closure.proofs.Prelude.{AreApart, AreOthers, IsStrictlySortedBy, keys_of}
 use Rattle.name_closure.proofs.names.add_others.Given as goal
 
 abbrev pub invariant-loop-node : goal.invariant-loop-node

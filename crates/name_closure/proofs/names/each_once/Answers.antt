@@ -1,6 +1,4 @@
-use Rattle.std.proofs.Common.{arith}
-use Rattle.std.proofs.lemmas.List.Filters.{dedup_is}
-use Rattle.name_closure.proofs.News.{few_ascend, once_ascends, once_back, once_there}
+use Rattle.name_closure.proofs.{News.{few_ascend, once_ascends, once_back, once_there}, Prelude.{arith, dedup_is}}
 use Rattle.name_closure.proofs.names.each_once.Goals as goal
 
 pub returns-then-len-gt1-clause-ascending : goal.returns-then-len-gt1-clause-ascending

@@ -1,8 +1,5 @@
-use Rattle.std.proofs.Common.{◌<◌, ◌∙◌, ◌≡◌, ap, get_or, length, rules, sym, true}
-use Rattle.std.proofs.lemmas.Fn.{always_returns_same}
-use Rattle.std.specs.Ordering.{is_eq}
-use Rattle.name_closure.proofs.Prelude.{is_equal}
-use Rattle.name_closure.proofs.{Others.key_at, Searched.not_missed}
+use Rattle.std.proofs.Common.{◌<◌, ◌≡◌}
+use Rattle.name_closure.proofs.{Others.{key_at}, Prelude.{always_returns_same, ap, get_or, is_eq, is_equal, length, rules, sym, true, ◌∙◌}, Searched.{not_missed}}
 use Rattle.name_closure.proofs.names.is_own.Goals as goal
 
 pub returns-in-Ok : goal.returns-in-Ok

@@ -1,6 +1,4 @@
-use Rattle.std.proofs.Common.{List, subst}
-use Rattle.std.specs.List.{flat_map}
-use Rattle.name_closure.proofs.Prelude.{AreOthers}
+use Rattle.name_closure.proofs.Prelude.{AreOthers, flat_map, List, subst}
 use Rattle.name_closure.proofs.names.load_round.Goals as goal
 
 pub others_named-requires : goal.others_named-requires

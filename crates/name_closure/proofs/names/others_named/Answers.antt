@@ -1,9 +1,6 @@
-use Rattle.std.proofs.Common.{◌<◌, ◌≡◌, ap, arith, length, rules, subst, sym, take}
-use Rattle.std.proofs.lemmas.Grind.{common_steps}
-use Rattle.std.proofs.lemmas.List.Elements.{All-append, All-get_or}
-use Rattle.std.specs.Map.{keys_of}
-use Rattle.name_closure.proofs.Prelude.{AreOthers}
-use Rattle.name_closure.proofs.{Others.key_at, Others.made_more, Others.others_after, Others.others_of_members, Others.others_of_same, Rounding.holds_among, Rounding.holds_of_part}
+use Rattle.std.proofs.Common.{◌<◌, ◌≡◌}
+use Rattle.name_closure.proofs.Prelude.{All-append, All-get_or, ap, AreOthers, arith, common_steps, keys_of, length, rules, subst, sym, take}
+use Rattle.name_closure.proofs.{Others.{key_at, made_more, others_after, others_of_members, others_of_same}, Rounding.{holds_among, holds_of_part}}
 use Rattle.name_closure.proofs.names.others_named.Goals as goal
 
 pub loop-one-preserved : goal.loop-one-preserved

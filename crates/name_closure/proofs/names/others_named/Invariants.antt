@@ -1,8 +1,4 @@
-use Rattle.std.proofs.Common.{All, take}
-use Rattle.std.specs.List.{flat_map}
-use Rattle.std.specs.List.Sorted.{IsStrictlySortedBy}
-use Rattle.std.specs.Map.{keys_of}
-use Rattle.name_closure.proofs.Prelude.{AreApart, AreOthers}
+use Rattle.name_closure.proofs.Prelude.{All, AreApart, AreOthers, flat_map, IsStrictlySortedBy, keys_of, take}
 use Rattle.name_closure.proofs.names.others_named.Given as goal
 
 abbrev pub invariant-loop-one : goal.invariant-loop-one

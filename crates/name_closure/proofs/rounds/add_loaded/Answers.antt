@@ -1,9 +1,4 @@
-use Rattle.std.proofs.lemmas.Iterator.Adapters.{fact_from_collect, YieldsList-from_vec}
-use Rattle.std.proofs.lemmas.Result.{IfOk-weaker}
-use Rattle.std.specs.BTreeMap.{IsFromIterResult, keys}
-use Rattle.std.specs.Map.{keys_of}
-use Rattle.name_closure.proofs.Prelude.{AreJoined, AreLoaded}
-use Rattle.name_closure.proofs.Adding.{added_joins, added_loaded}
+use Rattle.name_closure.proofs.{Adding.{added_joins, added_loaded}, Prelude.{AreJoined, AreLoaded, fact_from_collect, IfOk-weaker, IsFromIterResult, keys, keys_of, YieldsList-from_vec}}
 use Rattle.name_closure.proofs.rounds.add_loaded.Goals as goal
 
 pub returns-clause-joined : goal.returns-clause-joined

@@ -1,4 +1,5 @@
-use Rattle.std.proofs.Common.{◌≡◌, take}
+use Rattle.std.proofs.Common.{◌≡◌}
+use Rattle.name_closure.proofs.Prelude.{take}
 use Rattle.name_closure.proofs.rounds.copy_of.Given as goal
 
 abbrev pub invariant-loop-node : goal.invariant-loop-node

@@ -1,9 +1,4 @@
-use Rattle.std.proofs.Common.{not, rules}
-use Rattle.std.proofs.lemmas.Fn.{filter_same}
-use Rattle.std.proofs.lemmas.Map.Made.{is_some-lookup}
-use Rattle.std.specs.BTreeMap.{is_at, keys}
-use Rattle.std.specs.List.{list_any}
-use Rattle.name_closure.proofs.News.{news_are}
+use Rattle.name_closure.proofs.{News.{news_are}, Prelude.{filter_same, is_at, is_some-lookup, keys, list_any, not, rules}}
 use Rattle.name_closure.proofs.rounds.new_of.Goals as goal
 
 pub returns : goal.returns

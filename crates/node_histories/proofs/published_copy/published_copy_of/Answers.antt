@@ -1,5 +1,4 @@
-use Rattle.std.proofs.Common.{◌∙◌, ap}
-use Rattle.node_histories.proofs.Prelude.{legal_opening, opening_of}
+use Rattle.node_histories.proofs.Prelude.{ap, legal_opening, opening_of, ◌∙◌}
 use Rattle.node_histories.proofs.published_copy.published_copy_of.Goals as goal
 
 pub returns-clause-opening : goal.returns-clause-opening

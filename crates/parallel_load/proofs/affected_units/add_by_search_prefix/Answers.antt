@@ -1,6 +1,4 @@
-use Rattle.std.proofs.Common.{List, subst, ℕ}
-use Rattle.parallel_load.proofs.Prelude.{HasNoStop, IsSearchPrefixOf}
-use Rattle.parallel_load.proofs.{Seeking.all_by_search_prefix, Seeking.grown_for, Seeking.none_found, SideBySide.ascending_is_non_decreasing}
+use Rattle.parallel_load.proofs.{Prelude.{HasNoStop, IsSearchPrefixOf, List, subst, ℕ}, Seeking.{all_by_search_prefix, grown_for, none_found}, SideBySide.{ascending_is_non_decreasing}}
 use Rattle.parallel_load.proofs.affected_units.add_by_search_prefix.Goals as goal
 
 pub returns-in_default-clause-affected : goal.returns-in_default-clause-affected

@@ -1,5 +1,4 @@
-use Rattle.std.proofs.Common.{length}
-use Rattle.parallel_load.proofs.Seeking.{grown_one, one_there}
+use Rattle.parallel_load.proofs.{Prelude.{length}, Seeking.{grown_one, one_there}}
 use Rattle.parallel_load.proofs.affected_units.add_if_affected.Goals as goal
 
 pub returns-in_ok-push-clause-grows : goal.returns-in_ok-push-clause-grows

@@ -1,9 +1,7 @@
-use Rattle.std.proofs.Common.{◌+◌, ◌<◌, ◌∙◌, ap, arith, length, List, subst, sym, ℕ}
-use Rattle.std.proofs.lemmas.Bool.{true≢false}
-use Rattle.parallel_load.proofs.Prelude.{AreNoted, EndsWith, GrowsWithin, Name, NameLoad}
-use Rattle.parallel_load.proofs.Seeking.{grown_by, grown_not, none_noted, noted_more}
+use Rattle.std.proofs.Common.{◌+◌, ◌<◌}
+use Rattle.parallel_load.proofs.Prelude.{ap, AreNoted, arith, EndsWith, GrowsWithin, length, List, Name, NameLoad, subst, sym, true≢false, ℕ, ◌∙◌}
+use Rattle.parallel_load.proofs.{affected_units.add_indices.Goals.{else-ends_with, then-ends_with+in_ok-add_if_affected}, Seeking.{grown_by, grown_not, none_noted, noted_more}}
 use Rattle.parallel_load.proofs.affected_units.add_indices.Goals as goal
-use Rattle.parallel_load.proofs.affected_units.add_indices.Goals.{then-ends_with+in_ok-add_if_affected, else-ends_with}
 
 pub loop-index-init : goal.loop-index-init
 loop-index-init c = (grown_not (length c.args.names.now) c.args.affected.now.items, none_noted c.args.names.now c.args.affected.now.items c.args.part.now c.args.ending.now c.args.indices.start)

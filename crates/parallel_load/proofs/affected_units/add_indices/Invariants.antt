@@ -1,5 +1,4 @@
-use Rattle.std.proofs.Common.{length}
-use Rattle.parallel_load.proofs.Prelude.{AreNoted, GrowsWithin}
+use Rattle.parallel_load.proofs.Prelude.{AreNoted, GrowsWithin, length}
 use Rattle.parallel_load.proofs.affected_units.add_indices.Given as goal
 
 abbrev pub invariant-loop-index : goal.invariant-loop-index

@@ -1,9 +1,7 @@
-use Rattle.std.proofs.Common.{◌+◌, ◌<◌, ◌∙◌, ap, arith, length, List, subst, sym, ℕ}
-use Rattle.std.proofs.lemmas.Bool.{true≢false}
-use Rattle.parallel_load.proofs.Prelude.{AreOwnersNoted, EndsWith, GrowsWithin, IsNoted, Name, NameLoad}
-use Rattle.parallel_load.proofs.Seeking.{grown_by, grown_not, no_owners_noted, owners_noted_more}
+use Rattle.std.proofs.Common.{◌+◌, ◌<◌}
+use Rattle.parallel_load.proofs.Prelude.{ap, AreOwnersNoted, arith, EndsWith, GrowsWithin, IsNoted, length, List, Name, NameLoad, subst, sym, true≢false, ℕ, ◌∙◌}
+use Rattle.parallel_load.proofs.{affected_units.add_owners.Goals.{else-ends_with, then-ends_with+in_ok-add_if_affected}, Seeking.{grown_by, grown_not, no_owners_noted, owners_noted_more}}
 use Rattle.parallel_load.proofs.affected_units.add_owners.Goals as goal
-use Rattle.parallel_load.proofs.affected_units.add_owners.Goals.{then-ends_with+in_ok-add_if_affected, else-ends_with}
 
 pub loop-place-init : goal.loop-place-init
 loop-place-init c = (grown_not (length c.args.names.now) c.args.affected.now.items, no_owners_noted c.args.names.now c.args.second.now c.args.affected.now.items c.args.part.now c.args.ending.now c.args.places.start)

@@ -1,5 +1,4 @@
-use Rattle.std.proofs.Common.{length}
-use Rattle.parallel_load.proofs.Prelude.{AreOwnersNoted, GrowsWithin}
+use Rattle.parallel_load.proofs.Prelude.{AreOwnersNoted, GrowsWithin, length}
 use Rattle.parallel_load.proofs.affected_units.add_owners.Given as goal
 
 abbrev pub invariant-loop-place : goal.invariant-loop-place

@@ -1,9 +1,7 @@
-use Rattle.std.proofs.Common.{◌+◌, ◌<◌, All, ap, get_or, length, List, subst, sym, take, ℕ}
-use Rattle.std.proofs.lemmas.List.{take_all}
-use Rattle.parallel_load.proofs.Prelude.{all_among, AreAffected, AreAffectedBy, GrowsWithin}
-use Rattle.parallel_load.proofs.{Keeping.get_among, Seeking.affected_more}
+use Rattle.std.proofs.Common.{◌+◌, ◌<◌}
+use Rattle.parallel_load.proofs.Prelude.{All, all_among, ap, AreAffected, AreAffectedBy, get_or, GrowsWithin, length, List, subst, sym, take, take_all, ℕ}
+use Rattle.parallel_load.proofs.{affected_units.indices_affected.Goals.{in-None+in_ok-add_by_search_prefix-in-None, in-Some+in_ok-add_of_type-in-Some}, Keeping.{get_among}, Seeking.{affected_more}}
 use Rattle.parallel_load.proofs.affected_units.indices_affected.Goals as goal
-use Rattle.parallel_load.proofs.affected_units.indices_affected.Goals.{in-Some+in_ok-add_of_type-in-Some, in-None+in_ok-add_by_search_prefix-in-None}
 
 pub loop-part-preserved : goal.loop-part-preserved
 loop-part-preserved c =

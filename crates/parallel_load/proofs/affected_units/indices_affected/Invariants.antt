@@ -1,5 +1,5 @@
-use Rattle.std.proofs.Common.{◌<◌, All, length, take}
-use Rattle.parallel_load.proofs.Prelude.{AreAffected}
+use Rattle.std.proofs.Common.{◌<◌}
+use Rattle.parallel_load.proofs.Prelude.{All, AreAffected, length, take}
 use Rattle.parallel_load.proofs.affected_units.indices_affected.Given as goal
 
 abbrev pub invariant-loop-part : goal.invariant-loop-part

@@ -1,6 +1,5 @@
-use Rattle.std.proofs.Common.{◌∙◌, ◌≡◌, ap, false, List, subst, sym, true, ℕ}
-use Rattle.parallel_load.proofs.Prelude.{footprint, IsAmong, LoadedUnit, OfUnit}
-use Rattle.parallel_load.proofs.Keeping.{any_there}
+use Rattle.std.proofs.Common.{◌≡◌}
+use Rattle.parallel_load.proofs.{Keeping.{any_there}, Prelude.{ap, false, footprint, IsAmong, List, LoadedUnit, OfUnit, subst, sym, true, ℕ, ◌∙◌}}
 use Rattle.parallel_load.proofs.affected_units.is_in_footprint.Goals as goal
 
 same_unit : (w v : LoadedUnit) → OfUnit w ≡ OfUnit v → w ≡ v

@@ -1,8 +1,5 @@
-use Rattle.std.proofs.Common.{[], ◌∷◌, All, inl, inr, List, subst}
-use Rattle.std.proofs.lemmas.List.{take_all}
-use Rattle.std.proofs.lemmas.List.Elements.{All-head, All-tail}
-use Rattle.parallel_load.proofs.Prelude.{IsAmong, IsSource, Name}
-use Rattle.parallel_load.proofs.Keeping.{all_more}
+use Rattle.std.proofs.Common.{◌∷◌}
+use Rattle.parallel_load.proofs.{Keeping.{all_more}, Prelude.{[], All, All-head, All-tail, inl, inr, IsAmong, IsSource, List, Name, subst, take_all}}
 use Rattle.parallel_load.proofs.asked.are_sources.Goals as goal
 
 -- what holds of all names holds of each that is among them

@@ -1,5 +1,4 @@
-use Rattle.std.proofs.Common.{All, take}
-use Rattle.parallel_load.proofs.Prelude.{IsSource}
+use Rattle.parallel_load.proofs.Prelude.{All, IsSource, take}
 use Rattle.parallel_load.proofs.asked.are_sources.Given as goal
 
 abbrev pub invariant-loop-name : goal.invariant-loop-name

@@ -1,7 +1,5 @@
-use Rattle.std.proofs.Common.{[], ◌||◌, ◌∙◌, ◌∷◌, ◌≡◌, Bool, false, inl, inr, List, refl, sym, true}
-use Rattle.std.specs.List.{list_any}
-use Rattle.std.specs.Ordering.{eq_by_cmp}
-use Rattle.parallel_load.proofs.Prelude.{IsAmong, Name, name_cmp, name_eq-Decides}
+use Rattle.std.proofs.Common.{◌||◌, ◌∷◌, ◌≡◌}
+use Rattle.parallel_load.proofs.Prelude.{[], Bool, eq_by_cmp, false, inl, inr, IsAmong, List, list_any, Name, name_cmp, name_eq-Decides, refl, sym, true, ◌∙◌}
 use Rattle.parallel_load.proofs.asked.is_source.Goals as goal
 
 -- the test of one more name

@@ -1,6 +1,4 @@
-use Rattle.std.proofs.Common.{◌∙◌, IsTrue, List, subst, sym}
-use Rattle.std.specs.FinMap.{is_sorted}
-use Rattle.parallel_load.proofs.Prelude.{AreIndexed, Name, name_cmp, NameLoad, sorted_from}
+use Rattle.parallel_load.proofs.Prelude.{AreIndexed, is_sorted, IsTrue, List, Name, name_cmp, NameLoad, sorted_from, subst, sym, ◌∙◌}
 use Rattle.parallel_load.proofs.finishing.found_of.Goals as goal
 
 pub of-requires : goal.of-requires

@@ -1,7 +1,5 @@
-use Rattle.std.proofs.Common.{◌≡◌, get_or, IfOk, map, subst, sym}
-use Rattle.std.proofs.lemmas.Result.{IfOk-weaker}
-use Rattle.parallel_load.proofs.Prelude.{Chunk, normalized_name}
-use Rattle.parallel_load.proofs.Pieces.{joined_maps}
+use Rattle.std.proofs.Common.{◌≡◌}
+use Rattle.parallel_load.proofs.{Pieces.{joined_maps}, Prelude.{Chunk, get_or, IfOk, IfOk-weaker, map, normalized_name, subst, sym}}
 use Rattle.parallel_load.proofs.finishing.normalize_by_workers.Goals as goal
 
 pub returns : goal.returns

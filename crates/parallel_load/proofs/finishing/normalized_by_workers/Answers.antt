@@ -1,6 +1,4 @@
-use Rattle.std.specs.Option.{option_copied}
-use Rattle.parallel_load.proofs.Prelude.{sorted_from}
-use Rattle.parallel_load.proofs.Indexing.{is_ready, normalized_load}
+use Rattle.parallel_load.proofs.{Indexing.{is_ready, normalized_load}, Prelude.{option_copied, sorted_from}}
 use Rattle.parallel_load.proofs.finishing.normalized_by_workers.Goals as goal
 
 pub load_of-requires : goal.load_of-requires

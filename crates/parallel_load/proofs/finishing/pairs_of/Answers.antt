@@ -1,7 +1,5 @@
-use Rattle.std.proofs.Common.{◌∙◌, ◌≡◌, map, sym}
-use Rattle.std.proofs.lemmas.List.{map-id}
-use Rattle.std.proofs.lemmas.Map.Iter.{iter_end}
-use Rattle.parallel_load.proofs.Prelude.{Name, NameLoad}
+use Rattle.std.proofs.Common.{◌≡◌}
+use Rattle.parallel_load.proofs.Prelude.{iter_end, map, map-id, Name, NameLoad, sym, ◌∙◌}
 use Rattle.parallel_load.proofs.finishing.pairs_of.Goals as goal
 
 pub returns : goal.returns

@@ -1,10 +1,5 @@
-use Rattle.std.proofs.Common.{◌↔◌, ◌∙◌, ◌≡◌, ap, List, subst, sym, ℕ}
-use Rattle.std.proofs.lemmas.List.Filters.{dedup_is}
-use Rattle.std.proofs.lemmas.Option.{same_Some}
-use Rattle.std.specs.Option.{option_copied}
-use Rattle.std.specs.Ordering.{eq_by_cmp}
-use Rattle.parallel_load.proofs.Prelude.{footprint, IsAmong, LoadedUnit, Name, name_cmp}
-use Rattle.parallel_load.proofs.Keeping.{order_ascends, order_stays}
+use Rattle.std.proofs.Common.{◌↔◌, ◌≡◌}
+use Rattle.parallel_load.proofs.{Keeping.{order_ascends, order_stays}, Prelude.{ap, dedup_is, eq_by_cmp, footprint, IsAmong, List, LoadedUnit, Name, name_cmp, option_copied, same_Some, subst, sym, ℕ, ◌∙◌}}
 use Rattle.parallel_load.proofs.footprints.footprint.Goals as goal
 
 pub returns-clause-ascending : goal.returns-clause-ascending

@@ -1,6 +1,4 @@
-use Rattle.std.proofs.Common.{Err}
-use Rattle.std.proofs.lemmas.List.Sorted.{searched}
-use Rattle.parallel_load.proofs.Staying.{indices_ascend, none_where}
+use Rattle.parallel_load.proofs.{Prelude.{Err, searched}, Staying.{indices_ascend, none_where}}
 use Rattle.parallel_load.proofs.held.kept_unless.Goals as goal
 
 pub returns-in_ok-again-in-Err-clause-left : goal.returns-in_ok-again-in-Err-clause-left

@@ -1,6 +1,5 @@
-use Rattle.std.proofs.Common.{◌∙◌, ◌≡◌, ap, length, List, sym}
-use Rattle.parallel_load.proofs.Prelude.{DependencyList, Name, NameLoad}
-use Rattle.parallel_load.proofs.Staying.{still_all, still_more, still_none, still_one}
+use Rattle.std.proofs.Common.{◌≡◌}
+use Rattle.parallel_load.proofs.{Prelude.{ap, DependencyList, length, List, Name, NameLoad, sym, ◌∙◌}, Staying.{still_all, still_more, still_none, still_one}}
 use Rattle.parallel_load.proofs.held.still_of.Goals as goal
 
 pub loop-index-init : goal.loop-index-init

@@ -1,7 +1,5 @@
-use Rattle.std.proofs.Common.{◌≡◌, All, take}
-use Rattle.std.specs.Map.{keys_of}
-use Rattle.std.specs.Prelude.{IfSome}
-use Rattle.parallel_load.proofs.Prelude.{IsStill}
+use Rattle.std.proofs.Common.{◌≡◌}
+use Rattle.parallel_load.proofs.Prelude.{All, IfSome, IsStill, keys_of, take}
 use Rattle.parallel_load.proofs.held.still_of.Given as goal
 
 abbrev pub invariant-loop-index : goal.invariant-loop-index

@@ -1,6 +1,5 @@
-use Rattle.std.proofs.Common.{◌<◌, ◌∙◌, ap, arith, length, List, sym}
-use Rattle.parallel_load.proofs.Prelude.{Name, NameLoad, put_load}
-use Rattle.parallel_load.proofs.UnitsPut.{next_holds, with_length, with_more}
+use Rattle.std.proofs.Common.{◌<◌}
+use Rattle.parallel_load.proofs.{Prelude.{ap, arith, length, List, Name, NameLoad, put_load, sym, ◌∙◌}, UnitsPut.{next_holds, with_length, with_more}}
 use Rattle.parallel_load.proofs.loaded.with_units.Goals as goal
 
 pub put_unit-requires : goal.put_unit-requires

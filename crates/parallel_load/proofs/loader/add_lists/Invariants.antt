@@ -1,5 +1,5 @@
-use Rattle.std.proofs.Common.{◌++◌, ◌≡◌, take}
-use Rattle.parallel_load.proofs.Prelude.{names_in_lists}
+use Rattle.std.proofs.Common.{◌++◌, ◌≡◌}
+use Rattle.parallel_load.proofs.Prelude.{names_in_lists, take}
 use Rattle.parallel_load.proofs.loader.add_lists.Given as goal
 
 abbrev pub invariant-loop-list : goal.invariant-loop-list

@@ -1,7 +1,4 @@
-use Rattle.std.proofs.Common.{sym}
-use Rattle.std.specs.Option.{option_copied}
-use Rattle.parallel_load.proofs.Prelude.{host_view_of, IsTooLarge, one_viewer}
-use Rattle.parallel_load.proofs.Normalizing.{found_from, load_made, not_too_large, over_there, refused_over, whole_found}
+use Rattle.parallel_load.proofs.{Normalizing.{found_from, load_made, not_too_large, over_there, refused_over, whole_found}, Prelude.{host_view_of, IsTooLarge, one_viewer, option_copied, sym}}
 use Rattle.parallel_load.proofs.loads.load_fleet.Goals as goal
 
 pub returns-in_err-found-clause-over : goal.returns-in_err-found-clause-over

@@ -1,7 +1,4 @@
-use Rattle.std.proofs.Common.{◌∙◌, subst}
-use Rattle.std.specs.Option.{option_copied}
-use Rattle.parallel_load.proofs.Prelude.{AreOwnLinkTargets, host_view_of, HostViewMap}
-use Rattle.parallel_load.proofs.Normalizing.{viewed_link_targets}
+use Rattle.parallel_load.proofs.{Normalizing.{viewed_link_targets}, Prelude.{AreOwnLinkTargets, host_view_of, HostViewMap, option_copied, subst, ◌∙◌}}
 use Rattle.parallel_load.proofs.loads.start_of.Goals as goal
 
 pub returns : goal.returns

@@ -1,6 +1,4 @@
-use Rattle.std.proofs.Common.{◌∙◌, ap, sym}
-use Rattle.std.specs.Option.{option_copied}
-use Rattle.parallel_load.proofs.Indexing.{alias_main, no_main, unit_main}
+use Rattle.parallel_load.proofs.{Indexing.{alias_main, no_main, unit_main}, Prelude.{ap, option_copied, sym, ◌∙◌}}
 use Rattle.parallel_load.proofs.mains.main_index.Goals as goal
 
 pub returns-in-None : goal.returns-in-None

@@ -1,7 +1,5 @@
-use Rattle.std.proofs.Common.{[], ◌++◌, ◌+◌, ◌∙◌, ◌∷◌, ◌≡◌, ap, List, subst, sym, take, ℕ}
-use Rattle.std.proofs.lemmas.List.{take_all, take_more}
-use Rattle.parallel_load.proofs.Prelude.{AreIndexed, IsMainIndex, key_at_place, Name, name_of, NameLoad}
-use Rattle.parallel_load.proofs.Indexing.{indexed_more, none_indexed}
+use Rattle.std.proofs.Common.{◌++◌, ◌+◌, ◌∷◌, ◌≡◌}
+use Rattle.parallel_load.proofs.{Indexing.{indexed_more, none_indexed}, Prelude.{[], ap, AreIndexed, IsMainIndex, key_at_place, List, Name, name_of, NameLoad, subst, sym, take, take_all, take_more, ℕ, ◌∙◌}}
 use Rattle.parallel_load.proofs.mains.main_indices.Goals as goal
 
 pub loop-index-init : goal.loop-index-init

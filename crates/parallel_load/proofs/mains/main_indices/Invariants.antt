@@ -1,5 +1,4 @@
-use Rattle.std.proofs.Common.{take}
-use Rattle.parallel_load.proofs.Prelude.{AreIndexed}
+use Rattle.parallel_load.proofs.Prelude.{AreIndexed, take}
 use Rattle.parallel_load.proofs.mains.main_indices.Given as goal
 
 abbrev pub invariant-loop-index : goal.invariant-loop-index

@@ -1,6 +1,4 @@
-use Rattle.std.proofs.Common.{◌∙◌, ap, List, sym}
-use Rattle.parallel_load.proofs.Prelude.{DependencyList, LoadedUnit}
-use Rattle.parallel_load.proofs.Keeping.{lists_same}
+use Rattle.parallel_load.proofs.{Keeping.{lists_same}, Prelude.{ap, DependencyList, List, LoadedUnit, sym, ◌∙◌}}
 use Rattle.parallel_load.proofs.mains.with_dependencies.Goals as goal
 
 pub returns-then-eq : goal.returns-then-eq

@@ -1,10 +1,6 @@
-use Rattle.std.proofs.Common.{◌<◌, ◌∙◌, All, ap, length, List, Option, subst, sym, ℕ}
-use Rattle.std.specs.Option.{option_copied}
-use Rattle.std.specs.Prelude.{IfSome}
-use Rattle.std.specs.declared.alloc.Global.{Global}
-use Rattle.parallel_load.proofs.Prelude.{AreReadOrLeft, CachedRows, host_view_of, IsOwnUnit, Name, NameLoad, Viewer, with_loads}
-use Rattle.parallel_load.proofs.{Again.one_each, Again.owns, Again.read_for, UnitsPut.units_of}
-use Rattle.std.specs.declared.vec.Vec.{Vec}
+use Rattle.std.{proofs.Common.{◌<◌}, specs.declared.vec.Vec.{Vec}}
+use Rattle.parallel_load.proofs.Prelude.{All, ap, AreReadOrLeft, CachedRows, Global, host_view_of, IfSome, IsOwnUnit, length, List, Name, NameLoad, Option, option_copied, subst, sym, Viewer, with_loads, ℕ, ◌∙◌}
+use Rattle.parallel_load.proofs.{Again.{one_each, owns, read_for}, UnitsPut.{units_of}}
 use Rattle.parallel_load.proofs.patching.patches.Goals as goal
 
 pub units_again-requires : goal.units_again-requires

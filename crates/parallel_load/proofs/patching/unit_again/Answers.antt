@@ -1,6 +1,4 @@
-use Rattle.std.proofs.Common.{◌∙◌, ap, sym}
-use Rattle.parallel_load.proofs.Prelude.{load_normalized, Normalized}
-use Rattle.parallel_load.proofs.{Keeping.lists_same, UnitsPut.not_false}
+use Rattle.parallel_load.proofs.{Keeping.{lists_same}, Prelude.{ap, load_normalized, Normalized, sym, ◌∙◌}, UnitsPut.{not_false}}
 use Rattle.parallel_load.proofs.patching.unit_again.Goals as goal
 
 pub read_unit-requires-clause-main : goal.read_unit-requires-clause-main

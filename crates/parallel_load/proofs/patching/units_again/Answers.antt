@@ -1,10 +1,6 @@
-use Rattle.std.proofs.Common.{[], ◌++◌, ◌+◌, ◌<◌, ◌∙◌, ◌∷◌, ◌≡◌, All, ap, get_or, length, List, Option, subst, sym, take, ℕ}
-use Rattle.std.proofs.lemmas.List.{take_all, take_more}
-use Rattle.std.proofs.lemmas.List.Elements.{All-append, All-cons, All-nil}
-use Rattle.std.specs.Option.{option_copied}
-use Rattle.std.specs.Prelude.{IfSome}
-use Rattle.parallel_load.proofs.Prelude.{all_among, AreReadOrLeft, DependencyList, host_view_of, IsOwnUnit, IsReadAgain, Name, NameLoad, with_loads}
-use Rattle.parallel_load.proofs.{Again.item_among, UnitsPut.none_read, UnitsPut.read_next}
+use Rattle.std.proofs.Common.{◌++◌, ◌+◌, ◌<◌, ◌∷◌, ◌≡◌}
+use Rattle.parallel_load.proofs.Prelude.{[], All, All-append, All-cons, All-nil, all_among, ap, AreReadOrLeft, DependencyList, get_or, host_view_of, IfSome, IsOwnUnit, IsReadAgain, length, List, Name, NameLoad, Option, option_copied, subst, sym, take, take_all, take_more, with_loads, ℕ, ◌∙◌}
+use Rattle.parallel_load.proofs.{Again.{item_among}, UnitsPut.{none_read, read_next}}
 use Rattle.parallel_load.proofs.patching.units_again.Goals as goal
 
 pub loop-index-init : goal.loop-index-init

@@ -1,6 +1,5 @@
-use Rattle.std.proofs.Common.{◌<◌, All, length, take}
-use Rattle.std.specs.Option.{option_copied}
-use Rattle.parallel_load.proofs.Prelude.{AreReadOrLeft, host_view_of, with_loads}
+use Rattle.std.proofs.Common.{◌<◌}
+use Rattle.parallel_load.proofs.Prelude.{All, AreReadOrLeft, host_view_of, length, option_copied, take, with_loads}
 use Rattle.parallel_load.proofs.patching.units_again.Given as goal
 
 abbrev pub invariant-loop-index : goal.invariant-loop-index

@@ -1,7 +1,6 @@
-use Rattle.std.proofs.Common.{◌∙◌, ◌≡◌, All, ap, List, Option, subst, sym, ℕ}
-use Rattle.std.specs.Prelude.{IfSome}
-use Rattle.parallel_load.proofs.Prelude.{host_view_of, HostViewMap, IsHeldOn, IsStill, IsTooLarge, Name, NameLoad, sorted_from}
-use Rattle.parallel_load.proofs.{Normalizing.found_from, Normalizing.over_here, Normalizing.refused_over, Staying.held_loaded, Staying.held_sorted, Staying.same_sources, Staying.words_stay}
+use Rattle.std.proofs.Common.{◌≡◌}
+use Rattle.parallel_load.proofs.Prelude.{All, ap, host_view_of, HostViewMap, IfSome, IsHeldOn, IsStill, IsTooLarge, List, Name, NameLoad, Option, sorted_from, subst, sym, ℕ, ◌∙◌}
+use Rattle.parallel_load.proofs.{Normalizing.{found_from, over_here, refused_over}, Staying.{held_loaded, held_sorted, same_sources, words_stay}}
 use Rattle.parallel_load.proofs.refreshing.found_again.Goals as goal
 
 pub of-loader-requires-clause-sorted : goal.of-loader-requires-clause-sorted

@@ -1,7 +1,5 @@
-use Rattle.std.proofs.Common.{◌∙◌, List, subst, sym}
-use Rattle.std.specs.Option.{option_copied}
-use Rattle.parallel_load.proofs.Prelude.{AreOwnLinkTargets, host_view_of, IsNormalizedLoad, Name, one_viewer}
-use Rattle.parallel_load.proofs.{Normalizing.load_made, Normalizing.not_too_large, Normalizing.whole_found, Staying.words_stay}
+use Rattle.parallel_load.proofs.Prelude.{AreOwnLinkTargets, host_view_of, IsNormalizedLoad, List, Name, one_viewer, option_copied, subst, sym, ◌∙◌}
+use Rattle.parallel_load.proofs.{Normalizing.{load_made, not_too_large, whole_found}, Staying.{words_stay}}
 use Rattle.parallel_load.proofs.refreshing.refreshed_anew.Goals as goal
 
 pub normalized-requires-clause-whole : goal.normalized-requires-clause-whole

@@ -1,6 +1,5 @@
-use Rattle.std.proofs.Common.{◌-◌, ◌∙◌, length, sym, take}
-use Rattle.std.proofs.lemmas.Bool.Decides.{Decides-eqb}
-use Rattle.std.proofs.lemmas.Slice.Eq.{ends_is}
+use Rattle.std.proofs.Common.{◌-◌}
+use Rattle.parallel_load.proofs.Prelude.{Decides-eqb, ends_is, length, sym, take, ◌∙◌}
 use Rattle.parallel_load.proofs.search_prefixes.ends_with.Goals as goal
 
 pub returns : goal.returns

@@ -1,6 +1,4 @@
-use Rattle.std.proofs.Common.{rules}
-use Rattle.std.proofs.lemmas.List.Sorted.{IsPartitionPoint-from_clause}
-use Rattle.parallel_load.proofs.SideBySide.{below, below_first, below_or_begins, below_or_begins_first, stand_within}
+use Rattle.parallel_load.proofs.{Prelude.{IsPartitionPoint-from_clause, rules}, SideBySide.{below, below_first, below_or_begins, below_or_begins_first, stand_within}}
 use Rattle.parallel_load.proofs.search_prefixes.places_of.Goals as goal
 
 pub returns-clause-all : goal.returns-clause-all

@@ -1,8 +1,6 @@
-use Rattle.std.proofs.Common.{Bor, List, MatchOption, Option, subst, sym, ℕ}
-use Rattle.parallel_load.proofs.Prelude.{HasNoStop, IsSearchPrefixOf}
-use Rattle.parallel_load.proofs.Cutting.{cut_at, cut_nowhere, dash_before, no_dash_before, none_taken, search_prefix_with, search_prefix_without}
+use Rattle.parallel_load.proofs.Prelude.{Bor, HasNoStop, IsSearchPrefixOf, List, MatchOption, Option, subst, sym, ℕ}
+use Rattle.parallel_load.proofs.{Cutting.{cut_at, cut_nowhere, dash_before, no_dash_before, none_taken, search_prefix_with, search_prefix_without}, search_prefixes.search_prefix_of.Goals.{else-stop-gt0-via-else-stop-gt0, else-stop-gt0-via-then-stop-gt0+else-part-stop-eq45}}
 use Rattle.parallel_load.proofs.search_prefixes.search_prefix_of.Goals as goal
-use Rattle.parallel_load.proofs.search_prefixes.search_prefix_of.Goals.{else-stop-gt0-via-then-stop-gt0+else-part-stop-eq45, else-stop-gt0-via-else-stop-gt0}
 
 pub returns-in_err-stop : goal.returns-in_err-stop
 returns-in_err-stop c =

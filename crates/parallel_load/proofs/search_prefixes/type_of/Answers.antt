@@ -1,6 +1,4 @@
-use Rattle.std.proofs.Common.{◌∙◌, codes, Some, sym}
-use Rattle.std.proofs.lemmas.Bool.Decides.{Decides-eqb}
-use Rattle.std.proofs.lemmas.Slice.Eq.{strip_suffix_is}
+use Rattle.parallel_load.proofs.Prelude.{codes, Decides-eqb, Some, strip_suffix_is, sym, ◌∙◌}
 use Rattle.parallel_load.proofs.search_prefixes.type_of.Goals as goal
 
 pub returns-else-contains : goal.returns-else-contains

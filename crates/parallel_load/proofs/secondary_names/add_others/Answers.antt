@@ -1,10 +1,7 @@
-use Rattle.std.proofs.Common.{◌+◌, ◌∙◌, ◌≡◌, ap, List, refl, subst, sym, ℕ}
-use Rattle.std.proofs.lemmas.Bool.Decides.{Decides-eqb}
-use Rattle.std.proofs.lemmas.Slice.Eq.{slice_eq-Decides}
-use Rattle.parallel_load.proofs.Prelude.{IsName, Name}
-use Rattle.parallel_load.proofs.{SecondaryNames.AreLookedAt, SecondaryNames.other_next, SecondaryNames.own_next, UnitsPut.not_false}
+use Rattle.std.proofs.Common.{◌+◌, ◌≡◌}
+use Rattle.parallel_load.proofs.Prelude.{ap, Decides-eqb, IsName, List, Name, refl, slice_eq-Decides, subst, sym, ℕ, ◌∙◌}
+use Rattle.parallel_load.proofs.{secondary_names.add_others.Goals.{else-ne, then-ne+in_ok-try_clone+in_ok-push}, SecondaryNames.{AreLookedAt, other_next, own_next}, UnitsPut.{not_false}}
 use Rattle.parallel_load.proofs.secondary_names.add_others.Goals as goal
-use Rattle.parallel_load.proofs.secondary_names.add_others.Goals.{then-ne+in_ok-try_clone+in_ok-push, else-ne}
 
 pub loop-other-preserved : goal.loop-other-preserved
 loop-other-preserved c =

@@ -1,8 +1,7 @@
-use Rattle.std.proofs.Common.{◌+◌, ◌∙◌, ◌≡◌, ap, List, refl, subst, sym, ℕ}
-use Rattle.parallel_load.proofs.Prelude.{AddsNames, LoadedUnit, Name, NameLoad}
-use Rattle.parallel_load.proofs.SecondaryNames.{alias_next, AreOfFirst, of_all, unit_next}
+use Rattle.std.proofs.Common.{◌+◌, ◌≡◌}
+use Rattle.parallel_load.proofs.Prelude.{AddsNames, ap, List, LoadedUnit, Name, NameLoad, refl, subst, sym, ℕ, ◌∙◌}
+use Rattle.parallel_load.proofs.{secondary_names.pairs_of.Goals.{in-Unit+in_ok-add_others, in_default}, SecondaryNames.{alias_next, AreOfFirst, of_all, unit_next}}
 use Rattle.parallel_load.proofs.secondary_names.pairs_of.Goals as goal
-use Rattle.parallel_load.proofs.secondary_names.pairs_of.Goals.{in-Unit+in_ok-add_others, in_default}
 
 pub loop-index-preserved : goal.loop-index-preserved
 loop-index-preserved c =

@@ -1,10 +1,7 @@
-use Rattle.std.proofs.Common.{[], ◌++◌, ◌∙◌, ◌∷◌, ◌≡◌, ap, append_assoc, List, Option, refl, sym, take}
-use Rattle.std.proofs.lemmas.List.{take_all}
-use Rattle.std.specs.List.{filter_map}
-use Rattle.parallel_load.proofs.Prelude.{Name, NamedWords, Target, whole_name}
-use Rattle.parallel_load.proofs.{Rows.sources_are, Steps.made_none, Steps.made_one}
+use Rattle.std.proofs.Common.{◌++◌, ◌∷◌, ◌≡◌}
+use Rattle.parallel_load.proofs.Prelude.{[], ap, append_assoc, filter_map, List, Name, NamedWords, Option, refl, sym, take, take_all, Target, whole_name, ◌∙◌}
+use Rattle.parallel_load.proofs.{Rows.{sources_are}, sources.sources.Goals.{in-Some+in_ok-push, in_default}, Steps.{made_none, made_one}}
 use Rattle.parallel_load.proofs.sources.sources.Goals as goal
-use Rattle.parallel_load.proofs.sources.sources.Goals.{in-Some+in_ok-push, in_default}
 
 -- the unit name of an entry of the list of link targets, if it is one
 name_in : Name × List Target → Option Name

@@ -1,6 +1,5 @@
-use Rattle.std.proofs.Common.{◌++◌, ◌≡◌, take}
-use Rattle.std.specs.List.{filter_map}
-use Rattle.parallel_load.proofs.Prelude.{whole_name}
+use Rattle.std.proofs.Common.{◌++◌, ◌≡◌}
+use Rattle.parallel_load.proofs.Prelude.{filter_map, take, whole_name}
 use Rattle.parallel_load.proofs.sources.sources.Given as goal
 
 abbrev pub invariant-loop-name : goal.invariant-loop-name

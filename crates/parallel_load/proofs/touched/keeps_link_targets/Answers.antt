@@ -1,7 +1,4 @@
-use Rattle.std.proofs.Common.{◌∙◌, All, ap, subst}
-use Rattle.std.proofs.lemmas.List.{take_all}
-use Rattle.parallel_load.proofs.Prelude.{host_view_of, HostViewMap, KeepsLinkTargets, NamedWords, Viewer}
-use Rattle.parallel_load.proofs.Keeping.{all_more}
+use Rattle.parallel_load.proofs.{Keeping.{all_more}, Prelude.{All, ap, host_view_of, HostViewMap, KeepsLinkTargets, NamedWords, subst, take_all, Viewer, ◌∙◌}}
 use Rattle.parallel_load.proofs.touched.keeps_link_targets.Goals as goal
 
 pub loop-place-preserved : goal.loop-place-preserved

@@ -1,5 +1,4 @@
-use Rattle.std.proofs.Common.{All, take}
-use Rattle.parallel_load.proofs.Prelude.{host_view_of, KeepsLinkTargets}
+use Rattle.parallel_load.proofs.Prelude.{All, host_view_of, KeepsLinkTargets, take}
 use Rattle.parallel_load.proofs.touched.keeps_link_targets.Given as goal
 
 abbrev pub invariant-loop-place : goal.invariant-loop-place

@@ -1,10 +1,7 @@
-use Rattle.std.proofs.Common.{◌+◌, ◌∙◌, All, ap, List, subst, sym, take, ℕ}
-use Rattle.std.proofs.lemmas.List.{take_all}
-use Rattle.std.specs.Option.{option_copied}
-use Rattle.parallel_load.proofs.Prelude.{HasParts}
-use Rattle.parallel_load.proofs.Staying.{parts_more, parts_same}
+use Rattle.std.proofs.Common.{◌+◌}
+use Rattle.parallel_load.proofs.Prelude.{All, ap, HasParts, List, option_copied, subst, sym, take, take_all, ℕ, ◌∙◌}
+use Rattle.parallel_load.proofs.{Staying.{parts_more, parts_same}, touched.parts_touched.Goals.{else-is_viewed, then-is_viewed+in_ok-add_parts}}
 use Rattle.parallel_load.proofs.touched.parts_touched.Goals as goal
-use Rattle.parallel_load.proofs.touched.parts_touched.Goals.{then-is_viewed+in_ok-add_parts, else-is_viewed}
 
 pub loop-place-preserved : goal.loop-place-preserved
 loop-place-preserved c =

@@ -1,6 +1,4 @@
-use Rattle.std.proofs.Common.{All, take}
-use Rattle.std.specs.Option.{option_copied}
-use Rattle.parallel_load.proofs.Prelude.{HasParts}
+use Rattle.parallel_load.proofs.Prelude.{All, HasParts, option_copied, take}
 use Rattle.parallel_load.proofs.touched.parts_touched.Given as goal
 
 abbrev pub invariant-loop-place : goal.invariant-loop-place

@@ -1,6 +1,5 @@
-use Rattle.std.proofs.Common.{◌++◌, ◌≡◌, length}
-use Rattle.std.specs.List.{filter_map}
-use Rattle.parallel_load.proofs.Prelude.{shown_name, shown_names}
+use Rattle.std.proofs.Common.{◌++◌, ◌≡◌}
+use Rattle.parallel_load.proofs.Prelude.{filter_map, length, shown_name, shown_names}
 use Rattle.parallel_load.proofs.words.add_shown.Given as goal
 
 abbrev pub invariant-loop-placed : goal.invariant-loop-placed

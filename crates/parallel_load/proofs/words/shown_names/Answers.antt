@@ -1,8 +1,4 @@
-use Rattle.std.proofs.Common.{arith}
-use Rattle.std.proofs.lemmas.List.Filters.{dedup_is}
-use Rattle.std.specs.Ordering.{eq_by_cmp}
-use Rattle.parallel_load.proofs.Prelude.{name_cmp}
-use Rattle.parallel_load.proofs.{Keeping.order_ascends, Keeping.order_stays, Rows.names_are_shown, Rows.one_level_more}
+use Rattle.parallel_load.proofs.{Keeping.{order_ascends, order_stays}, Prelude.{arith, dedup_is, eq_by_cmp, name_cmp}, Rows.{names_are_shown, one_level_more}}
 use Rattle.parallel_load.proofs.words.shown_names.Goals as goal
 
 pub loop-level-preserved : goal.loop-level-preserved

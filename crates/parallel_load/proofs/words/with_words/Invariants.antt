@@ -1,5 +1,5 @@
-use Rattle.std.proofs.Common.{◌≡◌, map}
-use Rattle.parallel_load.proofs.Prelude.{with_own_link_targets}
+use Rattle.std.proofs.Common.{◌≡◌}
+use Rattle.parallel_load.proofs.Prelude.{map, with_own_link_targets}
 use Rattle.parallel_load.proofs.words.with_words.Given as goal
 
 abbrev pub invariant-loop-name : goal.invariant-loop-name

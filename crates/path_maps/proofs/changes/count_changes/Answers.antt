@@ -1,7 +1,5 @@
-use Rattle.std.proofs.Common.{◌+◌, ◌∙◌, ◌≡◌, ap, arith, Bor, List, Option, subst, sym}
-use Rattle.std.specs.Option.{option_copied}
-use Rattle.std.specs.Ordering.{is_lt}
-use Rattle.path_maps.proofs.Prelude.{additions, ascends, Compared, Entry, entry_cmp, is_ascending, PlaceParts}
+use Rattle.std.proofs.Common.{◌+◌, ◌≡◌}
+use Rattle.path_maps.proofs.Prelude.{additions, ap, arith, ascends, Bor, Compared, Entry, entry_cmp, is_ascending, is_lt, List, Option, option_copied, PlaceParts, subst, sym, ◌∙◌}
 use Rattle.path_maps.proofs.Ascends.{additions_zipped, ascend_none, ascends_zipped, room_added, room_changed}
 use Rattle.std.specs.FinMap as finmap
 use Rattle.path_maps.proofs.changes.count_changes.Goals as goal

@@ -1,6 +1,5 @@
-use Rattle.std.proofs.Common.{◌+◌, ◌≡◌, length}
-use Rattle.path_maps.proofs.Prelude.{additions, ascends}
-use Rattle.path_maps.proofs.Ascends.{additions_zipped, ascends_zipped}
+use Rattle.std.proofs.Common.{◌+◌, ◌≡◌}
+use Rattle.path_maps.proofs.{Ascends.{additions_zipped, ascends_zipped}, Prelude.{additions, ascends, length}}
 use Rattle.std.specs.FinMap as finmap
 use Rattle.path_maps.proofs.changes.count_changes.Given as goal
 

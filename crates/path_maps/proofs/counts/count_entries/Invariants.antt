@@ -1,6 +1,5 @@
-use Rattle.std.proofs.Common.{◌+◌, ◌≡◌, length}
-use Rattle.std.specs.Prelude.{max}
-use Rattle.path_maps.proofs.Prelude.{all_listed, greatest_counter}
+use Rattle.std.proofs.Common.{◌+◌, ◌≡◌}
+use Rattle.path_maps.proofs.Prelude.{all_listed, greatest_counter, length, max}
 use Rattle.path_maps.proofs.counts.count_entries.Given as goal
 
 abbrev pub invariant-loop-placed : goal.invariant-loop-placed

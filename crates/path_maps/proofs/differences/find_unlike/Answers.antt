@@ -1,7 +1,5 @@
-use Rattle.std.proofs.Common.{◌+◌, ◌≡◌, ap, arith, Bor, List, Option, subst}
-use Rattle.std.specs.Option.{option_copied}
-use Rattle.path_maps.proofs.Prelude.{additions, Compared, Entry, PlaceParts}
-use Rattle.path_maps.proofs.Ascends.{additions_zipped, room_added}
+use Rattle.std.proofs.Common.{◌+◌, ◌≡◌}
+use Rattle.path_maps.proofs.{Ascends.{additions_zipped, room_added}, Prelude.{additions, ap, arith, Bor, Compared, Entry, List, Option, option_copied, PlaceParts, subst}}
 use Rattle.std.specs.FinMap as finmap
 use Rattle.path_maps.proofs.differences.find_unlike.Goals as goal
 

@@ -1,6 +1,5 @@
-use Rattle.std.proofs.Common.{◌++◌, ◌+◌, ◌≡◌, length}
-use Rattle.path_maps.proofs.Prelude.{additions, differing_zipped}
-use Rattle.path_maps.proofs.Ascends.{additions_zipped}
+use Rattle.std.proofs.Common.{◌++◌, ◌+◌, ◌≡◌}
+use Rattle.path_maps.proofs.{Ascends.{additions_zipped}, Prelude.{additions, differing_zipped, length}}
 use Rattle.std.specs.FinMap as finmap
 use Rattle.path_maps.proofs.differences.find_unlike.Given as goal
 

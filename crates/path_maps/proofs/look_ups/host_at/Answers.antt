@@ -1,6 +1,5 @@
-use Rattle.std.proofs.Common.{◌∙◌, ap, sym}
-use Rattle.path_maps.proofs.Prelude.{Host, scope_cmp, ScopeMap}
 use Rattle.std.specs.FinMap.{find}
+use Rattle.path_maps.proofs.Prelude.{ap, Host, scope_cmp, ScopeMap, sym, ◌∙◌}
 use Rattle.path_maps.proofs.look_ups.host_at.Goals as goal
 
 pub returns-in-Ok : goal.returns-in-Ok

@@ -1,7 +1,4 @@
-use Rattle.std.proofs.Common.{rules}
-use Rattle.std.proofs.lemmas.Fn.{always_returns_same}
-use Rattle.path_maps.proofs.Prelude.{Host, scope_cmp}
-use Rattle.path_maps.proofs.Searches.{scope_places}
+use Rattle.path_maps.proofs.{Prelude.{always_returns_same, Host, rules, scope_cmp}, Searches.{scope_places}}
 use Rattle.path_maps.proofs.look_ups.host_place.Goals as goal
 
 pub returns : goal.returns

@@ -1,7 +1,4 @@
-use Rattle.std.proofs.Common.{◌∙◌, ap, length, sym}
-use Rattle.std.specs.Cmp.Lexicographic.{nat_list_cmp_total}
-use Rattle.path_maps.proofs.Prelude.{after_last, bytes_cmp, find_gap, last_has}
-use Rattle.path_maps.proofs.Searches.{place_at}
+use Rattle.path_maps.proofs.{Prelude.{after_last, ap, bytes_cmp, find_gap, last_has, length, nat_list_cmp_total, sym, ◌∙◌}, Searches.{place_at}}
 use Rattle.path_maps.proofs.look_ups.place_of.Goals as goal
 
 pub returns-in-Less-clause-absent : goal.returns-in-Less-clause-absent

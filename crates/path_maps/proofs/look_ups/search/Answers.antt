@@ -1,7 +1,4 @@
-use Rattle.std.proofs.Common.{rules}
-use Rattle.std.proofs.lemmas.Fn.{always_returns_same}
-use Rattle.path_maps.proofs.Prelude.{bytes_cmp}
-use Rattle.path_maps.proofs.Searches.{places}
+use Rattle.path_maps.proofs.{Prelude.{always_returns_same, bytes_cmp, rules}, Searches.{places}}
 use Rattle.path_maps.proofs.look_ups.search.Goals as goal
 
 pub returns : goal.returns

@@ -1,6 +1,5 @@
-use Rattle.std.proofs.Common.{◌==◌, ◌∙◌, ap, length}
-use Rattle.std.proofs.lemmas.Option.{same_Some}
-use Rattle.path_maps.proofs.Searches.{unnamed_nowhere}
+use Rattle.std.proofs.Common.{◌==◌}
+use Rattle.path_maps.proofs.{Prelude.{ap, length, same_Some, ◌∙◌}, Searches.{unnamed_nowhere}}
 use Rattle.path_maps.proofs.look_ups.unnamed_pair.Goals as goal
 
 pub returns-else-is_empty : goal.returns-else-is_empty

@@ -1,10 +1,5 @@
-use Rattle.std.proofs.Common.{◌∙◌, ◌≡◌, ap, false, IsTrue, refl, subst, sym, true}
-use Rattle.std.proofs.lemmas.Bool.{and_parts}
-use Rattle.std.specs.FinMap.Entries.{below_all, find, is_sorted}
-use Rattle.std.specs.Ordering.{is_eq, is_gt}
-use Rattle.std.specs.declared.cmp.Ordering.{Ordering}
-use Rattle.std.specs.declared.cmp.Ordering.TheVariants.{Equal, Greater, Less}
-use Rattle.path_maps.proofs.Prelude.{bytes_cmp, is_equal}
+use Rattle.std.proofs.Common.{◌≡◌}
+use Rattle.path_maps.proofs.Prelude.{and_parts, ap, below_all, bytes_cmp, Equal, false, find, Greater, is_eq, is_equal, is_gt, is_sorted, IsTrue, Less, Ordering, refl, subst, sym, true, ◌∙◌}
 use Rattle.path_maps.proofs.FoundAfter.{found_first, none_first, none_of, not_below, not_below_itself, past_equal, past_lesser}
 use Rattle.path_maps.proofs.meets.meet.Goals as goal
 

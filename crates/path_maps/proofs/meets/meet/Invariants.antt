@@ -1,7 +1,5 @@
-use Rattle.std.proofs.Common.{◌≡◌, ◌≢◌, IsTrue, List, ℕ}
-use Rattle.std.specs.FinMap.Entries.{find, is_sorted}
-use Rattle.std.specs.declared.cmp.Ordering.TheVariants.{Less}
-use Rattle.path_maps.proofs.Prelude.{bytes_cmp}
+use Rattle.std.proofs.Common.{◌≡◌, ◌≢◌}
+use Rattle.path_maps.proofs.Prelude.{bytes_cmp, find, is_sorted, IsTrue, Less, List, ℕ}
 use Rattle.path_maps.proofs.meets.meet.Given as goal
 
 abbrev pub invariant-loop : goal.invariant-loop

@@ -1,8 +1,5 @@
-use Rattle.std.proofs.Common.{◌+◌, ◌∙◌, ap, IsTrue, subst, sym}
-use Rattle.std.specs.Cmp.Lexicographic.{nat_list_cmp_total}
-use Rattle.std.specs.FinMap.Entries.{find, is_sorted}
-use Rattle.path_maps.proofs.Prelude.{bytes_cmp, find_at, find_gap}
-use Rattle.path_maps.proofs.FoundAfter.{after_gap, after_next, rest_is, sorted_drop}
+use Rattle.std.proofs.Common.{◌+◌}
+use Rattle.path_maps.proofs.{FoundAfter.{after_gap, after_next, rest_is, sorted_drop}, Prelude.{ap, bytes_cmp, find, find_at, find_gap, is_sorted, IsTrue, nat_list_cmp_total, subst, sym, ◌∙◌}}
 use Rattle.path_maps.proofs.meets.search.Goals as goal
 
 pub returns-in-Ok-clause-found : goal.returns-in-Ok-clause-found

@@ -1,6 +1,4 @@
-use Rattle.std.proofs.Common.{◌∙◌, ap, sym}
-use Rattle.std.specs.Ordering.{is_eq}
-use Rattle.plain_values.proofs.Spelled.{left_decides, other_words}
+use Rattle.plain_values.proofs.{Prelude.{ap, is_eq, sym, ◌∙◌}, Spelled.{left_decides, other_words}}
 use Rattle.plain_values.proofs.orders.are_few_same.Goals as goal
 
 pub returns-then-first_half : goal.returns-then-first_half

@@ -1,5 +1,4 @@
-use Rattle.std.proofs.Common.{◌∙◌, arith, refl, sym}
-use Rattle.plain_values.proofs.Spelled.{decided, left_bytes, left_decides}
+use Rattle.plain_values.proofs.{Prelude.{arith, refl, sym, ◌∙◌}, Spelled.{decided, left_bytes, left_decides}}
 use Rattle.plain_values.proofs.orders.order.Goals as goal
 
 pub loop-a_left-init : goal.loop-a_left-init

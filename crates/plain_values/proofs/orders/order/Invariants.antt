@@ -1,7 +1,5 @@
-use Rattle.std.proofs.Common.{◌≡◌, length}
-use Rattle.std.specs.Cmp.Lexicographic.{slice_cmp}
-use Rattle.std.specs.Ordering.{nat_cmp}
-use Rattle.plain_values.proofs.Spelled.{AreBytes}
+use Rattle.std.proofs.Common.{◌≡◌}
+use Rattle.plain_values.proofs.{Prelude.{length, nat_cmp, slice_cmp}, Spelled.{AreBytes}}
 use Rattle.plain_values.proofs.orders.order.Given as goal
 
 -- the remaining bytes decide

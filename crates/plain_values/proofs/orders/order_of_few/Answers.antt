@@ -1,5 +1,4 @@
-use Rattle.std.proofs.Common.{◌∙◌, arith, sym}
-use Rattle.plain_values.proofs.Spelled.{by_lengths}
+use Rattle.plain_values.proofs.{Prelude.{arith, sym, ◌∙◌}, Spelled.{by_lengths}}
 use Rattle.plain_values.proofs.orders.order_of_few.Goals as goal
 
 pub returns : goal.returns

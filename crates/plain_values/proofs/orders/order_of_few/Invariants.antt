@@ -1,6 +1,5 @@
-use Rattle.std.proofs.Common.{◌≡◌, drop}
-use Rattle.std.specs.Cmp.Lexicographic.{slice_cmp}
-use Rattle.std.specs.Ordering.{nat_cmp}
+use Rattle.std.proofs.Common.{◌≡◌}
+use Rattle.plain_values.proofs.Prelude.{drop, nat_cmp, slice_cmp}
 use Rattle.plain_values.proofs.orders.order_of_few.Given as goal
 
 abbrev pub invariant-loop-place : goal.invariant-loop-place

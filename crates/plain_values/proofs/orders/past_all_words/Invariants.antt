@@ -1,6 +1,5 @@
-use Rattle.std.proofs.Common.{◌≡◌, length}
-use Rattle.std.specs.Cmp.Lexicographic.{slice_cmp}
-use Rattle.std.specs.Ordering.{nat_cmp}
+use Rattle.std.proofs.Common.{◌≡◌}
+use Rattle.plain_values.proofs.Prelude.{length, nat_cmp, slice_cmp}
 use Rattle.plain_values.proofs.orders.past_all_words.Given as goal
 
 -- the remaining bytes decide

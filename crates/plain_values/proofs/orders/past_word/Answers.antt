@@ -1,5 +1,4 @@
-use Rattle.std.proofs.Common.{◌∙◌, sym}
-use Rattle.plain_values.proofs.Spelled.{left_decides}
+use Rattle.plain_values.proofs.{Prelude.{sym, ◌∙◌}, Spelled.{left_decides}}
 use Rattle.plain_values.proofs.orders.past_word.Goals as goal
 
 pub returns-clause-left : goal.returns-clause-left

@@ -1,7 +1,5 @@
-use Rattle.std.proofs.Common.{[], ◌++◌, ◌∙◌, ◌∷◌, ◌≡◌, ap, inl, inr, List, subst, sym, ℕ}
-use Rattle.std.specs.declared.alloc.Global.{Global}
-use Rattle.std.specs.declared.vec.Vec.{Vec}
-use Rattle.plan_choice.proofs.Prelude.{AreInConflict, ArePairsOf, case_of, count_of, IndexedCase, more_kinds, neighbors, one_kind, opposite_is, within-both, within-one}
+use Rattle.std.proofs.Common.{◌++◌, ◌∷◌, ◌≡◌}
+use Rattle.plan_choice.proofs.Prelude.{[], ap, AreInConflict, ArePairsOf, case_of, count_of, Global, IndexedCase, inl, inr, List, more_kinds, neighbors, one_kind, opposite_is, subst, sym, Vec, within-both, within-one, ℕ, ◌∙◌}
 use Rattle.plan_choice.proofs.case_sets.conflicting.Goals as goal
 
 -- two units are in conflict where one of them names the other

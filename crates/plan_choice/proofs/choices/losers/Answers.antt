@@ -1,10 +1,7 @@
-use Rattle.std.proofs.Common.{◌<◌, ◌↔◌, ◌∙◌, ◌≡◌, ap, arith, Bool, false, IsTrue, length, List, subst, sym, true, ℕ}
-use Rattle.std.specs.declared.alloc.Global.{Global}
-use Rattle.std.specs.declared.vec.Vec.{Vec}
-use Rattle.plan_choice.proofs.Prelude.{case_of, count_of, IsAmong, IsLoser, IsMember, IsMember-none, IsMember-within, neighbors_of, SetsBits}
-use Rattle.plan_choice.proofs.{ChoiceLemmas.bits_of_neighbors, ChoiceLemmas.clean_again, ChoiceLemmas.loser_is, ChoiceLemmas.loser_was, Fitting.neighbors_fits, Fitting.untrue, WeakDependencyLemmas.listed_more, WeakDependencyLemmas.listed_still}
+use Rattle.std.proofs.Common.{◌<◌, ◌↔◌, ◌≡◌}
+use Rattle.plan_choice.proofs.Prelude.{ap, arith, Bool, case_of, count_of, false, Global, IsAmong, IsLoser, IsMember, IsMember-none, IsMember-within, IsTrue, length, List, neighbors_of, SetsBits, subst, sym, true, Vec, ℕ, ◌∙◌}
+use Rattle.plan_choice.proofs.{ChoiceLemmas.{bits_of_neighbors, clean_again, loser_is, loser_was}, choices.losers.Goals.{else-lost, else-lost-via-else-lost, else-lost-via-then-lost+else-is_extra, then-lost+then-is_extra+in_ok-push}, Fitting.{neighbors_fits, untrue}, WeakDependencyLemmas.{listed_more, listed_still}}
 use Rattle.plan_choice.proofs.choices.losers.Goals as goal
-use Rattle.plan_choice.proofs.choices.losers.Goals.{then-lost+then-is_extra+in_ok-push, else-lost, else-lost-via-then-lost+else-is_extra, else-lost-via-else-lost}
 
 pub loop-unit-init : goal.loop-unit-init
 loop-unit-init c = record {

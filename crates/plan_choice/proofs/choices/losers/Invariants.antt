@@ -1,5 +1,5 @@
-use Rattle.std.proofs.Common.{◌<◌, ◌↔◌, ◌≡◌, length, ℕ}
-use Rattle.plan_choice.proofs.Prelude.{case_of, IsAmong, IsLoser, IsMember}
+use Rattle.std.proofs.Common.{◌<◌, ◌↔◌, ◌≡◌}
+use Rattle.plan_choice.proofs.Prelude.{case_of, IsAmong, IsLoser, IsMember, length, ℕ}
 use Rattle.plan_choice.proofs.choices.losers.Given as goal
 
 abbrev pub invariant-loop-unit : goal.invariant-loop-unit

@@ -1,8 +1,5 @@
-use Rattle.std.proofs.Common.{◌<◌, ◌∙◌, ◌≡◌, arith, get_or, refl, subst, sym}
-use Rattle.std.proofs.lemmas.List.{get_or_default}
-use Rattle.std.proofs.lemmas.List.Elements.{Contains-get_or}
-use Rattle.plan_choice.proofs.Prelude.{among_from_contains, contains_from_among, IsMember}
-use Rattle.plan_choice.proofs.Fitting.{untrue}
+use Rattle.std.proofs.Common.{◌<◌, ◌≡◌}
+use Rattle.plan_choice.proofs.{Fitting.{untrue}, Prelude.{among_from_contains, arith, Contains-get_or, contains_from_among, get_or, get_or_default, IsMember, refl, subst, sym, ◌∙◌}}
 use Rattle.plan_choice.proofs.choices.loses.Goals as goal
 
 pub returns : goal.returns

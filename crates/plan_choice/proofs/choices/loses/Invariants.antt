@@ -1,5 +1,5 @@
-use Rattle.std.proofs.Common.{◌<◌, get_or, ℕ}
-use Rattle.plan_choice.proofs.Prelude.{IsMember}
+use Rattle.std.proofs.Common.{◌<◌}
+use Rattle.plan_choice.proofs.Prelude.{get_or, IsMember, ℕ}
 use Rattle.plan_choice.proofs.choices.loses.Given as goal
 
 abbrev pub invariant-loop-other : goal.invariant-loop-other

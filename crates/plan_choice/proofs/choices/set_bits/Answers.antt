@@ -1,7 +1,5 @@
-use Rattle.std.proofs.Common.{◌<◌, arith, get_or, length, subst}
-use Rattle.std.proofs.lemmas.List.{take_all, take_more}
-use Rattle.plan_choice.proofs.Prelude.{SetsBits}
-use Rattle.plan_choice.proofs.ChoiceLemmas.{SetsBits-more, SetsBits-none}
+use Rattle.std.proofs.Common.{◌<◌}
+use Rattle.plan_choice.proofs.{ChoiceLemmas.{SetsBits-more, SetsBits-none}, Prelude.{arith, get_or, length, SetsBits, subst, take_all, take_more}}
 use Rattle.plan_choice.proofs.choices.set_bits.Goals as goal
 
 pub loop-node-init : goal.loop-node-init

@@ -1,5 +1,4 @@
-use Rattle.std.proofs.Common.{take}
-use Rattle.plan_choice.proofs.Prelude.{SetsBits}
+use Rattle.plan_choice.proofs.Prelude.{SetsBits, take}
 use Rattle.plan_choice.proofs.choices.set_bits.Given as goal
 
 abbrev pub invariant-loop-node : goal.invariant-loop-node

@@ -1,11 +1,7 @@
-use Rattle.std.proofs.Common.{◌<◌, ◌∙◌, ap, arith, sym, ℕ}
-use Rattle.std.specs.Ordering.{nat_cmp}
-use Rattle.std.specs.declared.alloc.Global.{Global}
-use Rattle.std.specs.declared.vec.Vec.{Vec}
-use Rattle.plan_choice.proofs.Prelude.{IsAmong, IsLeast, IsMember, IsMember-within, successors_from}
-use Rattle.plan_choice.proofs.{Fitting.tested_none, Fitting.tested_some, Fitting.untrue, WeakDependencyLemmas.listed_more, WeakDependencyLemmas.listed_still}
+use Rattle.std.proofs.Common.{◌<◌}
+use Rattle.plan_choice.proofs.Prelude.{ap, arith, Global, IsAmong, IsLeast, IsMember, IsMember-within, nat_cmp, successors_from, sym, Vec, ℕ, ◌∙◌}
+use Rattle.plan_choice.proofs.{Fitting.{tested_none, tested_some, untrue}, plans.stopped_by_conflict.Goals.{else-is_outside, else-is_outside-via-else-is_outside, else-is_outside-via-then-is_outside+else-is_some, then-is_outside+then-is_some+in_ok-push}, WeakDependencyLemmas.{listed_more, listed_still}}
 use Rattle.plan_choice.proofs.plans.stopped_by_conflict.Goals as goal
-use Rattle.plan_choice.proofs.plans.stopped_by_conflict.Goals.{then-is_outside+then-is_some+in_ok-push, else-is_outside, else-is_outside-via-then-is_outside+else-is_some, else-is_outside-via-else-is_outside}
 
 pub least_member-requires : goal.least_member-requires
 least_member-requires c = record { successors = c.requires.conflicting; node = (let l = c.loop-unit-test.true in omega (arith, l, c.requires.units)) }

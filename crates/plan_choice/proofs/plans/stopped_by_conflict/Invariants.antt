@@ -1,5 +1,5 @@
-use Rattle.std.proofs.Common.{◌<◌, ◌↔◌, ℕ}
-use Rattle.plan_choice.proofs.Prelude.{IsAmong, IsMember, successors_from}
+use Rattle.std.proofs.Common.{◌<◌, ◌↔◌}
+use Rattle.plan_choice.proofs.Prelude.{IsAmong, IsMember, successors_from, ℕ}
 use Rattle.plan_choice.proofs.plans.stopped_by_conflict.Given as goal
 
 abbrev pub invariant-loop-unit : goal.invariant-loop-unit

@@ -1,6 +1,5 @@
-use Rattle.std.proofs.Common.{◌++◌, ◌≡◌, length}
-use Rattle.std.specs.List.{flat_map}
-use Rattle.script_answers.proofs.Prelude.{entry_line}
+use Rattle.std.proofs.Common.{◌++◌, ◌≡◌}
+use Rattle.script_answers.proofs.Prelude.{entry_line, flat_map, length}
 use Rattle.std.specs.FinMap as finmap
 use Rattle.script_answers.proofs.answers.list_files.Given as goal
 

@@ -1,5 +1,4 @@
-use Rattle.script_answers.proofs.Prelude.{question_asked, RendersWords, Viewer}
-use Rattle.script_answers.proofs.Rendered.{answer_rendered, for_host, question_rendered}
+use Rattle.script_answers.proofs.{Prelude.{question_asked, RendersWords, Viewer}, Rendered.{answer_rendered, for_host, question_rendered}}
 use Rattle.script_answers.proofs.asking.render_inquiry.Goals as goal
 
 pub returns-in-Ok : goal.returns-in-Ok

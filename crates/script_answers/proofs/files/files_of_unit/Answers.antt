@@ -1,8 +1,5 @@
-use Rattle.std.proofs.Common.{◌↔◌, ◌∙◌, ◌≡◌, ap, List, map, subst, sym}
-use Rattle.std.proofs.lemmas.Result.{IfOk-weaker}
-use Rattle.std.specs.List.{Contains}
-use Rattle.std.specs.Option.{option_copied}
-use Rattle.script_answers.proofs.Prelude.{AreNames, borrowed_are_drop_ins, borrowed_text, entry_place, host_view_of, HostViewMap, IsCat, IsDropInAtOf, IsFileAt, Name}
+use Rattle.std.proofs.Common.{◌↔◌, ◌≡◌}
+use Rattle.script_answers.proofs.Prelude.{ap, AreNames, borrowed_are_drop_ins, borrowed_text, Contains, entry_place, host_view_of, HostViewMap, IfOk-weaker, IsCat, IsDropInAtOf, IsFileAt, List, map, Name, option_copied, subst, sym, ◌∙◌}
 use Rattle.script_answers.proofs.Borrowed.{drop_ins_borrowed, text_borrowed}
 use Rattle.script_answers.proofs.files.files_of_unit.Goals as goal
 

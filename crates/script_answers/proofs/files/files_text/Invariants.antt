@@ -1,6 +1,5 @@
-use Rattle.std.proofs.Common.{◌++◌, ◌≡◌, take}
-use Rattle.std.specs.List.{flat_map}
-use Rattle.script_answers.proofs.Prelude.{content_at, entry_lines, file_bytes, file_lines}
+use Rattle.std.proofs.Common.{◌++◌, ◌≡◌}
+use Rattle.script_answers.proofs.Prelude.{content_at, entry_lines, file_bytes, file_lines, flat_map, take}
 use Rattle.script_answers.proofs.files.files_text.Given as goal
 
 abbrev pub invariant-loop-placed : goal.invariant-loop-placed

@@ -1,6 +1,4 @@
-use Rattle.std.proofs.Common.{subst}
-use Rattle.script_answers.proofs.Prelude.{host_view_of, RendersFilesOf, Viewer}
-use Rattle.script_answers.proofs.Rendered.{for_host, IsRendered}
+use Rattle.script_answers.proofs.{Prelude.{host_view_of, RendersFilesOf, subst, Viewer}, Rendered.{for_host, IsRendered}}
 use Rattle.script_answers.proofs.files.render_files.Goals as goal
 
 pub returns : goal.returns

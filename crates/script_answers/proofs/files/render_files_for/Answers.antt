@@ -1,6 +1,4 @@
-use Rattle.std.proofs.Common.{◌∙◌, ap, sym}
-use Rattle.std.specs.Option.{option_copied}
-use Rattle.script_answers.proofs.Prelude.{fragments_are_files, host_view_of, main, mains_are_their_own, Resolution}
+use Rattle.script_answers.proofs.Prelude.{ap, fragments_are_files, host_view_of, main, mains_are_their_own, option_copied, Resolution, sym, ◌∙◌}
 use Rattle.script_answers.proofs.files.render_files_for.Goals as goal
 
 -- the main name that was found is its own main name, and its fragment is a file

@@ -1,5 +1,5 @@
-use Rattle.std.proofs.Common.{◌++◌, ◌≡◌, take}
-use Rattle.script_answers.proofs.Prelude.{spaced_names}
+use Rattle.std.proofs.Common.{◌++◌, ◌≡◌}
+use Rattle.script_answers.proofs.Prelude.{spaced_names, take}
 use Rattle.script_answers.proofs.names.append_names.Given as goal
 
 abbrev pub invariant-loop-name : goal.invariant-loop-name

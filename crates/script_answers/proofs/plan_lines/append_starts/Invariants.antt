@@ -1,6 +1,5 @@
-use Rattle.std.proofs.Common.{◌++◌, ◌≡◌, take}
-use Rattle.std.specs.List.{flat_map}
-use Rattle.script_answers.proofs.Prelude.{start_line}
+use Rattle.std.proofs.Common.{◌++◌, ◌≡◌}
+use Rattle.script_answers.proofs.Prelude.{flat_map, start_line, take}
 use Rattle.script_answers.proofs.plan_lines.append_starts.Given as goal
 
 abbrev pub invariant-loop-name : goal.invariant-loop-name

@@ -1,6 +1,5 @@
-use Rattle.std.proofs.Common.{◌≡◌, take}
-use Rattle.std.specs.List.{flat_map}
-use Rattle.script_answers.proofs.Prelude.{depth_line}
+use Rattle.std.proofs.Common.{◌≡◌}
+use Rattle.script_answers.proofs.Prelude.{depth_line, flat_map, take}
 use Rattle.script_answers.proofs.pulled_lines.pulled_text.Given as goal
 
 abbrev pub invariant-loop-pair : goal.invariant-loop-pair

@@ -1,5 +1,5 @@
-use Rattle.std.proofs.Common.{◌≡◌, length}
-use Rattle.script_answers.proofs.Prelude.{names_in, values_then}
+use Rattle.std.proofs.Common.{◌≡◌}
+use Rattle.script_answers.proofs.Prelude.{length, names_in, values_then}
 use Rattle.script_answers.proofs.requests.read_names.Given as goal
 
 abbrev pub invariant-loop-word : goal.invariant-loop-word

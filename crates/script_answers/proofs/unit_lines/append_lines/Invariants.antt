@@ -1,5 +1,5 @@
-use Rattle.std.proofs.Common.{◌++◌, ◌≡◌, take}
-use Rattle.std.specs.List.{flat_map}
+use Rattle.std.proofs.Common.{◌++◌, ◌≡◌}
+use Rattle.script_answers.proofs.Prelude.{flat_map, take}
 use Rattle.script_answers.proofs.unit_lines.append_lines.Given as goal
 
 abbrev pub invariant-loop-one : goal.invariant-loop-one

@@ -1,6 +1,5 @@
-use Rattle.std.proofs.Common.{◌++◌, ◌≡◌, take}
-use Rattle.std.specs.List.{flat_map}
-use Rattle.script_answers.proofs.Prelude.{note_line}
+use Rattle.std.proofs.Common.{◌++◌, ◌≡◌}
+use Rattle.script_answers.proofs.Prelude.{flat_map, note_line, take}
 use Rattle.script_answers.proofs.unit_lines.append_notes.Given as goal
 
 abbrev pub invariant-loop-note : goal.invariant-loop-note

@@ -1,6 +1,4 @@
-use Rattle.std.proofs.Common.{arith}
-use Rattle.std.proofs.lemmas.Grind.{common_steps}
-use Rattle.script_commands.proofs.FirstAt.{with_host, without_host}
+use Rattle.script_commands.proofs.{FirstAt.{with_host, without_host}, Prelude.{arith, common_steps}}
 use Rattle.script_commands.proofs.host_words.cut_host.Goals as goal
 
 pub returns-in-None-clause-host : goal.returns-in-None-clause-host

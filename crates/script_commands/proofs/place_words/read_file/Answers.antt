@@ -1,6 +1,4 @@
-use Rattle.std.proofs.Common.{Global, MatchOption, Option, subst, Vec, ℕ}
-use Rattle.script_commands.proofs.Prelude.{IsBadText, Spells}
-use Rattle.script_commands.proofs.Contents.{file_refused}
+use Rattle.script_commands.proofs.{Contents.{file_refused}, Prelude.{Global, IsBadText, MatchOption, Option, Spells, subst, Vec, ℕ}}
 use Rattle.script_commands.proofs.place_words.read_file.Goals as goal
 
 pub returns-in-Err : goal.returns-in-Err

@@ -1,5 +1,5 @@
-use Rattle.std.proofs.Common.{◌≡◌, length}
-use Rattle.script_commands.proofs.Prelude.{places_of, values_then}
+use Rattle.std.proofs.Common.{◌≡◌}
+use Rattle.script_commands.proofs.Prelude.{length, places_of, values_then}
 use Rattle.script_commands.proofs.place_words.read_places.Given as goal
 
 abbrev pub invariant-loop-text : goal.invariant-loop-text

@@ -1,8 +1,5 @@
-use Rattle.std.proofs.Common.{arith, sym}
-use Rattle.script_pipes.proofs.Prelude.{Consumes-append}
-use Rattle.script_pipes.proofs.{FaultLemmas.OnErr-any, ReadLemmas.read_again, ReadLemmas.read_more}
+use Rattle.script_pipes.proofs.{FaultLemmas.{OnErr-any}, Prelude.{arith, Consumes-append, sym}, reading.read_all.Goals.{in-Err, in-Ok-2+in_ok-map_err-in-Ok-2}, ReadLemmas.{read_again, read_more}}
 use Rattle.script_pipes.proofs.reading.read_all.Goals as goal
-use Rattle.script_pipes.proofs.reading.read_all.Goals.{in-Ok-2+in_ok-map_err-in-Ok-2, in-Err}
 
 pub returns-in-Ok-clause-left : goal.returns-in-Ok-clause-left
 returns-in-Ok-clause-left g c = (_, Consumes-append _ _ _ _ _ c.loop-turn.invariant.consumes c.in-Ok.ensures.bytes.0)

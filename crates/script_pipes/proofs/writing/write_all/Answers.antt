@@ -1,5 +1,4 @@
-use Rattle.std.proofs.lemmas.List.{take_rest}
-use Rattle.script_pipes.proofs.{FaultLemmas.OnErr-any, WriteLemmas.write_more, WriteLemmas.write_stops}
+use Rattle.script_pipes.proofs.{FaultLemmas.{OnErr-any}, Prelude.{take_rest}, WriteLemmas.{write_more, write_stops}}
 use Rattle.script_pipes.proofs.writing.write_all.Goals as goal
 
 pub returns-in_err-taken-clause-prefix : goal.returns-in_err-taken-clause-prefix

@@ -1,5 +1,4 @@
-use Rattle.std.proofs.Common.{length}
-use Rattle.script_pipes.proofs.WriteLemmas.{IsWrittenTo}
+use Rattle.script_pipes.proofs.{Prelude.{length}, WriteLemmas.{IsWrittenTo}}
 use Rattle.script_pipes.proofs.writing.write_all.Given as goal
 
 abbrev pub invariant-loop-rest : goal.invariant-loop-rest

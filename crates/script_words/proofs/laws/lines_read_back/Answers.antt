@@ -1,5 +1,4 @@
-use Rattle.std.proofs.lemmas.List.Elements.{recursion_from_All}
-use Rattle.script_words.proofs.Prelude.{HasNoLineFeed, IsPlainLine, lines_of-last, lines_of-line_feeds, lines_of-nil, lines_of-returns}
+use Rattle.script_words.proofs.Prelude.{HasNoLineFeed, IsPlainLine, lines_of-last, lines_of-line_feeds, lines_of-nil, lines_of-returns, recursion_from_All}
 use Rattle.script_words.proofs.laws.lines_read_back.Goals as goal
 
 pub returns : goal.returns

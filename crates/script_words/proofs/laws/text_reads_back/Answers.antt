@@ -1,6 +1,5 @@
 use Rattle.std.proofs.Common.{◌≢◌}
-use Rattle.std.proofs.lemmas.List.Elements.{recursion_from_All}
-use Rattle.script_words.proofs.Prelude.{spells_doubled, spells_one, spells_plain}
+use Rattle.script_words.proofs.Prelude.{recursion_from_All, spells_doubled, spells_one, spells_plain}
 use Rattle.script_words.proofs.laws.text_reads_back.Goals as goal
 
 pub returns : goal.returns

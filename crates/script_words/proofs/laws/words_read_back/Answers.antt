@@ -1,6 +1,5 @@
-use Rattle.std.proofs.Common.{[], ◌++◌, ◌<◌, ◌∷◌, ◌≡◌, add-one, All, arith, length, List, ℕ}
-use Rattle.std.proofs.lemmas.List.Elements.{recursion_from_All}
-use Rattle.script_words.proofs.Prelude.{IsWord, spaced, text_after, text_after-last, text_after-spaced, words_of-nil, words_of-space, words_of-spaced, words_of-word}
+use Rattle.std.proofs.Common.{◌++◌, ◌<◌, ◌∷◌, ◌≡◌}
+use Rattle.script_words.proofs.Prelude.{[], add-one, All, arith, IsWord, length, List, recursion_from_All, spaced, text_after, text_after-last, text_after-spaced, words_of-nil, words_of-space, words_of-spaced, words_of-word, ℕ}
 use Rattle.script_words.proofs.laws.words_read_back.Goals as goal
 
 text_following : (words : List (List ℕ)) (text : List ℕ) → 0 < length words → All IsWord words → text_after (length words) (spaced words ++ text) ≡ text

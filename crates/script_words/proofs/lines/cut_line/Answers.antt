@@ -1,8 +1,4 @@
-use Rattle.std.proofs.Common.{arith}
-use Rattle.std.proofs.lemmas.Bool.{eq-eqb, eqb-true}
-use Rattle.std.proofs.lemmas.List.{take_rest}
-use Rattle.script_words.proofs.Prelude.{lines-cut_at, lines-cut_nowhere}
-use Rattle.script_words.specs.Lines.{lines_of}
+use Rattle.script_words.{proofs.Prelude.{arith, eq-eqb, eqb-true, lines-cut_at, lines-cut_nowhere, take_rest}, specs.Lines.{lines_of}}
 use Rattle.script_words.proofs.lines.cut_line.Goals as goal
 
 pub returns-in-None-clause-lines : goal.returns-in-None-clause-lines

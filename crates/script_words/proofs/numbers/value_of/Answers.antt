@@ -1,6 +1,4 @@
-use Rattle.std.proofs.Common.{arith}
-use Rattle.std.proofs.lemmas.Int.Digits.{digits_value_more}
-use Rattle.script_words.proofs.NumberLemmas.{below_power, digit_at, digit_value_at}
+use Rattle.script_words.proofs.{NumberLemmas.{below_power, digit_at, digit_value_at}, Prelude.{arith, digits_value_more}}
 use Rattle.script_words.proofs.numbers.value_of.Goals as goal
 
 pub loop-b-preserved : goal.loop-b-preserved

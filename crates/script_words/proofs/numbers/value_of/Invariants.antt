@@ -1,5 +1,5 @@
-use Rattle.std.proofs.Common.{◌<◌, ◌^◌, ◌≡◌, take}
-use Rattle.std.specs.Str.Parse.{digits_value}
+use Rattle.std.proofs.Common.{◌<◌, ◌^◌, ◌≡◌}
+use Rattle.script_words.proofs.Prelude.{digits_value, take}
 use Rattle.script_words.proofs.numbers.value_of.Given as goal
 
 abbrev pub invariant-loop-b : goal.invariant-loop-b

@@ -1,8 +1,5 @@
-use Rattle.std.proofs.Common.{◌<◌, arith, length, sym}
-use Rattle.std.proofs.lemmas.Bool.{eqb-true}
-use Rattle.std.proofs.lemmas.Bool.Decides.{nat_tests}
-use Rattle.std.proofs.lemmas.List.{nil_from_length}
-use Rattle.script_words.proofs.TextLemmas.{read_all, read_bad, read_more, read_none}
+use Rattle.std.proofs.Common.{◌<◌}
+use Rattle.script_words.proofs.{Prelude.{arith, eqb-true, length, nat_tests, nil_from_length, sym}, TextLemmas.{read_all, read_bad, read_more, read_none}}
 use Rattle.script_words.proofs.text.unescape.Goals as goal
 
 pub loop-rest-init : goal.loop-rest-init

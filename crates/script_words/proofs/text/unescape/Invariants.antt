@@ -1,5 +1,4 @@
-use Rattle.std.proofs.Common.{length}
-use Rattle.script_words.proofs.TextLemmas.{IsReadTo}
+use Rattle.script_words.proofs.{Prelude.{length}, TextLemmas.{IsReadTo}}
 use Rattle.script_words.proofs.text.unescape.Given as goal
 
 abbrev pub invariant-loop-rest : goal.invariant-loop-rest

@@ -1,7 +1,5 @@
-use Rattle.std.proofs.Common.{◌<◌, arith, length, sym}
-use Rattle.std.proofs.lemmas.Bool.{eqb-true}
-use Rattle.std.proofs.lemmas.Bool.Decides.{nat_tests}
-use Rattle.script_words.proofs.WordLemmas.{after_word-cut, shorter-cut, words_of-cut, words_of-spaces}
+use Rattle.std.proofs.Common.{◌<◌}
+use Rattle.script_words.proofs.{Prelude.{arith, eqb-true, length, nat_tests, sym}, WordLemmas.{after_word-cut, shorter-cut, words_of-cut, words_of-spaces}}
 use Rattle.script_words.proofs.words.cut_word.Goals as goal
 
 pub returns-then-is_empty-clause-words : goal.returns-then-is_empty-clause-words

@@ -1,4 +1,4 @@
-use Rattle.section_reader.proofs.{Alike.blank_lines_change_numbers_alone, Alike.comments_change_numbers_alone, Alike.continued_lines_are_joined, Alike.first_blank_line_changes_numbers_alone, Comments.comments_are_marked, Comments.marks_change_nothing, Comments.whitespace_is_blank}
+use Rattle.section_reader.proofs.{Alike.{blank_lines_change_numbers_alone, comments_change_numbers_alone, continued_lines_are_joined, first_blank_line_changes_numbers_alone}, Comments.{comments_are_marked, marks_change_nothing, whitespace_is_blank}}
 use Rattle.section_reader.proofs.laws.reading_laws.Goals as goal
 
 pub returns-clause-comments : goal.returns-clause-comments

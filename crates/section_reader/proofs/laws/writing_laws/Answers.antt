@@ -1,6 +1,4 @@
-use Rattle.std.proofs.lemmas.List.Elements.{recursion_from_All}
-use Rattle.section_reader.proofs.Prelude.{IsOneLine}
-use Rattle.section_reader.proofs.{OneLine.one_by_one, ReadBack.sections_are_read_back}
+use Rattle.section_reader.proofs.{OneLine.{one_by_one}, Prelude.{IsOneLine, recursion_from_All}, ReadBack.{sections_are_read_back}}
 use Rattle.section_reader.proofs.laws.writing_laws.Goals as goal
 
 pub returns-clause-lines : goal.returns-clause-lines

@@ -1,7 +1,4 @@
-use Rattle.std.proofs.Common.{arith}
-use Rattle.std.proofs.lemmas.Bool.{eq-eqb, eqb-true}
-use Rattle.std.proofs.lemmas.List.{take_rest}
-use Rattle.section_reader.proofs.Prelude.{lines-cut_at, lines-cut_nowhere}
+use Rattle.section_reader.proofs.Prelude.{arith, eq-eqb, eqb-true, lines-cut_at, lines-cut_nowhere, take_rest}
 use Rattle.section_reader.proofs.lines.cut_line.Goals as goal
 
 pub returns-in-None-clause-lines : goal.returns-in-None-clause-lines

@@ -1,5 +1,5 @@
-use Rattle.std.proofs.Common.{◌++◌, ◌∙◌, ap, append_assoc, sym}
-use Rattle.section_reader.proofs.Prelude.{Blank, Comment, Continued, continued_some, going_on, going_on-line, joined_lines, lines_following, lines_following-line, none_joined, spaced, Whole}
+use Rattle.std.proofs.Common.{◌++◌}
+use Rattle.section_reader.proofs.Prelude.{ap, append_assoc, Blank, Comment, Continued, continued_some, going_on, going_on-line, joined_lines, lines_following, lines_following-line, none_joined, spaced, sym, Whole, ◌∙◌}
 use Rattle.section_reader.proofs.JoinLemmas.{fewer, following, recorded, recorded_end, recorded_none}
 use Rattle.section_reader.proofs.logical.join.Goals as goal
 

@@ -1,5 +1,5 @@
-use Rattle.std.proofs.Common.{◌++◌, ◌≡◌, ◌≤◌, length}
-use Rattle.section_reader.proofs.Prelude.{going_on, lines_following, spaced}
+use Rattle.std.proofs.Common.{◌++◌, ◌≡◌, ◌≤◌}
+use Rattle.section_reader.proofs.Prelude.{going_on, length, lines_following, spaced}
 use Rattle.section_reader.proofs.logical.join.Given as goal
 
 -- the text so far, followed by the continuation in the remaining lines, is the whole text

@@ -1,9 +1,5 @@
-use Rattle.std.proofs.Common.{◌+◌, ◌<◌, ◌∙◌, ap, arith, drop, length, Some, sym}
-use Rattle.std.proofs.lemmas.Bool.{eqb-true}
-use Rattle.std.proofs.lemmas.Bool.Decides.{nat_tests}
-use Rattle.std.proofs.lemmas.List.{take_rest}
-use Rattle.section_reader.proofs.Prelude.{trimmed}
-use Rattle.section_reader.proofs.PartLemmas.{pair_of-both, pair_of-keyless, pair_of-plain}
+use Rattle.std.proofs.Common.{◌+◌, ◌<◌}
+use Rattle.section_reader.proofs.{PartLemmas.{pair_of-both, pair_of-keyless, pair_of-plain}, Prelude.{ap, arith, drop, eqb-true, length, nat_tests, Some, sym, take_rest, trimmed, ◌∙◌}}
 use Rattle.section_reader.proofs.parts.pair_of.Goals as goal
 
 pub returns-in_err-at : goal.returns-in_err-at

@@ -1,5 +1,4 @@
-use Rattle.std.proofs.Common.{◌∙◌, ap, drop}
-use Rattle.std.proofs.lemmas.List.{take_rest}
+use Rattle.section_reader.proofs.Prelude.{ap, drop, take_rest, ◌∙◌}
 use Rattle.section_reader.proofs.parts.trim_start.Goals as goal
 
 pub returns : goal.returns

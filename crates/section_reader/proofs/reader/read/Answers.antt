@@ -1,7 +1,7 @@
-use Rattle.std.proofs.Common.{◌++◌, ◌∙◌, ◌≡◌, ◌⊎◌, ap, inl, inr, sym, ⊎_elim}
-use Rattle.section_reader.proofs.Prelude.{assignments_in, Blank, Comment, continued_some, form, items_from, Line, logical_of, logical_of-continued, logical_of-nil, logical_of-passed, logical_of-whole, notes_from, notes_in, trimmed}
-use Rattle.section_reader.specs.{Logical.logical_lines, Sections.assignments_of, Sections.notes_of}
+use Rattle.std.proofs.Common.{◌++◌, ◌≡◌, ◌⊎◌}
+use Rattle.section_reader.proofs.Prelude.{ap, assignments_in, Blank, Comment, continued_some, form, inl, inr, items_from, Line, logical_of, logical_of-continued, logical_of-nil, logical_of-passed, logical_of-whole, notes_from, notes_in, sym, trimmed, ⊎_elim, ◌∙◌}
 use Rattle.section_reader.proofs.PlaceLemmas.{finished, items_from-nil, items_from-start, notes_from-nil, notes_from-start, step}
+use Rattle.section_reader.specs.{Logical.{logical_lines}, Sections.{assignments_of, notes_of}}
 use Rattle.section_reader.proofs.reader.read.Goals as goal
 
 pub loop-line-init : goal.loop-line-init

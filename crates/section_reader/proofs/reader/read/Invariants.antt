@@ -1,5 +1,5 @@
-use Rattle.std.proofs.Common.{◌++◌, ◌≡◌, length}
-use Rattle.section_reader.proofs.Prelude.{assignments_of, items_from, logical_of, notes_from, notes_of}
+use Rattle.std.proofs.Common.{◌++◌, ◌≡◌}
+use Rattle.section_reader.proofs.Prelude.{assignments_of, items_from, length, logical_of, notes_from, notes_of}
 use Rattle.section_reader.proofs.reader.read.Given as goal
 
 -- what was read, followed by what the remaining lines give, is what the file gives

@@ -1,7 +1,4 @@
-use Rattle.std.proofs.Common.{◌∙◌, arith, sym}
-use Rattle.std.proofs.lemmas.List.Filters.{dedup_is}
-use Rattle.std.specs.Ordering.{eq_by_cmp}
-use Rattle.setting_rules.proofs.Prelude.{few_in_order, name_cmp, sorted_is}
+use Rattle.setting_rules.proofs.Prelude.{arith, dedup_is, eq_by_cmp, few_in_order, name_cmp, sorted_is, sym, ◌∙◌}
 use Rattle.setting_rules.proofs.dependency_lists.in_byte_order.Goals as goal
 
 pub returns-then-len-lt2 : goal.returns-then-len-lt2

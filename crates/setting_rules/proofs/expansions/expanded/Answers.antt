@@ -1,6 +1,4 @@
-use Rattle.std.proofs.Common.{◌∙◌, ap, Some, sym}
-use Rattle.std.specs.List.{list_any}
-use Rattle.setting_rules.proofs.Prelude.{is_percent, plain_texts_stay}
+use Rattle.setting_rules.proofs.Prelude.{ap, is_percent, list_any, plain_texts_stay, Some, sym, ◌∙◌}
 use Rattle.setting_rules.proofs.expansions.expanded.Goals as goal
 
 pub returns-then-not-contains : goal.returns-then-not-contains

@@ -1,6 +1,4 @@
-use Rattle.setting_rules.proofs.Prelude.{escape_notes_at, rows_at}
-use Rattle.setting_rules.specs.Rows.{escape_notes, rows_of}
-use Rattle.setting_rules.proofs.RowLemmas.{keys_more}
+use Rattle.setting_rules.{proofs.{Prelude.{escape_notes_at, rows_at}, RowLemmas.{keys_more}}, specs.Rows.{escape_notes, rows_of}}
 use Rattle.setting_rules.proofs.expansions.values.Goals as goal
 
 pub loop-place-init : goal.loop-place-init

@@ -1,5 +1,5 @@
-use Rattle.std.proofs.Common.{◌≡◌, take}
-use Rattle.setting_rules.proofs.Prelude.{escape_notes, rows_of}
+use Rattle.std.proofs.Common.{◌≡◌}
+use Rattle.setting_rules.proofs.Prelude.{escape_notes, rows_of, take}
 use Rattle.setting_rules.proofs.expansions.values.Given as goal
 
 abbrev pub invariant-loop-place : goal.invariant-loop-place

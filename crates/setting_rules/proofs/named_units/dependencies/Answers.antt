@@ -1,8 +1,4 @@
-use Rattle.std.proofs.Common.{◌∙◌, ap, map}
-use Rattle.std.proofs.lemmas.List.{take_all}
-use Rattle.std.specs.List.{flat_map}
-use Rattle.setting_rules.proofs.Prelude.{list_for, notes_for}
-use Rattle.setting_rules.specs.Dependencies.{lists_of, word_notes}
+use Rattle.setting_rules.{proofs.Prelude.{ap, flat_map, list_for, map, notes_for, take_all, ◌∙◌}, specs.Dependencies.{lists_of, word_notes}}
 use Rattle.setting_rules.proofs.named_units.dependencies.Goals as goal
 
 pub returns-clause-lists : goal.returns-clause-lists

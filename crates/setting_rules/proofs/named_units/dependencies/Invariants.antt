@@ -1,6 +1,5 @@
-use Rattle.std.proofs.Common.{◌≡◌, map, take}
-use Rattle.std.specs.List.{flat_map}
-use Rattle.setting_rules.proofs.Prelude.{list_for, notes_for, settable}
+use Rattle.std.proofs.Common.{◌≡◌}
+use Rattle.setting_rules.proofs.Prelude.{flat_map, list_for, map, notes_for, settable, take}
 use Rattle.setting_rules.proofs.named_units.dependencies.Given as goal
 
 abbrev pub invariant-loop-kind : goal.invariant-loop-kind

@@ -1,8 +1,4 @@
-use Rattle.std.proofs.Common.{◌∙◌, ap}
-use Rattle.std.proofs.lemmas.List.{take_all}
-use Rattle.setting_rules.proofs.Prelude.{rule_of}
-use Rattle.setting_rules.specs.Settings.{boolean_notes, keys_of}
-use Rattle.setting_rules.proofs.{Firsts.pairs, Kept.kept, Steps.map_more, Steps.notes_then, Steps.settings_whole}
+use Rattle.setting_rules.{proofs.{Firsts.{pairs}, Kept.{kept}, Prelude.{ap, rule_of, take_all, ◌∙◌}, Steps.{map_more, notes_then, settings_whole}}, specs.Settings.{boolean_notes, keys_of}}
 use Rattle.setting_rules.proofs.settings.apply.Goals as goal
 
 pub loop-index-init : goal.loop-index-init

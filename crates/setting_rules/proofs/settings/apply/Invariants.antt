@@ -1,6 +1,5 @@
-use Rattle.std.proofs.Common.{◌≡◌, take}
-use Rattle.setting_rules.proofs.Prelude.{boolean_notes, keys_of}
-use Rattle.setting_rules.proofs.{Firsts.pairs, Kept.kept}
+use Rattle.std.proofs.Common.{◌≡◌}
+use Rattle.setting_rules.proofs.{Firsts.{pairs}, Kept.{kept}, Prelude.{boolean_notes, keys_of, take}}
 use Rattle.setting_rules.proofs.settings.apply.Given as goal
 
 -- the values after the assignments so far

@@ -1,8 +1,5 @@
-use Rattle.std.proofs.Common.{◌∙◌, inl, inr, sym}
-use Rattle.setting_rules.proofs.Prelude.{resets_family}
-use Rattle.setting_rules.proofs.Starts.{start_more, start_whole}
+use Rattle.setting_rules.proofs.{Prelude.{inl, inr, resets_family, sym, ◌∙◌}, settings.family_start.Goals.{else-resets_family, then-resets_family}, Starts.{start_more, start_whole}}
 use Rattle.setting_rules.proofs.settings.family_start.Goals as goal
-use Rattle.setting_rules.proofs.settings.family_start.Goals.{then-resets_family, else-resets_family}
 
 pub loop-index-preserved : goal.loop-index-preserved
 loop-index-preserved c =

@@ -1,5 +1,5 @@
-use Rattle.std.proofs.Common.{◌≡◌, ◌≤◌, drop, take}
-use Rattle.setting_rules.proofs.Prelude.{following_last, resets_family}
+use Rattle.std.proofs.Common.{◌≡◌, ◌≤◌}
+use Rattle.setting_rules.proofs.Prelude.{drop, following_last, resets_family, take}
 use Rattle.setting_rules.proofs.settings.family_start.Given as goal
 
 abbrev pub invariant-loop-index : goal.invariant-loop-index

@@ -1,6 +1,4 @@
-use Rattle.std.proofs.Common.{◌∙◌, ap, false, unwrap_or}
-use Rattle.setting_rules.proofs.Prelude.{boolean, last_value, says_yes}
-use Rattle.setting_rules.specs.Switches.{refuses}
+use Rattle.setting_rules.{proofs.Prelude.{ap, boolean, false, last_value, says_yes, unwrap_or, ◌∙◌}, specs.Switches.{refuses}}
 use Rattle.setting_rules.proofs.switches.refuses_manual_start.Goals as goal
 
 pub returns-in-Some : goal.returns-in-Some

@@ -1,6 +1,5 @@
-use Rattle.std.proofs.Common.{◌∙◌, ◌≡◌, ap, List, None, Option, Some, sym, ℕ}
-use Rattle.setting_rules.proofs.Prelude.{expand, Name, named_by_text, plain_texts_stay}
-use Rattle.setting_rules.specs.Dependencies.{named_by}
+use Rattle.std.proofs.Common.{◌≡◌}
+use Rattle.setting_rules.{proofs.Prelude.{ap, expand, List, Name, named_by_text, None, Option, plain_texts_stay, Some, sym, ℕ, ◌∙◌}, specs.Dependencies.{named_by}}
 use Rattle.setting_rules.proofs.word_names.named_by.Goals as goal
 
 -- what a word names depends only on its expansion

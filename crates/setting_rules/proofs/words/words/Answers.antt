@@ -1,8 +1,4 @@
-use Rattle.std.proofs.Common.{rules, tests}
-use Rattle.std.proofs.lemmas.Iterator.Consumers.{map_from_collect, YieldsList-at, YieldsList-from_filter}
-use Rattle.std.proofs.lemmas.Iterator.Splits.{YieldsList-from_slice_split}
-use Rattle.setting_rules.proofs.Prelude.{has_bytes, is_white}
-use Rattle.setting_rules.specs.Words.{words_of}
+use Rattle.setting_rules.{proofs.Prelude.{has_bytes, is_white, map_from_collect, rules, tests, YieldsList-at, YieldsList-from_filter, YieldsList-from_slice_split}, specs.Words.{words_of}}
 use Rattle.setting_rules.proofs.words.words.Goals as goal
 
 pub returns : goal.returns

@@ -1,7 +1,5 @@
-use Rattle.std.proofs.Common.{◌+◌, ◌<◌, ◌≡◌, ◌≤◌, arith, get_or, length, rules, take}
-use Rattle.std.specs.List.{sum_by}
-use Rattle.shared_node.proofs.Prelude.{Agrees, SeatNow}
-use Rattle.shared_node.proofs.Auditing.{all_more, get_below, sum_all, sum_more}
+use Rattle.std.proofs.Common.{◌+◌, ◌<◌, ◌≡◌, ◌≤◌}
+use Rattle.shared_node.proofs.{Auditing.{all_more, get_below, sum_all, sum_more}, Prelude.{Agrees, arith, get_or, length, rules, SeatNow, sum_by, take}}
 use Rattle.shared_node.proofs.audit.takes_of_others.Goals as goal
 
 pub loop-seat-preserved : goal.loop-seat-preserved

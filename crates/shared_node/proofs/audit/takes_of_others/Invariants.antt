@@ -1,6 +1,5 @@
-use Rattle.std.proofs.Common.{◌+◌, ◌<◌, ◌≡◌, slice_get, Some, take, ℕ}
-use Rattle.std.specs.List.{sum_by}
-use Rattle.shared_node.proofs.Prelude.{Agrees, SeatNow, takes_in}
+use Rattle.std.proofs.Common.{◌+◌, ◌<◌, ◌≡◌}
+use Rattle.shared_node.proofs.Prelude.{Agrees, SeatNow, slice_get, Some, sum_by, take, takes_in, ℕ}
 use Rattle.shared_node.proofs.audit.takes_of_others.Given as goal
 
 abbrev pub invariant-loop-seat : goal.invariant-loop-seat

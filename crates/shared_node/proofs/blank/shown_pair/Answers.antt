@@ -1,6 +1,5 @@
-use Rattle.std.proofs.Common.{List, subst, sym}
 use mathlib.Core.List.{IsPrefix}
-use Rattle.shared_node.proofs.Prelude.{latest, prefix_self, PublishedCopy}
+use Rattle.shared_node.proofs.Prelude.{latest, List, prefix_self, PublishedCopy, subst, sym}
 use Rattle.shared_node.proofs.blank.shown_pair.Goals as goal
 
 pub publish-writer-requires-clause-goes_on : goal.publish-writer-requires-clause-goes_on

@@ -1,7 +1,5 @@
-use Rattle.std.proofs.Common.{◌∙◌, ap, List, subst, sym}
 use mathlib.Core.List.{IsPrefix}
-use Rattle.shared_node.proofs.Prelude.{HistoryEvent}
-use Rattle.shared_node.proofs.Seeing.{shows_on}
+use Rattle.shared_node.proofs.{Prelude.{ap, HistoryEvent, List, subst, sym, ◌∙◌}, Seeing.{shows_on}}
 use Rattle.shared_node.proofs.post.publish.Goals as goal
 
 pub publish_as-requires : goal.publish_as-requires

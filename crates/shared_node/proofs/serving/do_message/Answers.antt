@@ -1,6 +1,5 @@
-use Rattle.std.proofs.Common.{◌+◌, ◌∙◌, ap, sym}
-use Rattle.shared_node.proofs.Prelude.{calls_of, SeatNow, Step}
-use Rattle.shared_node.proofs.Taken.{changing_seen, ends_seen, taken_calls, taken_number, taken_seen}
+use Rattle.std.proofs.Common.{◌+◌}
+use Rattle.shared_node.proofs.{Prelude.{ap, calls_of, SeatNow, Step, sym, ◌∙◌}, Taken.{changing_seen, ends_seen, taken_calls, taken_number, taken_seen}}
 use Rattle.shared_node.proofs.serving.do_message.Goals as goal
 
 pub returns-in-Edit-clause-calls : goal.returns-in-Edit-clause-calls

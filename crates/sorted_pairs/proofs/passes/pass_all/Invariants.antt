@@ -1,6 +1,5 @@
-use Rattle.std.proofs.Common.{◌++◌, ◌+◌, ◌≡◌, ◌≤◌, vec_len}
-use Rattle.std.specs.Vec.{vec_capacity}
-use Rattle.std.specs.VecDeque.{deque_len}
+use Rattle.std.proofs.Common.{◌++◌, ◌+◌, ◌≡◌, ◌≤◌}
+use Rattle.sorted_pairs.proofs.Prelude.{deque_len, vec_capacity, vec_len}
 use Rattle.sorted_pairs.proofs.passes.pass_all.Given as goal
 
 abbrev pub invariant-loop-passed : goal.invariant-loop-passed

@@ -1,7 +1,5 @@
-use Rattle.std.proofs.Common.{◌∙◌, ◌≡◌, ap, get_or, rules, sym}
-use Rattle.std.specs.Ordering.{is_lt}
-use Rattle.std.specs.declared.cmp.Ordering.TheVariants.{Less}
-use Rattle.sorted_pairs.proofs.Prelude.{below_append, below_first, is_less}
+use Rattle.std.proofs.Common.{◌≡◌}
+use Rattle.sorted_pairs.proofs.Prelude.{ap, below_append, below_first, get_or, is_less, is_lt, Less, rules, sym, ◌∙◌}
 use Rattle.sorted_pairs.proofs.passes.pass_below.Goals as goal
 
 pub loop-pair-preserved : goal.loop-pair-preserved

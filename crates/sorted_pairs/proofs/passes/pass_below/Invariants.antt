@@ -1,7 +1,5 @@
-use Rattle.std.proofs.Common.{◌++◌, ◌+◌, ◌≡◌, ◌≤◌, vec_len}
-use Rattle.std.specs.Vec.{vec_capacity}
-use Rattle.std.specs.VecDeque.{deque_len}
-use Rattle.sorted_pairs.proofs.Prelude.{AreBelow}
+use Rattle.std.proofs.Common.{◌++◌, ◌+◌, ◌≡◌, ◌≤◌}
+use Rattle.sorted_pairs.proofs.Prelude.{AreBelow, deque_len, vec_capacity, vec_len}
 use Rattle.sorted_pairs.proofs.passes.pass_below.Given as goal
 
 abbrev pub invariant-loop-pair : goal.invariant-loop-pair

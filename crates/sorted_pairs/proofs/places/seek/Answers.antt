@@ -1,6 +1,4 @@
-use Rattle.std.proofs.Common.{◌∙◌, rules, sym}
-use Rattle.std.proofs.lemmas.Fn.{always_returns_same}
-use Rattle.sorted_pairs.proofs.Prelude.{after_last, last_has, search_finds}
+use Rattle.sorted_pairs.proofs.Prelude.{after_last, always_returns_same, last_has, rules, search_finds, sym, ◌∙◌}
 use Rattle.sorted_pairs.proofs.places.seek.Goals as goal
 
 pub returns-in-Less-clause-absent : goal.returns-in-Less-clause-absent

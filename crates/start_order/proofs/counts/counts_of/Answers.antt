@@ -1,5 +1,5 @@
-use Rattle.std.proofs.Common.{◌<◌, All, length, List, subst, sym, ℕ}
-use Rattle.start_order.proofs.Prelude.{All-neighbors}
+use Rattle.std.proofs.Common.{◌<◌}
+use Rattle.start_order.proofs.Prelude.{All, All-neighbors, length, List, subst, sym, ℕ}
 use Rattle.start_order.proofs.counts.counts_of.Goals as goal
 
 pub waiting-requires-clause-nodes : goal.waiting-requires-clause-nodes

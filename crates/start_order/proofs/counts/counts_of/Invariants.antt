@@ -1,5 +1,5 @@
-use Rattle.std.proofs.Common.{◌<◌, ◌≡◌, get_or, length, ℕ}
-use Rattle.start_order.proofs.Prelude.{neighbors, waiting_of}
+use Rattle.std.proofs.Common.{◌<◌, ◌≡◌}
+use Rattle.start_order.proofs.Prelude.{get_or, length, neighbors, waiting_of, ℕ}
 use Rattle.start_order.proofs.counts.counts_of.Given as goal
 
 abbrev pub invariant-loop-node : goal.invariant-loop-node

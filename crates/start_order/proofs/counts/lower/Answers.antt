@@ -1,9 +1,7 @@
-use Rattle.std.proofs.Common.{◌+◌, ◌-◌, ◌<◌, ◌∙◌, ◌≡◌, ◌≤◌, All, arith, Bool, false, get_or, length, List, take, true, ℕ}
-use Rattle.std.proofs.lemmas.List.{get_or_default, take_more}
-use Rattle.start_order.proofs.Prelude.{IsLowered, times, times_room}
-use Rattle.start_order.proofs.Waiting.{IsLowered-at, IsLowered-more, later_no, later_yes}
+use Rattle.std.proofs.Common.{◌+◌, ◌-◌, ◌<◌, ◌≡◌, ◌≤◌}
+use Rattle.start_order.proofs.Prelude.{All, arith, Bool, false, get_or, get_or_default, IsLowered, length, List, take, take_more, times, times_room, true, ℕ, ◌∙◌}
+use Rattle.start_order.proofs.{counts.lower.Goals.{else-chosen-other, else-chosen-other-via-else-chosen-other, else-chosen-other-via-then-chosen-other+else-count-eq0, then-chosen-other+then-count-eq0+in_ok-add}, Waiting.{IsLowered-at, IsLowered-more, later_no, later_yes}}
 use Rattle.start_order.proofs.counts.lower.Goals as goal
-use Rattle.start_order.proofs.counts.lower.Goals.{then-chosen-other+then-count-eq0+in_ok-add, else-chosen-other, else-chosen-other-via-then-chosen-other+else-count-eq0, else-chosen-other-via-else-chosen-other}
 
 unset_here : (b : Bool) → b ≡ false → ¬ (b ≡ true)
 unset_here b e f = cc

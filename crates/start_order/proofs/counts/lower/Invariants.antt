@@ -1,5 +1,4 @@
-use Rattle.std.proofs.Common.{take}
-use Rattle.start_order.proofs.Prelude.{IsLowered}
+use Rattle.start_order.proofs.Prelude.{IsLowered, take}
 use Rattle.start_order.proofs.counts.lower.Given as goal
 
 abbrev pub invariant-loop-other : goal.invariant-loop-other

@@ -1,7 +1,6 @@
-use Rattle.std.proofs.Common.{arith}
-use Rattle.start_order.proofs.Waiting.{both_hold, first_fails, second_fails, waiting_no, waiting_yes}
+use Rattle.start_order.proofs.Prelude.{arith}
+use Rattle.start_order.proofs.{counts.waiting.Goals.{else-chosen-other, else-chosen-other-via-else-chosen-other, else-chosen-other-via-then-chosen-other+else-not-standing-other, then-chosen-other+then-not-standing-other}, Waiting.{both_hold, first_fails, second_fails, waiting_no, waiting_yes}}
 use Rattle.start_order.proofs.counts.waiting.Goals as goal
-use Rattle.start_order.proofs.counts.waiting.Goals.{then-chosen-other+then-not-standing-other, else-chosen-other, else-chosen-other-via-then-chosen-other+else-not-standing-other, else-chosen-other-via-else-chosen-other}
 
 pub loop-other-preserved : goal.loop-other-preserved
 loop-other-preserved c =

@@ -1,5 +1,5 @@
-use Rattle.std.proofs.Common.{◌≡◌, ◌≤◌, take}
-use Rattle.start_order.proofs.Prelude.{waiting_of}
+use Rattle.std.proofs.Common.{◌≡◌, ◌≤◌}
+use Rattle.start_order.proofs.Prelude.{take, waiting_of}
 use Rattle.start_order.proofs.counts.waiting.Given as goal
 
 abbrev pub invariant-loop-other : goal.invariant-loop-other

@@ -1,6 +1,5 @@
-use Rattle.std.proofs.Common.{◌<◌, All, IsSome, length, List, MatchOption, None, Option, refl, Some, subst, sym, ℕ}
-use Rattle.std.specs.Ordering.{nat_cmp}
-use Rattle.start_order.proofs.Prelude.{All-neighbors, IsAmong, IsLeast, IsMember, least_along, neighbors, Precedes}
+use Rattle.std.proofs.Common.{◌<◌}
+use Rattle.start_order.proofs.Prelude.{All, All-neighbors, IsAmong, IsLeast, IsMember, IsSome, least_along, length, List, MatchOption, nat_cmp, neighbors, None, Option, Precedes, refl, Some, subst, sym, ℕ}
 use Rattle.start_order.proofs.cycles.blocker.Goals as goal
 
 pub least_member-requires : goal.least_member-requires

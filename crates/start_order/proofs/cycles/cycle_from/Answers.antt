@@ -1,7 +1,5 @@
-use Rattle.std.proofs.Common.{◌<◌, ◌∙◌, ◌≡◌, ◌≤◌, ap, drop, get_or, length, List, reverse, subst, sym, ℕ}
-use Rattle.std.specs.Ordering.{nat_cmp}
-use Rattle.start_order.proofs.Prelude.{IsCycle, IsMember, Precedes}
-use Rattle.start_order.proofs.Rings.{cycle_of_walk}
+use Rattle.std.proofs.Common.{◌<◌, ◌≡◌, ◌≤◌}
+use Rattle.start_order.proofs.{Prelude.{ap, drop, get_or, IsCycle, IsMember, length, List, nat_cmp, Precedes, reverse, subst, sym, ℕ, ◌∙◌}, Rings.{cycle_of_walk}}
 use Rattle.start_order.proofs.cycles.cycle_from.Goals as goal
 
 pub returns : goal.returns

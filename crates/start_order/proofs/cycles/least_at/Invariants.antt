@@ -1,4 +1,5 @@
-use Rattle.std.proofs.Common.{◌<◌, ◌≤◌, get_or, length, ℕ}
+use Rattle.std.proofs.Common.{◌<◌, ◌≤◌}
+use Rattle.start_order.proofs.Prelude.{get_or, length, ℕ}
 use Rattle.start_order.proofs.cycles.least_at.Given as goal
 
 abbrev pub invariant-loop-i : goal.invariant-loop-i

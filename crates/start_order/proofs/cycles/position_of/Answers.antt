@@ -1,6 +1,4 @@
-use Rattle.std.proofs.Common.{◌∙◌, arith}
-use Rattle.std.proofs.lemmas.List.{get_or_default}
-use Rattle.start_order.proofs.Prelude.{contains_from_among}
+use Rattle.start_order.proofs.Prelude.{arith, contains_from_among, get_or_default, ◌∙◌}
 use Rattle.start_order.proofs.cycles.position_of.Goals as goal
 
 pub returns : goal.returns

@@ -1,4 +1,5 @@
-use Rattle.std.proofs.Common.{◌<◌, ◌≡◌, get_or, ℕ}
+use Rattle.std.proofs.Common.{◌<◌, ◌≡◌}
+use Rattle.start_order.proofs.Prelude.{get_or, ℕ}
 use Rattle.start_order.proofs.cycles.position_of.Given as goal
 
 abbrev pub invariant-loop-i : goal.invariant-loop-i

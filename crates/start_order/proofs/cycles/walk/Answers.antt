@@ -1,5 +1,5 @@
-use Rattle.std.proofs.Common.{[], ◌++◌, ◌<◌, ◌↔◌, ◌∙◌, ◌∷◌, ◌≡◌, arith, length, length-set, List, set, subst, sym, true, ℕ}
-use Rattle.start_order.proofs.Prelude.{IsAmong, IsMember, IsMember-within, IsWalk, member_read, non_members_read, Precedes, unset-set}
+use Rattle.std.proofs.Common.{◌++◌, ◌<◌, ◌↔◌, ◌∷◌, ◌≡◌}
+use Rattle.start_order.proofs.Prelude.{[], arith, IsAmong, IsMember, IsMember-within, IsWalk, length, length-set, List, member_read, non_members_read, Precedes, set, subst, sym, true, unset-set, ℕ, ◌∙◌}
 use Rattle.start_order.proofs.Rings.{agree_push, IsWalk-more}
 use Rattle.start_order.proofs.cycles.walk.Goals as goal
 

@@ -1,5 +1,5 @@
-use Rattle.std.proofs.Common.{◌↔◌, ◌≡◌, length, ℕ}
-use Rattle.start_order.proofs.Prelude.{IsAmong, IsMember, IsWalk, Precedes, unset}
+use Rattle.std.proofs.Common.{◌↔◌, ◌≡◌}
+use Rattle.start_order.proofs.Prelude.{IsAmong, IsMember, IsWalk, length, Precedes, unset, ℕ}
 use Rattle.start_order.proofs.cycles.walk.Given as goal
 
 abbrev pub invariant-loop-met : goal.invariant-loop-met

@@ -1,6 +1,4 @@
-use Rattle.std.proofs.Common.{subst}
-use Rattle.start_order.proofs.Prelude.{IsLeastIn}
-use Rattle.start_order.proofs.{Frees.all_left, Frees.below_least, Frees.none_left_out, Frees.popped, Keys.pop_least, Keys.pop_rest}
+use Rattle.start_order.proofs.{Frees.{all_left, below_least, none_left_out, popped}, Keys.{pop_least, pop_rest}, Prelude.{IsLeastIn, subst}}
 use Rattle.start_order.proofs.free.drop_first.Goals as goal
 
 pub returns-then-first-node : goal.returns-then-first-node

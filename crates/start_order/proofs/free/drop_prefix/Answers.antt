@@ -1,6 +1,4 @@
-use Rattle.std.proofs.Common.{subst}
-use Rattle.start_order.proofs.Prelude.{IsLeastIn}
-use Rattle.start_order.proofs.Frees.{all_left, below_least, none_left_out, rest_ascends, rest_left}
+use Rattle.start_order.proofs.{Frees.{all_left, below_least, none_left_out, rest_ascends, rest_left}, Prelude.{IsLeastIn, subst}}
 use Rattle.start_order.proofs.free.drop_prefix.Goals as goal
 
 pub returns-then-prefix-node-clause-ascending : goal.returns-then-prefix-node-clause-ascending

@@ -1,5 +1,4 @@
-use Rattle.std.proofs.Common.{arith, refl}
-use Rattle.start_order.proofs.Frees.{prefix_least}
+use Rattle.start_order.proofs.{Frees.{prefix_least}, Prelude.{arith, refl}}
 use Rattle.start_order.proofs.free.prefix_of.Goals as goal
 
 pub returns-in-Some : goal.returns-in-Some

@@ -1,5 +1,5 @@
-use Rattle.std.proofs.Common.{◌<◌, ◌↔◌, ◌≡◌, get_or, length, ℕ}
-use Rattle.start_order.proofs.Prelude.{IsMember}
+use Rattle.std.proofs.Common.{◌<◌, ◌↔◌, ◌≡◌}
+use Rattle.start_order.proofs.Prelude.{get_or, IsMember, length, ℕ}
 use Rattle.start_order.proofs.free.ready.Given as goal
 
 abbrev pub invariant-loop-node : goal.invariant-loop-node

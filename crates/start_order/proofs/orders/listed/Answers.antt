@@ -1,5 +1,5 @@
-use Rattle.std.proofs.Common.{[], ◌++◌, ◌<◌, ◌↔◌, ◌∷◌, ◌≡◌, ◌≤◌, All, arith, Bool, get_or, length, List, set, subst, sym, true, ℕ}
-use Rattle.start_order.proofs.Prelude.{All-neighbors, IsAmong, IsMember, neighbors_of, times, unset-set}
+use Rattle.std.proofs.Common.{◌++◌, ◌<◌, ◌↔◌, ◌∷◌, ◌≡◌, ◌≤◌}
+use Rattle.start_order.proofs.Prelude.{[], All, All-neighbors, arith, Bool, get_or, IsAmong, IsMember, length, List, neighbors_of, set, subst, sym, times, true, unset-set, ℕ}
 use Rattle.start_order.proofs.States.{done, enough_of, IsState, IsState-begin, non_members_of, step, within_of}
 use Rattle.start_order.proofs.orders.listed.Goals as goal
 

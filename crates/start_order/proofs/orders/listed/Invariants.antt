@@ -1,5 +1,4 @@
-use Rattle.start_order.proofs.Prelude.{unset}
-use Rattle.start_order.proofs.States.{IsState}
+use Rattle.start_order.proofs.{Prelude.{unset}, States.{IsState}}
 use Rattle.start_order.proofs.orders.listed.Given as goal
 
 abbrev pub invariant-loop-node : goal.invariant-loop-node

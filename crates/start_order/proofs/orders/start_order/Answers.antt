@@ -1,6 +1,4 @@
-use Rattle.std.specs.Ordering.{nat_cmp}
-use Rattle.start_order.proofs.Prelude.{cycle_along, IsMember, IsStuck, Precedes}
-use Rattle.start_order.proofs.Left.{left_blocked, left_is, left_stuck, none_left, stuck_left}
+use Rattle.start_order.proofs.{Left.{left_blocked, left_is, left_stuck, none_left, stuck_left}, Prelude.{cycle_along, IsMember, IsStuck, nat_cmp, Precedes}}
 use Rattle.start_order.proofs.orders.start_order.Goals as goal
 
 pub cycle_from-requires-clause-blocked : goal.cycle_from-requires-clause-blocked

@@ -1,10 +1,6 @@
-use Rattle.std.proofs.Common.{[], ◌++◌, ◌+◌, ◌∙◌, ◌∷◌, ◌≡◌, ap, arith, Bool, length, length-set, set, sym, take, true}
-use Rattle.std.proofs.lemmas.List.{take_more}
-use Rattle.std.specs.declared.alloc.Global.{Global}
-use Rattle.std.specs.declared.vec.Vec.{Vec}
-use Rattle.start_plan.proofs.BitSets.{name_member, name_passed}
+use Rattle.std.proofs.Common.{◌++◌, ◌+◌, ◌∷◌, ◌≡◌}
+use Rattle.start_plan.proofs.{bits.named_bits.Goals.{in-Some, in_default}, BitSets.{name_member, name_passed}, Prelude.{[], ap, arith, Bool, Global, length, length-set, set, sym, take, take_more, true, Vec, ◌∙◌}}
 use Rattle.start_plan.proofs.bits.named_bits.Goals as goal
-use Rattle.start_plan.proofs.bits.named_bits.Goals.{in-Some, in_default}
 
 pub loop-name-preserved : goal.loop-name-preserved
 loop-name-preserved c =

@@ -1,5 +1,5 @@
-use Rattle.std.proofs.Common.{◌↔◌, ◌≡◌, length, take, ℕ}
-use Rattle.start_plan.proofs.Prelude.{count_of, IsAmong, IsIndexFor, IsMember, Name}
+use Rattle.std.proofs.Common.{◌↔◌, ◌≡◌}
+use Rattle.start_plan.proofs.Prelude.{count_of, IsAmong, IsIndexFor, IsMember, length, Name, take, ℕ}
 use Rattle.start_plan.proofs.bits.named_bits.Given as goal
 
 abbrev pub invariant-loop-name : goal.invariant-loop-name

@@ -1,6 +1,5 @@
-use Rattle.std.proofs.Common.{◌∙◌, ◌≡◌, ap, Bool, sym, ℕ}
-use Rattle.start_plan.proofs.Prelude.{is_loaded, is_manual, made_more, name_at, unit_in}
-use Rattle.start_plan.proofs.BitSets.{part_at}
+use Rattle.std.proofs.Common.{◌≡◌}
+use Rattle.start_plan.proofs.{BitSets.{part_at}, Prelude.{ap, Bool, is_loaded, is_manual, made_more, name_at, sym, unit_in, ℕ, ◌∙◌}}
 use Rattle.start_plan.proofs.bits.status_bits.Goals as goal
 
 pub loop-index-preserved : goal.loop-index-preserved

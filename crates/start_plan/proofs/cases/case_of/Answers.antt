@@ -1,8 +1,6 @@
-use Rattle.std.proofs.Common.{[], ◌<◌, ◌↔◌, ◌∙◌, ◌∷◌, ◌≡◌, ap, false, length, List, MatchOption, Option, refl, subst, sym, ℕ}
-use Rattle.std.specs.declared.alloc.Global.{Global}
-use Rattle.std.specs.declared.vec.Vec.{Vec}
-use Rattle.start_plan.proofs.Prelude.{After, AreAdjacencyOf, AreBitsBy, AreSuccessorsOf, Conflicts, count_of, is_loaded, is_manual, IsAmong, IsIndexFor, IsKnown, IsMember, LoadMap, main_of, Name, name_at, needing, neighbors, neighbors-start, opposite_is, Requisite, successors-start, successors_from, transposed_from, tying, unit_in, Wants}
-use Rattle.start_plan.proofs.{BitSets.bits_named, Casing.edge_successors, Casing.main_is, Casing.opposite_successors, Casing.running_known, Casing.running_named}
+use Rattle.std.proofs.Common.{◌<◌, ◌↔◌, ◌∷◌, ◌≡◌}
+use Rattle.start_plan.proofs.Prelude.{[], After, ap, AreAdjacencyOf, AreBitsBy, AreSuccessorsOf, Conflicts, count_of, false, Global, is_loaded, is_manual, IsAmong, IsIndexFor, IsKnown, IsMember, length, List, LoadMap, main_of, MatchOption, Name, name_at, needing, neighbors, neighbors-start, opposite_is, Option, refl, Requisite, subst, successors-start, successors_from, sym, transposed_from, tying, unit_in, Vec, Wants, ℕ, ◌∙◌}
+use Rattle.start_plan.proofs.{BitSets.{bits_named}, Casing.{edge_successors, main_is, opposite_successors, running_known, running_named}}
 use Rattle.start_plan.proofs.cases.case_of.Goals as goal
 
 pub returns-clause-case : goal.returns-clause-case

@@ -1,7 +1,5 @@
-use Rattle.std.proofs.Common.{[], ◌++◌, ◌+◌, ◌∙◌, ◌∷◌, ◌≡◌, ap, false, inl, inr, List, refl, subst, sym, take, true}
-use Rattle.std.proofs.lemmas.List.{take_more}
-use Rattle.std.proofs.lemmas.List.Elements.{Contains-get_or}
-use Rattle.start_plan.proofs.Prelude.{among_from_contains, IsAmong, IsAmong-push_cases, Name, shape}
+use Rattle.std.proofs.Common.{◌++◌, ◌+◌, ◌∷◌, ◌≡◌}
+use Rattle.start_plan.proofs.Prelude.{[], among_from_contains, ap, Contains-get_or, false, inl, inr, IsAmong, IsAmong-push_cases, List, Name, refl, shape, subst, sym, take, take_more, true, ◌∙◌}
 use Rattle.start_plan.proofs.checks.has_template.Goals as goal
 
 pub returns-then-is_template : goal.returns-then-is_template

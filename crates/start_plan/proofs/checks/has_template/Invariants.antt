@@ -1,5 +1,4 @@
-use Rattle.std.proofs.Common.{take}
-use Rattle.start_plan.proofs.Prelude.{HasTemplate}
+use Rattle.start_plan.proofs.Prelude.{HasTemplate, take}
 use Rattle.start_plan.proofs.checks.has_template.Given as goal
 
 abbrev pub invariant-loop-name : goal.invariant-loop-name

@@ -1,8 +1,5 @@
-use Rattle.std.proofs.Common.{◌∙◌, ◌≡◌, ap, arith, false, length, Some, sym, true}
-use Rattle.std.proofs.lemmas.Option.{none-some}
-use Rattle.std.specs.Option.{option_map}
-use Rattle.start_plan.proofs.Prelude.{has_fragment, is_loaded, unit_part}
-use Rattle.start_plan.proofs.BitSets.{part_at}
+use Rattle.std.proofs.Common.{◌≡◌}
+use Rattle.start_plan.proofs.{BitSets.{part_at}, Prelude.{ap, arith, false, has_fragment, is_loaded, length, none-some, option_map, Some, sym, true, unit_part, ◌∙◌}}
 use Rattle.start_plan.proofs.names.fault.Goals as goal
 
 pub unreachable-requires : goal.unreachable-requires

@@ -1,7 +1,4 @@
-use Rattle.std.proofs.Common.{Err, IfErr, IfOk, Ok, Result, ℕ}
-use Rattle.std.specs.Ordering.{nat_cmp}
-use Rattle.std.specs.declared.alloc.AllocError.{AllocError}
-use Rattle.start_plan.proofs.Prelude.{Case, case_of, case_of_indexed, count_of, EdgeMap, IndexedPlan, IndexedRefusal, IsIndexedPlan, IsIndexedRefusal, IsNamedCase, IsPlan, IsRefusal, LoadMap, name_at, refusal_of, Request}
+use Rattle.start_plan.proofs.Prelude.{AllocError, Case, case_of, case_of_indexed, count_of, EdgeMap, Err, IfErr, IfOk, IndexedPlan, IndexedRefusal, IsIndexedPlan, IsIndexedRefusal, IsNamedCase, IsPlan, IsRefusal, LoadMap, name_at, nat_cmp, Ok, refusal_of, Request, Result, ℕ}
 use Rattle.start_plan.proofs.planning.indexed_answer.Goals as goal
 
 module _ (load : LoadMap) (edges : EdgeMap) (request : Request) (case : Case ℕ)

@@ -1,7 +1,6 @@
-use Rattle.std.proofs.Common.{◌<◌, ◌∙◌, ◌≡◌, All, ap, IfErr, IfOk, List, map, Result, subst, sym, ℕ}
-use Rattle.std.specs.Cmp.Lexicographic.{nat_list_cmp_total}
-use Rattle.start_plan.proofs.Prelude.{case_of, count_of, IndexedPlan, IndexedRefusal, IsIndexedPlan, IsIndexedRefusal, IsPlan, IsReturnable, IsReturnedBy, LoadMap, Name, name_at, name_cmp, plan_named, refusal_of}
-use Rattle.start_plan.proofs.{Answering.returnable, Answering.returned, Answering.starts_below, Answering.stops_below, Casing.target_known}
+use Rattle.std.proofs.Common.{◌<◌, ◌≡◌}
+use Rattle.start_plan.proofs.Prelude.{All, ap, case_of, count_of, IfErr, IfOk, IndexedPlan, IndexedRefusal, IsIndexedPlan, IsIndexedRefusal, IsPlan, IsReturnable, IsReturnedBy, List, LoadMap, map, Name, name_at, name_cmp, nat_list_cmp_total, plan_named, refusal_of, Result, subst, sym, ℕ, ◌∙◌}
+use Rattle.start_plan.proofs.{Answering.{returnable, returned, starts_below, stops_below}, Casing.{target_known}}
 use Rattle.start_plan.proofs.planning.named_answer.Goals as goal
 
 pub named_plan-requires : goal.named_plan-requires

@@ -1,5 +1,5 @@
-use Rattle.std.proofs.Common.{◌≡◌, map, take}
-use Rattle.unit_graph.proofs.Prelude.{name_at}
+use Rattle.std.proofs.Common.{◌≡◌}
+use Rattle.unit_graph.proofs.Prelude.{map, name_at, take}
 use Rattle.unit_graph.proofs.reaches.named_distances.Given as goal
 
 abbrev pub invariant-loop-pair : goal.invariant-loop-pair

@@ -1,6 +1,4 @@
-use Rattle.std.proofs.Common.{[]}
-use Rattle.unit_loads.proofs.Prelude.{link_notes, linked_by}
-use Rattle.unit_loads.proofs.Steps.{link_notes-append, linked_by-append, made_more}
+use Rattle.unit_loads.proofs.{Prelude.{[], link_notes, linked_by}, Steps.{link_notes-append, linked_by-append, made_more}}
 use Rattle.unit_loads.proofs.dependencies.add_links.Goals as goal
 
 pub loop-link-preserved : goal.loop-link-preserved

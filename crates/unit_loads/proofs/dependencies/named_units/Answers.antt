@@ -1,5 +1,5 @@
-use Rattle.std.proofs.Common.{◌∙◌, ◌≡◌, arith}
-use Rattle.unit_loads.proofs.Linked.{list_count, lists_linked_at}
+use Rattle.std.proofs.Common.{◌≡◌}
+use Rattle.unit_loads.proofs.{Linked.{list_count, lists_linked_at}, Prelude.{arith, ◌∙◌}}
 use Rattle.unit_loads.proofs.dependencies.named_units.Goals as goal
 
 pub index_mut-requires : goal.index_mut-requires

@@ -1,5 +1,5 @@
-use Rattle.std.proofs.Common.{◌++◌, ◌≡◌, map}
-use Rattle.unit_loads.proofs.Prelude.{Setting}
+use Rattle.std.proofs.Common.{◌++◌, ◌≡◌}
+use Rattle.unit_loads.proofs.Prelude.{map, Setting}
 use Rattle.unit_loads.proofs.effective.add_setting_notes.Given as goal
 
 abbrev pub invariant-loop-note : goal.invariant-loop-note

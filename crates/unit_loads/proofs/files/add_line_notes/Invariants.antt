@@ -1,5 +1,5 @@
-use Rattle.std.proofs.Common.{◌++◌, ◌≡◌, map, take}
-use Rattle.unit_loads.proofs.Prelude.{File}
+use Rattle.std.proofs.Common.{◌++◌, ◌≡◌}
+use Rattle.unit_loads.proofs.Prelude.{File, map, take}
 use Rattle.unit_loads.proofs.files.add_line_notes.Given as goal
 
 abbrev pub invariant-loop-line : goal.invariant-loop-line

@@ -1,6 +1,4 @@
-use Rattle.std.proofs.Common.{[], ◌∙◌, ap, map}
-use Rattle.std.proofs.lemmas.List.{take_all}
-use Rattle.unit_loads.proofs.Prelude.{DependencyList, DepKind}
+use Rattle.unit_loads.proofs.Prelude.{[], ap, DependencyList, DepKind, map, take_all, ◌∙◌}
 use Rattle.unit_loads.proofs.loads.lists_without_names.Goals as goal
 
 pub returns : goal.returns

@@ -1,5 +1,5 @@
-use Rattle.std.proofs.Common.{[], ◌≡◌, map, take}
-use Rattle.unit_loads.proofs.Prelude.{settable}
+use Rattle.std.proofs.Common.{◌≡◌}
+use Rattle.unit_loads.proofs.Prelude.{[], map, settable, take}
 use Rattle.unit_loads.proofs.loads.lists_without_names.Given as goal
 
 abbrev pub invariant-loop-kind : goal.invariant-loop-kind

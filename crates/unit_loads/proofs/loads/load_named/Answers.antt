@@ -1,5 +1,4 @@
-use Rattle.std.proofs.Common.{◌∙◌, ap, subst}
-use Rattle.unit_loads.proofs.Prelude.{IsEnd, no_alias_stands, Resolution}
+use Rattle.unit_loads.proofs.Prelude.{ap, IsEnd, no_alias_stands, Resolution, subst, ◌∙◌}
 use Rattle.unit_loads.proofs.loads.load_named.Goals as goal
 
 -- the choice of a resolved name is no alias

@@ -1,5 +1,4 @@
-use Rattle.std.proofs.Common.{◌∙◌, ap, sym}
-use Rattle.unit_loads.proofs.Prelude.{mains_are_their_own, Resolution, resolution}
+use Rattle.unit_loads.proofs.Prelude.{ap, mains_are_their_own, Resolution, resolution, sym, ◌∙◌}
 use Rattle.unit_loads.proofs.loads.load_one.Goals as goal
 
 -- a main name is its own main name, with the same choice

@@ -1,8 +1,5 @@
-use Rattle.std.proofs.Common.{arith}
-use Rattle.std.proofs.lemmas.Grind.{common_steps}
-use Rattle.unit_name.specs.Escapes.{escape}
+use Rattle.unit_name.{proofs.{escapes.escape.Goals.{in-Some+in_ok-push_first+else-loop-byte-test, in_default}, Prelude.{arith, common_steps}}, specs.Escapes.{escape}}
 use Rattle.unit_name.proofs.escapes.escape.Goals as goal
-use Rattle.unit_name.proofs.escapes.escape.Goals.{in-Some+in_ok-push_first+else-loop-byte-test, in_default}
 
 pub returns : goal.returns
 unfolding escape

@@ -1,6 +1,5 @@
-use Rattle.std.proofs.Common.{◌++◌, ◌≡◌, take}
-use Rattle.std.specs.List.{flat_map}
-use Rattle.unit_name.proofs.Prelude.{escaped_byte}
+use Rattle.std.proofs.Common.{◌++◌, ◌≡◌}
+use Rattle.unit_name.proofs.Prelude.{escaped_byte, flat_map, take}
 use Rattle.unit_name.proofs.escapes.escape.Given as goal
 
 abbrev pub invariant-loop-byte : goal.invariant-loop-byte

@@ -1,6 +1,5 @@
-use Rattle.std.proofs.Common.{◌∙◌, ◌∷◌, ap, refl}
-use Rattle.std.proofs.lemmas.Bool.{cond-false, ne_eqb}
-use Rattle.unit_name.proofs.Prelude.{put_first, unescape, unescape-byte}
+use Rattle.std.proofs.Common.{◌∷◌}
+use Rattle.unit_name.proofs.Prelude.{ap, cond-false, ne_eqb, put_first, refl, unescape, unescape-byte, ◌∙◌}
 use Rattle.unit_name.proofs.escapes.first_unescaped.Goals as goal
 
 pub returns-then-byte-eq45-clause-first : goal.returns-then-byte-eq45-clause-first

@@ -1,8 +1,5 @@
-use Rattle.std.proofs.Common.{◌++◌, ◌∙◌, ap, eqb-true, List, sym, ℕ}
-use Rattle.std.proofs.lemmas.List.{nil_from_length}
-use Rattle.std.specs.Option.{option_map}
-use Rattle.unit_name.proofs.Prelude.{unescape, unescape-nil}
-use Rattle.unit_name.proofs.Steps.{all_there}
+use Rattle.std.proofs.Common.{◌++◌}
+use Rattle.unit_name.proofs.{Prelude.{ap, eqb-true, List, nil_from_length, option_map, sym, unescape, unescape-nil, ℕ, ◌∙◌}, Steps.{all_there}}
 use Rattle.unit_name.proofs.escapes.push_unescaped.Goals as goal
 
 pub returns : goal.returns

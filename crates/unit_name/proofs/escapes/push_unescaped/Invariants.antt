@@ -1,6 +1,5 @@
-use Rattle.std.proofs.Common.{◌++◌, ◌≡◌, length, List, ℕ}
-use Rattle.std.specs.Option.{option_map}
-use Rattle.unit_name.proofs.Prelude.{unescape}
+use Rattle.std.proofs.Common.{◌++◌, ◌≡◌}
+use Rattle.unit_name.proofs.Prelude.{length, List, option_map, unescape, ℕ}
 use Rattle.unit_name.proofs.escapes.push_unescaped.Given as goal
 
 -- what was appended, followed by what the rest spells, is the old output followed by everything that the text spells

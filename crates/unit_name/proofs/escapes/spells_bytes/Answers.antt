@@ -1,6 +1,4 @@
-use Rattle.std.proofs.Common.{◌∙◌, ap, eqb-true, is_some, sym}
-use Rattle.std.proofs.lemmas.List.{nil_from_length}
-use Rattle.unit_name.proofs.Prelude.{unescape, unescape-nil}
+use Rattle.unit_name.proofs.Prelude.{ap, eqb-true, is_some, nil_from_length, sym, unescape, unescape-nil, ◌∙◌}
 use Rattle.unit_name.proofs.escapes.spells_bytes.Goals as goal
 
 pub returns : goal.returns

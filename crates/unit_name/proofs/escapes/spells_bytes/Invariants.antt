@@ -1,5 +1,5 @@
-use Rattle.std.proofs.Common.{◌≡◌, is_some, length}
-use Rattle.unit_name.proofs.Prelude.{unescape}
+use Rattle.std.proofs.Common.{◌≡◌}
+use Rattle.unit_name.proofs.Prelude.{is_some, length, unescape}
 use Rattle.unit_name.proofs.escapes.spells_bytes.Given as goal
 
 -- the rest is valid exactly if the whole text is

@@ -1,6 +1,4 @@
-use Rattle.std.proofs.Common.{◌∙◌, ap, length, unwrap_or}
-use Rattle.unit_name.proofs.Prelude.{is_at}
-use Rattle.unit_name.proofs.Steps.{unwrap_or-position}
+use Rattle.unit_name.proofs.{Prelude.{ap, is_at, length, unwrap_or, ◌∙◌}, Steps.{unwrap_or-position}}
 use Rattle.unit_name.proofs.parts.first_at.Goals as goal
 
 pub returns : goal.returns

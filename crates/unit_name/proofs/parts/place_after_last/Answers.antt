@@ -1,6 +1,5 @@
-use Rattle.std.proofs.Common.{◌-◌, ◌<◌, ◌==◌, ◌∙◌, ◌≡◌, ◌≤◌, ap, arith, eq-eqb, false, get_or, length, List, not, sym, true, ℕ}
-use Rattle.std.proofs.lemmas.List.Sums.{suffix_len_is}
-use Rattle.std.specs.List.{suffix_len}
+use Rattle.std.proofs.Common.{◌-◌, ◌<◌, ◌==◌, ◌≡◌, ◌≤◌}
+use Rattle.unit_name.proofs.Prelude.{ap, arith, eq-eqb, false, get_or, length, List, not, suffix_len, suffix_len_is, sym, true, ℕ, ◌∙◌}
 use Rattle.unit_name.proofs.parts.place_after_last.Goals as goal
 
 -- the end, if no byte from there on is the mark and the one before is

@@ -1,4 +1,5 @@
-use Rattle.std.proofs.Common.{◌<◌, ◌==◌, ◌≡◌, ◌≤◌, false, get_or, length, ℕ}
+use Rattle.std.proofs.Common.{◌<◌, ◌==◌, ◌≡◌, ◌≤◌}
+use Rattle.unit_name.proofs.Prelude.{false, get_or, length, ℕ}
 use Rattle.unit_name.proofs.parts.place_after_last.Given as goal
 
 -- no byte from the end on is the mark

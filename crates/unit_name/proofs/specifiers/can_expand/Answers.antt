@@ -1,7 +1,5 @@
-use Rattle.std.proofs.Common.{[], ◌∙◌, ◌∷◌, ap, is_some, refl, Some, sym}
-use Rattle.std.proofs.lemmas.List.{nil_from_length}
-use Rattle.unit_name.proofs.Prelude.{expand, expand-last, expand-nil, specifier}
-use Rattle.unit_name.proofs.Steps.{byte_expands, is_some-put_before, is_some-put_nothing, pair_expands}
+use Rattle.std.proofs.Common.{◌∷◌}
+use Rattle.unit_name.proofs.{Prelude.{[], ap, expand, expand-last, expand-nil, is_some, nil_from_length, refl, Some, specifier, sym, ◌∙◌}, Steps.{byte_expands, is_some-put_before, is_some-put_nothing, pair_expands}}
 use Rattle.unit_name.proofs.specifiers.can_expand.Goals as goal
 
 pub returns-in_default-split_first : goal.returns-in_default-split_first

@@ -1,5 +1,5 @@
-use Rattle.std.proofs.Common.{◌≡◌, is_some, length}
-use Rattle.unit_name.proofs.Prelude.{expand}
+use Rattle.std.proofs.Common.{◌≡◌}
+use Rattle.unit_name.proofs.Prelude.{expand, is_some, length}
 use Rattle.unit_name.proofs.specifiers.can_expand.Given as goal
 
 -- the rest can be expanded exactly if the whole value can

@@ -1,10 +1,7 @@
-use Rattle.std.proofs.Common.{[], ◌++◌, ◌∙◌, ◌∷◌, ◌≡◌, ap, append-nil, List, Some, sym, ℕ}
-use Rattle.std.proofs.lemmas.List.{nil_from_length}
-use Rattle.std.specs.Option.{option_map}
-use Rattle.unit_name.proofs.Prelude.{expand, expand-nil, put_before, specifier}
-use Rattle.unit_name.proofs.Steps.{byte_expands, last_expands, pair_expands, pushed_before, some_first}
+use Rattle.std.proofs.Common.{◌++◌, ◌∷◌, ◌≡◌}
+use Rattle.unit_name.proofs.Prelude.{[], ap, append-nil, expand, expand-nil, List, nil_from_length, option_map, put_before, Some, specifier, sym, ℕ, ◌∙◌}
+use Rattle.unit_name.proofs.{specifiers.expanded.Goals.{in_default-split_first-via-in-Some-split_first+else-byte-eq37, in_default-split_first-via-in_default-split_first}, Steps.{byte_expands, last_expands, pair_expands, pushed_before, some_first}}
 use Rattle.unit_name.proofs.specifiers.expanded.Goals as goal
-use Rattle.unit_name.proofs.specifiers.expanded.Goals.{in_default-split_first-via-in-Some-split_first+else-byte-eq37, in_default-split_first-via-in_default-split_first}
 
 pub push_specifier-requires : goal.push_specifier-requires
 push_specifier-requires c =

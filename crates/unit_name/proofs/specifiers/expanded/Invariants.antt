@@ -1,6 +1,5 @@
-use Rattle.std.proofs.Common.{◌++◌, ◌≡◌, length, List, ℕ}
-use Rattle.std.specs.Option.{option_map}
-use Rattle.unit_name.proofs.Prelude.{expand}
+use Rattle.std.proofs.Common.{◌++◌, ◌≡◌}
+use Rattle.unit_name.proofs.Prelude.{expand, length, List, option_map, ℕ}
 use Rattle.unit_name.proofs.specifiers.expanded.Given as goal
 
 -- what was written, followed by the expansion of the rest, is the expansion of the whole value

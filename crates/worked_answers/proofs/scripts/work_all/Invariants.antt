@@ -1,4 +1,4 @@
-use Rattle.std.proofs.Common.{length}
+use Rattle.worked_answers.proofs.Prelude.{length}
 use Rattle.worked_answers.proofs.scripts.work_all.Given as goal
 
 abbrev pub decreases-loop-rest : goal.decreases-loop-rest

@@ -1,9 +1,5 @@
-use Rattle.std.proofs.Common.{◌+◌, ◌-◌, ◌/◌, ◌<◌, ◌∙◌, ◌∷◌, ◌≡◌, ◌≤◌, ap, arith, length, rules, subst, sym}
-use Rattle.std.proofs.Math.Nat.{div-le_self}
-use Rattle.std.proofs.lemmas.List.{length-drop, length-take-le}
-use Rattle.std.proofs.lemmas.List.Elements.{All-cons}
-use Rattle.std.specs.List.{range_with_len}
-use Rattle.worker_rounds.proofs.Prelude.{Chunk}
+use Rattle.std.proofs.Common.{◌+◌, ◌-◌, ◌/◌, ◌<◌, ◌∷◌, ◌≡◌, ◌≤◌}
+use Rattle.worker_rounds.proofs.Prelude.{All-cons, ap, arith, Chunk, div-le_self, length, length-drop, length-take-le, range_with_len, rules, subst, sym, ◌∙◌}
 use Rattle.worker_rounds.proofs.Cutting.{all_in_last, enough_left, number_more, some_in_chunk, whole_more}
 use Rattle.worker_rounds.proofs.chunks.cut.Goals as goal
 

@@ -1,5 +1,5 @@
-use Rattle.std.proofs.Common.{◌++◌, ◌-◌, ◌<◌, ◌≡◌, ◌≤◌, All, length, map}
-use Rattle.std.specs.List.{flat_map, range_with_len}
+use Rattle.std.proofs.Common.{◌++◌, ◌-◌, ◌<◌, ◌≡◌, ◌≤◌}
+use Rattle.worker_rounds.proofs.Prelude.{All, flat_map, length, map, range_with_len}
 use Rattle.worker_rounds.proofs.chunks.cut.Given as goal
 
 abbrev pub invariant-loop-done : goal.invariant-loop-done

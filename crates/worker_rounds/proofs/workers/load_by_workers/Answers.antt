@@ -1,6 +1,4 @@
-use Rattle.std.proofs.Common.{List, subst}
-use Rattle.std.specs.List.{flat_map}
-use Rattle.worker_rounds.proofs.Prelude.{AreOthers}
+use Rattle.worker_rounds.proofs.Prelude.{AreOthers, flat_map, List, subst}
 use Rattle.worker_rounds.proofs.workers.load_by_workers.Goals as goal
 
 pub returns : goal.returns

@@ -1,9 +1,5 @@
-use Rattle.std.proofs.Common.{◌*◌, ◌<◌, ◌∙◌, ◌≡◌, ◌≤◌, All, get_or, IfOk, length, List, rules, subst, sym, vec_len}
-use Rattle.std.proofs.lemmas.List.Elements.{All-drop, All-take}
-use Rattle.std.proofs.lemmas.Result.{IfOk-weaker}
-use Rattle.std.specs.List.{flat_map}
-use Rattle.std.specs.Map.{keys_of}
-use Rattle.worker_rounds.proofs.Prelude.{AreLoaded, AreOthers, IsJoined}
+use Rattle.std.proofs.Common.{◌*◌, ◌<◌, ◌≡◌, ◌≤◌}
+use Rattle.worker_rounds.proofs.Prelude.{All, All-drop, All-take, AreLoaded, AreOthers, flat_map, get_or, IfOk, IfOk-weaker, IsJoined, keys_of, length, List, rules, subst, sym, vec_len, ◌∙◌}
 use Rattle.worker_rounds.proofs.Naming.{joined_all, joined_others, part_holds, parts_cover}
 use Rattle.worker_rounds.proofs.workers.name_by_workers.Goals as goal
 

@@ -1,7 +1,4 @@
-use Rattle.std.proofs.Common.{All, get_or, IfOk, subst, sym}
-use Rattle.std.proofs.lemmas.Result.{IfOk-weaker}
-use Rattle.worker_rounds.proofs.Prelude.{AreLoads, Chunk}
-use Rattle.worker_rounds.proofs.Joining.{chunks_hold, joined_loads}
+use Rattle.worker_rounds.proofs.{Joining.{chunks_hold, joined_loads}, Prelude.{All, AreLoads, Chunk, get_or, IfOk, IfOk-weaker, subst, sym}}
 use Rattle.worker_rounds.proofs.workers.pairs_by_workers.Goals as goal
 
 pub work_by_chunks-requires-clause-ready : goal.work_by_chunks-requires-clause-ready

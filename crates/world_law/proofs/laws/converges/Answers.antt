@@ -1,4 +1,4 @@
-use Rattle.world_law.proofs.{Theorem.each_store_is_its_sum, Theorem.each_store_is_least, Theorem.same_took_same_store, TookLemmas.holds_the_sum}
+use Rattle.world_law.proofs.{Theorem.{each_store_is_its_sum, each_store_is_least, same_took_same_store}, TookLemmas.{holds_the_sum}}
 use Rattle.world_law.proofs.laws.converges.Goals as goal
 
 pub returns-clause-sums : goal.returns-clause-sums

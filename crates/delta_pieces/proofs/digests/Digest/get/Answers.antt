@@ -1,6 +1,4 @@
-use Rattle.std.proofs.Common.{◌∙◌, ap, Some, sym}
-use Rattle.delta_pieces.proofs.Prelude.{find_at, find_gap, place_cmp, place_cmp_total}
-use Rattle.delta_pieces.proofs.HostViews.{get-versions}
+use Rattle.delta_pieces.proofs.{HostViews.{get-versions}, Prelude.{ap, find_at, find_gap, place_cmp, place_cmp_total, Some, sym, ◌∙◌}}
 use Rattle.std.specs.FinMap as finmap
 use Rattle.delta_pieces.proofs.digests.Digest.get.Goals as goal
 

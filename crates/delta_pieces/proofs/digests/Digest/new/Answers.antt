@@ -1,5 +1,4 @@
-use Rattle.std.proofs.Common.{◌∙◌, ap}
-use Rattle.delta_pieces.proofs.HostViews.{no_versions, versions_map}
+use Rattle.delta_pieces.proofs.{HostViews.{no_versions, versions_map}, Prelude.{ap, ◌∙◌}}
 use Rattle.delta_pieces.proofs.digests.Digest.new.Goals as goal
 
 pub returns : goal.returns

@@ -1,5 +1,4 @@
-use Rattle.std.proofs.Common.{◌∙◌, ap, sym}
-use Rattle.delta_pieces.proofs.HostViews.{entries-versions}
+use Rattle.delta_pieces.proofs.{HostViews.{entries-versions}, Prelude.{ap, sym, ◌∙◌}}
 use Rattle.std.specs.FinMap as finmap
 use Rattle.delta_pieces.proofs.digests.Digest.versions.Goals as goal
 

@@ -1,5 +1,5 @@
-use Rattle.std.specs.FinMap as finmap
 use Rattle.delta_pieces.proofs.HostViews.{empty_test}
+use Rattle.std.specs.FinMap as finmap
 use Rattle.delta_pieces.proofs.pieces.Piece.is_empty.Goals as goal
 
 pub returns : goal.returns

@@ -1,4 +1,4 @@
-use Rattle.std.proofs.Common.{◌∙◌, ap}
+use Rattle.delta_pieces.proofs.Prelude.{ap, ◌∙◌}
 use Rattle.std.specs.FinMap as finmap
 use Rattle.delta_pieces.proofs.pieces.Piece.len.Goals as goal
 

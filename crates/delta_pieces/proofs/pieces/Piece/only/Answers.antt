@@ -1,6 +1,4 @@
-use Rattle.std.proofs.Common.{◌∙◌, ap, Some}
-use Rattle.delta_pieces.proofs.Prelude.{cut, only_at}
-use Rattle.delta_pieces.proofs.Gathers.{only_is_cut}
+use Rattle.delta_pieces.proofs.{Gathers.{only_is_cut}, Prelude.{ap, cut, only_at, Some, ◌∙◌}}
 use Rattle.delta_pieces.proofs.pieces.Piece.only.Goals as goal
 
 pub returns : goal.returns

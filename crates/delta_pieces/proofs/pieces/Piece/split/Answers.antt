@@ -1,5 +1,4 @@
-use Rattle.std.proofs.Common.{◌∙◌, ap}
-use Rattle.delta_pieces.proofs.HostViews.{parts_are_whole}
+use Rattle.delta_pieces.proofs.{HostViews.{parts_are_whole}, Prelude.{ap, ◌∙◌}}
 use Rattle.std.specs.FinMap as finmap
 use Rattle.delta_pieces.proofs.pieces.Piece.split.Goals as goal
 

@@ -1,5 +1,4 @@
-use Rattle.std.proofs.Common.{◌∙◌}
-use Rattle.dropins.proofs.Listed.{one_more}
+use Rattle.dropins.proofs.{Listed.{one_more}, Prelude.{◌∙◌}}
 use Rattle.dropins.proofs.folder_lists.Listing.add.Goals as goal
 
 pub returns-in_ok-push-clause-kept : goal.returns-in_ok-push-clause-kept

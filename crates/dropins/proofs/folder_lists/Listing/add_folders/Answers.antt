@@ -1,6 +1,5 @@
-use Rattle.std.proofs.Common.{◌-◌, ◌∙◌, ap, arith, eq-eqb, fold, length, subst, sym, take}
-use Rattle.dropins.proofs.Prelude.{IsName, with_name, with_prefix, with_template}
-use Rattle.dropins.proofs.Cuts.{cut_left, cut_taken, prefix_is_name}
+use Rattle.std.proofs.Common.{◌-◌}
+use Rattle.dropins.proofs.{Cuts.{cut_left, cut_taken, prefix_is_name}, Prelude.{ap, arith, eq-eqb, fold, IsName, length, subst, sym, take, with_name, with_prefix, with_template, ◌∙◌}}
 use Rattle.dropins.proofs.folder_lists.Listing.add_folders.Goals as goal
 
 pub cut_name-requires : goal.cut_name-requires

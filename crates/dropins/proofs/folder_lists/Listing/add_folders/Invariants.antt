@@ -1,6 +1,5 @@
-use Rattle.std.proofs.Common.{◌-◌, ◌≡◌, ◌≤◌, fold, length}
-use Rattle.std.specs.List.{flat_map}
-use Rattle.dropins.proofs.Prelude.{IsKept, prefixes, with_name, with_prefix, with_template}
+use Rattle.std.proofs.Common.{◌-◌, ◌≡◌, ◌≤◌}
+use Rattle.dropins.proofs.Prelude.{flat_map, fold, IsKept, length, prefixes, with_name, with_prefix, with_template}
 use Rattle.dropins.proofs.folder_lists.Listing.add_folders.Given as goal
 
 abbrev pub invariant-loop-end : goal.invariant-loop-end

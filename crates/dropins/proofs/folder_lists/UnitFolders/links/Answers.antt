@@ -1,8 +1,5 @@
-use Rattle.std.proofs.Common.{[], ◌↔◌, ◌∙◌, ◌≡◌, ap, filter, map, Some, subst}
-use Rattle.std.proofs.lemmas.Result.{IfOk-weaker}
-use Rattle.std.specs.List.{Contains}
-use Rattle.std.specs.List.Sorted.{IsStrictlySortedBy}
-use Rattle.dropins.proofs.Prelude.{At, dirs_with, ending, entry_name, is_name, IsLinkedOf, IsTakenOver, Links, Name, name_cmp, view}
+use Rattle.std.proofs.Common.{◌↔◌, ◌≡◌}
+use Rattle.dropins.proofs.Prelude.{[], ap, At, Contains, dirs_with, ending, entry_name, filter, IfOk-weaker, is_name, IsLinkedOf, IsStrictlySortedBy, IsTakenOver, Links, map, Name, name_cmp, Some, subst, view, ◌∙◌}
 use Rattle.dropins.proofs.Ascends.{linked, names_ascending}
 use Rattle.std.specs.FinMap as finmap
 use Rattle.dropins.proofs.folder_lists.UnitFolders.links.Goals as goal

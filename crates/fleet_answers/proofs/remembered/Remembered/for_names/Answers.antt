@@ -1,6 +1,4 @@
-use Rattle.std.proofs.Common.{List, subst, sym}
-use Rattle.fleet_answers.proofs.Prelude.{asked_for, host_view_of, IsSnapshot, IsSnapshotOf, LoadMap, Name}
-use Rattle.fleet_answers.proofs.Asked.{asked_otherwise}
+use Rattle.fleet_answers.proofs.{Asked.{asked_otherwise}, Prelude.{asked_for, host_view_of, IsSnapshot, IsSnapshotOf, List, LoadMap, Name, subst, sym}}
 use Rattle.fleet_answers.proofs.remembered.Remembered.for_names.Goals as goal
 
 pub invariant_of-result : goal.invariant_of-result

@@ -1,6 +1,4 @@
-use Rattle.std.proofs.Common.{◌∙◌, ap, sym}
-use Rattle.fleet_answers.proofs.Prelude.{LoadMap}
-use Rattle.fleet_answers.proofs.Asked.{names_same}
+use Rattle.fleet_answers.proofs.{Asked.{names_same}, Prelude.{ap, LoadMap, sym, ◌∙◌}}
 use Rattle.fleet_answers.proofs.remembered.Remembered.is_asked.Goals as goal
 
 pub returns : goal.returns

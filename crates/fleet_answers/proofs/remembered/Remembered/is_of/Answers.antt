@@ -1,6 +1,4 @@
-use Rattle.std.proofs.Common.{◌∙◌, ap, Some, sym}
-use Rattle.std.specs.Option.{option_copied}
-use Rattle.fleet_answers.proofs.Prelude.{LoadMap, name_eq-Decides}
+use Rattle.fleet_answers.proofs.Prelude.{ap, LoadMap, name_eq-Decides, option_copied, Some, sym, ◌∙◌}
 use Rattle.fleet_answers.proofs.remembered.Remembered.is_of.Goals as goal
 
 pub returns-in-Some-Some : goal.returns-in-Some-Some

@@ -1,6 +1,4 @@
-use Rattle.std.proofs.Common.{subst}
-use Rattle.fleet_answers.proofs.Prelude.{EntryMap, host_view_of, IsSnapshot, IsSnapshotOf, LoadMap, ShowTheSame, snapshots_stay}
-use Rattle.fleet_answers.proofs.{Asked.none_returned, Asked.rest_is, Asked.same_shown, Asked.shown_elsewhere, Held.if_some}
+use Rattle.fleet_answers.proofs.{Asked.{none_returned, rest_is, same_shown, shown_elsewhere}, Held.{if_some}, Prelude.{EntryMap, host_view_of, IsSnapshot, IsSnapshotOf, LoadMap, ShowTheSame, snapshots_stay, subst}}
 use Rattle.fleet_answers.proofs.remembered.Remembered.renewed.Goals as goal
 
 pub returns-then-is_empty-clause-snapshot : goal.returns-then-is_empty-clause-snapshot

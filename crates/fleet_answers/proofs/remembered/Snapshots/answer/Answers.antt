@@ -1,5 +1,4 @@
-use Rattle.std.proofs.Common.{subst, sym}
-use Rattle.fleet_answers.proofs.Prelude.{AreKnown, LoadMap, names_asked}
+use Rattle.fleet_answers.proofs.Prelude.{AreKnown, LoadMap, names_asked, subst, sym}
 use Rattle.fleet_answers.proofs.remembered.Snapshots.answer.Goals as goal
 
 pub answer-requires-in-Err-clause-known : goal.answer-requires-in-Err-clause-known

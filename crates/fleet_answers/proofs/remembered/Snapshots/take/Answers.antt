@@ -1,7 +1,5 @@
-use Rattle.std.proofs.Common.{◌∙◌, ◌≡◌, ap, ℕ}
-use Rattle.std.specs.Option.{option_copied}
-use Rattle.fleet_answers.proofs.Prelude.{LoadMap}
-use Rattle.fleet_answers.proofs.Held.{if_some}
+use Rattle.std.proofs.Common.{◌≡◌}
+use Rattle.fleet_answers.proofs.{Held.{if_some}, Prelude.{ap, LoadMap, option_copied, ℕ, ◌∙◌}}
 use Rattle.fleet_answers.proofs.remembered.Snapshots.take.Goals as goal
 
 pub returns-clause-host : goal.returns-clause-host

@@ -1,6 +1,4 @@
-use Rattle.std.proofs.Common.{◌∙◌, subst, sym}
-use Rattle.fleet_answers.proofs.Prelude.{AreKnown, IsKnown, IsOfGraph, LoadMap, names_asked, Question}
-use Rattle.fleet_answers.proofs.Returned.{known_one, of_graph}
+use Rattle.fleet_answers.proofs.{Prelude.{AreKnown, IsKnown, IsOfGraph, LoadMap, names_asked, Question, subst, sym, ◌∙◌}, Returned.{known_one, of_graph}}
 use Rattle.fleet_answers.proofs.snapshots.Snapshot.answer.Goals as goal
 
 pub linked_unit-requires-clause-known : goal.linked_unit-requires-clause-known

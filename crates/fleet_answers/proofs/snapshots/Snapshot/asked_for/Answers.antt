@@ -1,7 +1,4 @@
-use Rattle.std.proofs.Common.{subst, sym}
-use Rattle.std.specs.Prelude.{IfSome}
-use Rattle.fleet_answers.proofs.Prelude.{AreEdges, AreLinks, asked_for, asking_makes_no_edges, asking_makes_no_links, LoadMap}
-use Rattle.fleet_answers.proofs.Held.{if_some}
+use Rattle.fleet_answers.proofs.{Held.{if_some}, Prelude.{AreEdges, AreLinks, asked_for, asking_makes_no_edges, asking_makes_no_links, IfSome, LoadMap, subst, sym}}
 use Rattle.fleet_answers.proofs.snapshots.Snapshot.asked_for.Goals as goal
 
 pub invariant_of-result : goal.invariant_of-result

@@ -1,6 +1,4 @@
-use Rattle.std.proofs.Common.{subst}
-use Rattle.fleet_answers.proofs.Prelude.{adjacency_makes_the_edges, adjacency_makes_the_links, AreEdges, host_view_of, IsRefreshed, LoadMap, Refreshed}
-use Rattle.fleet_answers.proofs.Held.{if_some}
+use Rattle.fleet_answers.proofs.{Held.{if_some}, Prelude.{adjacency_makes_the_edges, adjacency_makes_the_links, AreEdges, host_view_of, IsRefreshed, LoadMap, Refreshed, subst}}
 use Rattle.fleet_answers.proofs.snapshots.Snapshot.refreshed.Goals as goal
 
 pub invariant_of-result : goal.invariant_of-result

@@ -1,7 +1,4 @@
-use Rattle.std.proofs.Common.{Err, Ok, refl, rules, sym}
-use Rattle.std.proofs.lemmas.Result.{IfOk-weaker}
-use Rattle.fleet_script.proofs.Prelude.{kept_in}
-use Rattle.fleet_script.proofs.Lines.{answered_line}
+use Rattle.fleet_script.proofs.{Lines.{answered_line}, Prelude.{Err, IfOk-weaker, kept_in, Ok, refl, rules, sym}}
 use Rattle.fleet_script.proofs.states.Shell.answer_line.Goals as goal
 
 pub returns-in-Ok : goal.returns-in-Ok

@@ -1,5 +1,4 @@
-use Rattle.fleet_script.proofs.Prelude.{kept_in, RendersInquiry}
-use Rattle.fleet_script.proofs.{Goes.reads, Nodes.slice_get_at}
+use Rattle.fleet_script.proofs.{Goes.{reads}, Nodes.{slice_get_at}, Prelude.{kept_in, RendersInquiry}}
 use Rattle.fleet_script.proofs.states.Shell.ask.Goals as goal
 
 pub returns : goal.returns

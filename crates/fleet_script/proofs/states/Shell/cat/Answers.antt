@@ -1,5 +1,4 @@
-use Rattle.fleet_script.proofs.Prelude.{kept_in, RendersFiles}
-use Rattle.fleet_script.proofs.Goes.{reads}
+use Rattle.fleet_script.proofs.{Goes.{reads}, Prelude.{kept_in, RendersFiles}}
 use Rattle.fleet_script.proofs.states.Shell.cat.Goals as goal
 
 pub returns : goal.returns

@@ -1,6 +1,4 @@
-use Rattle.std.proofs.Common.{refl, rules}
-use Rattle.fleet_script.proofs.Prelude.{kept_in, RendersCrowd}
-use Rattle.fleet_script.proofs.Goes.{reads}
+use Rattle.fleet_script.proofs.{Goes.{reads}, Prelude.{kept_in, refl, RendersCrowd, rules}}
 use Rattle.fleet_script.proofs.states.Shell.crowd.Goals as goal
 
 pub render_crowd-requires-clause-room : goal.render_crowd-requires-clause-room

@@ -1,6 +1,4 @@
-use Rattle.std.proofs.Common.{◌∙◌, ap, Ok, rules, sym}
-use Rattle.fleet_script.proofs.Prelude.{Cat, Crowd, Files, kept_in, Link, ListUnits, Merge, Node, Part, Plan, Put, Remove, Same, Send, Show, Sweep, Workers}
-use Rattle.fleet_script.proofs.Lines.{executed}
+use Rattle.fleet_script.proofs.{Lines.{executed}, Prelude.{ap, Cat, Crowd, Files, kept_in, Link, ListUnits, Merge, Node, Ok, Part, Plan, Put, Remove, rules, Same, Send, Show, Sweep, sym, Workers, ◌∙◌}}
 use Rattle.fleet_script.proofs.states.Shell.execute.Goals as goal
 
 pub returns-in-Node : goal.returns-in-Node

@@ -1,5 +1,4 @@
-use Rattle.fleet_script.proofs.Prelude.{kept_in, Writes}
-use Rattle.fleet_script.proofs.Goes.{with_link, with_site}
+use Rattle.fleet_script.proofs.{Goes.{with_link, with_site}, Prelude.{kept_in, Writes}}
 use Rattle.fleet_script.proofs.states.Shell.link.Goals as goal
 
 pub returns-clause-done : goal.returns-clause-done

@@ -1,6 +1,4 @@
-use Rattle.std.proofs.Common.{Ok}
-use Rattle.fleet_script.proofs.Prelude.{AtNode, kept_in, MergesInto}
-use Rattle.fleet_script.proofs.{Between.any_node, Between.merge_counted, Goes.with_node}
+use Rattle.fleet_script.proofs.{Between.{any_node, merge_counted}, Goes.{with_node}, Prelude.{AtNode, kept_in, MergesInto, Ok}}
 use Rattle.fleet_script.proofs.states.Shell.merge.Goals as goal
 
 pub returns-clause-done : goal.returns-clause-done

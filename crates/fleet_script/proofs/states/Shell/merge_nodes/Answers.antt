@@ -1,6 +1,5 @@
-use Rattle.std.proofs.Common.{◌<◌, ◌∙◌, ap, arith, get_or, length}
-use Rattle.fleet_script.proofs.Prelude.{kept_in, Replicated}
-use Rattle.fleet_script.proofs.Between.{joined_in, joined_itself, merged_at, none_changed}
+use Rattle.std.proofs.Common.{◌<◌}
+use Rattle.fleet_script.proofs.{Between.{joined_in, joined_itself, merged_at, none_changed}, Prelude.{ap, arith, get_or, kept_in, length, Replicated, ◌∙◌}}
 use Rattle.fleet_script.proofs.states.Shell.merge_nodes.Goals as goal
 
 pub returns-clause-joined : goal.returns-clause-joined

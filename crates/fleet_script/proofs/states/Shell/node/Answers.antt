@@ -1,6 +1,5 @@
-use Rattle.std.proofs.Common.{◌∙◌, ◌≡◌, ap, arith, length, refl, sym}
-use Rattle.fleet_script.proofs.Prelude.{kept_in, Replicated}
-use Rattle.fleet_script.proofs.Goes.{is_none, key_updated, made, number_added}
+use Rattle.std.proofs.Common.{◌≡◌}
+use Rattle.fleet_script.proofs.{Goes.{is_none, key_updated, made, number_added}, Prelude.{ap, arith, kept_in, length, refl, Replicated, sym, ◌∙◌}}
 use Rattle.fleet_script.proofs.states.Shell.node.Goals as goal
 
 pub returns-clause-done : goal.returns-clause-done

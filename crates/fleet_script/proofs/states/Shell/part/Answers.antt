@@ -1,6 +1,4 @@
-use Rattle.std.proofs.Common.{◌∙◌, ap, Ok, refl}
-use Rattle.fleet_script.proofs.Prelude.{AtNode, AtPlaces, entries_line, kept_in, PartsAt}
-use Rattle.fleet_script.proofs.{Between.any_node, Between.parts, Goes.key_updated, Goes.with_all_written, Goes.with_node}
+use Rattle.fleet_script.proofs.{Between.{any_node, parts}, Goes.{key_updated, with_all_written, with_node}, Prelude.{ap, AtNode, AtPlaces, entries_line, kept_in, Ok, PartsAt, refl, ◌∙◌}}
 use Rattle.fleet_script.proofs.states.Shell.part.Goals as goal
 
 pub returns-clause-done : goal.returns-clause-done

@@ -1,6 +1,4 @@
-use Rattle.std.proofs.Common.{Err, List, Ok, subst, sym}
-use Rattle.fleet_script.proofs.Prelude.{Goes, kept_in, Removes, RemovesAt, Replicated}
-use Rattle.fleet_script.proofs.{Goes.remove_refused, Goes.removed, Goes.set_again, Goes.with_site, Nodes.slice_get_at}
+use Rattle.fleet_script.proofs.{Goes.{remove_refused, removed, set_again, with_site}, Nodes.{slice_get_at}, Prelude.{Err, Goes, kept_in, List, Ok, Removes, RemovesAt, Replicated, subst, sym}}
 use Rattle.fleet_script.proofs.states.Shell.remove.Goals as goal
 
 pub returns-in-Err-clause-done : goal.returns-in-Err-clause-done

@@ -1,6 +1,4 @@
-use Rattle.std.proofs.Common.{◌∙◌, ap, Some, sym}
-use Rattle.fleet_script.proofs.Prelude.{kept_in}
-use Rattle.fleet_script.proofs.Between.{given}
+use Rattle.fleet_script.proofs.{Between.{given}, Prelude.{ap, kept_in, Some, sym, ◌∙◌}}
 use Rattle.fleet_script.proofs.states.Shell.send.Goals as goal
 
 pub returns-clause-done : goal.returns-clause-done

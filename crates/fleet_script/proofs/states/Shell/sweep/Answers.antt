@@ -1,7 +1,5 @@
-use Rattle.std.proofs.Common.{◌∙◌, ◌≡◌, arith, length}
-use Rattle.std.proofs.lemmas.List.{take_at}
-use Rattle.fleet_script.proofs.Prelude.{kept_in}
-use Rattle.fleet_script.proofs.Sweeps.{sweep_done}
+use Rattle.std.proofs.Common.{◌≡◌}
+use Rattle.fleet_script.proofs.{Prelude.{arith, kept_in, length, take_at, ◌∙◌}, Sweeps.{sweep_done}}
 use Rattle.fleet_script.proofs.states.Shell.sweep.Goals as goal
 
 pub returns-clause-done : goal.returns-clause-done

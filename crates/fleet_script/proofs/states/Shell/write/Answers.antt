@@ -1,6 +1,5 @@
-use Rattle.std.proofs.Common.{◌<◌, arith, Err, length, List, subst, sym}
-use Rattle.fleet_script.proofs.Prelude.{Goes, kept_in, Replicated, Writes}
-use Rattle.fleet_script.proofs.{Goes.set_again, Goes.write_refused, Goes.wrote, Nodes.slice_get_at}
+use Rattle.std.proofs.Common.{◌<◌}
+use Rattle.fleet_script.proofs.{Goes.{set_again, write_refused, wrote}, Nodes.{slice_get_at}, Prelude.{arith, Err, Goes, kept_in, length, List, Replicated, subst, sym, Writes}}
 use Rattle.fleet_script.proofs.states.Shell.write.Goals as goal
 
 pub returns-in-Err-clause-done : goal.returns-in-Err-clause-done

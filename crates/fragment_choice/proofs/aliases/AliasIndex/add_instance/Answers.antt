@@ -1,7 +1,5 @@
-use Rattle.std.proofs.Common.{◌∙◌, ◌≡◌, ap, false, Some, sym, true}
-use Rattle.std.proofs.lemmas.Result.{on_ok_weaker}
-use Rattle.fragment_choice.proofs.Prelude.{instance, with_instance}
-use Rattle.fragment_choice.proofs.Levels.{gathers_instance, leads_elsewhere}
+use Rattle.std.proofs.Common.{◌≡◌}
+use Rattle.fragment_choice.proofs.{Levels.{gathers_instance, leads_elsewhere}, Prelude.{ap, false, instance, on_ok_weaker, Some, sym, true, with_instance, ◌∙◌}}
 use Rattle.fragment_choice.proofs.aliases.AliasIndex.add_instance.Goals as goal
 
 differ : false ≡ true → ⊥

@@ -1,6 +1,5 @@
-use Rattle.std.proofs.Common.{◌+◌, arith, List, subst, take}
-use Rattle.fragment_choice.proofs.Prelude.{Gathers, Leads, LeadsToAny, Name}
-use Rattle.fragment_choice.proofs.{Gathering.gathers_none, Levels.gathers_each, Levels.gathers_more}
+use Rattle.std.proofs.Common.{◌+◌}
+use Rattle.fragment_choice.proofs.{Gathering.{gathers_none}, Levels.{gathers_each, gathers_more}, Prelude.{arith, Gathers, Leads, LeadsToAny, List, Name, subst, take}}
 use Rattle.fragment_choice.proofs.aliases.AliasIndex.after.Goals as goal
 
 pub loop-name-init : goal.loop-name-init

@@ -1,5 +1,4 @@
-use Rattle.std.proofs.Common.{take}
-use Rattle.fragment_choice.proofs.Prelude.{Gathers, LeadsToAny}
+use Rattle.fragment_choice.proofs.Prelude.{Gathers, LeadsToAny, take}
 use Rattle.fragment_choice.proofs.aliases.AliasIndex.after.Given as goal
 
 abbrev pub invariant-loop-name : goal.invariant-loop-name

@@ -1,6 +1,5 @@
-use Rattle.std.proofs.Common.{[], ◌+◌, arith, List, subst, sym}
-use Rattle.fragment_choice.proofs.Prelude.{Gathers, LeadsToAny, Name}
-use Rattle.fragment_choice.proofs.Levels.{all_after, first_level, IsLevel, more_after, next_level, none_after}
+use Rattle.std.proofs.Common.{◌+◌}
+use Rattle.fragment_choice.proofs.{Levels.{all_after, first_level, IsLevel, more_after, next_level, none_after}, Prelude.{[], arith, Gathers, LeadsToAny, List, Name, subst, sym}}
 use Rattle.fragment_choice.proofs.aliases.AliasIndex.all_after.Goals as goal
 
 pub loop-depth-init : goal.loop-depth-init

@@ -1,5 +1,4 @@
-use Rattle.fragment_choice.proofs.Prelude.{AreAliasesWithin}
-use Rattle.fragment_choice.proofs.Levels.{IsLevel}
+use Rattle.fragment_choice.proofs.{Levels.{IsLevel}, Prelude.{AreAliasesWithin}}
 use Rattle.fragment_choice.proofs.aliases.AliasIndex.all_after.Given as goal
 
 abbrev pub invariant-loop-depth : goal.invariant-loop-depth

@@ -1,6 +1,4 @@
-use Rattle.std.proofs.Common.{◌∙◌, sym}
-use Rattle.std.proofs.lemmas.Result.{on_ok_weaker}
-use Rattle.fragment_choice.proofs.Levels.{after_instance, after_name}
+use Rattle.fragment_choice.proofs.{Levels.{after_instance, after_name}, Prelude.{on_ok_weaker, sym, ◌∙◌}}
 use Rattle.fragment_choice.proofs.aliases.AliasIndex.gather_after.Goals as goal
 
 pub returns-in-Some : goal.returns-in-Some

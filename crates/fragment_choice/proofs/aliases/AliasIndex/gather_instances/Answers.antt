@@ -1,6 +1,5 @@
-use Rattle.std.proofs.Common.{◌+◌, arith, take}
-use Rattle.fragment_choice.proofs.Prelude.{IsLeadingInstance, IsLeadingInstanceOfAny}
-use Rattle.fragment_choice.proofs.{Gathering.gathers_none, Levels.gathers_each, Levels.gathers_more}
+use Rattle.std.proofs.Common.{◌+◌}
+use Rattle.fragment_choice.proofs.{Gathering.{gathers_none}, Levels.{gathers_each, gathers_more}, Prelude.{arith, IsLeadingInstance, IsLeadingInstanceOfAny, take}}
 use Rattle.fragment_choice.proofs.aliases.AliasIndex.gather_instances.Goals as goal
 
 pub loop-owner-init : goal.loop-owner-init

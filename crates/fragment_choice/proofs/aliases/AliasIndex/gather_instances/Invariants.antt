@@ -1,5 +1,4 @@
-use Rattle.std.proofs.Common.{take}
-use Rattle.fragment_choice.proofs.Prelude.{Gathers, IsLeadingInstanceOfAny}
+use Rattle.fragment_choice.proofs.Prelude.{Gathers, IsLeadingInstanceOfAny, take}
 use Rattle.fragment_choice.proofs.aliases.AliasIndex.gather_instances.Given as goal
 
 abbrev pub invariant-loop-owner : goal.invariant-loop-owner

@@ -1,5 +1,4 @@
-use Rattle.std.proofs.Common.{◌∙◌, sym}
-use Rattle.fragment_choice.proofs.Levels.{leads_if}
+use Rattle.fragment_choice.proofs.{Levels.{leads_if}, Prelude.{sym, ◌∙◌}}
 use Rattle.fragment_choice.proofs.aliases.AliasIndex.leads.Goals as goal
 
 pub returns-in-Alias : goal.returns-in-Alias

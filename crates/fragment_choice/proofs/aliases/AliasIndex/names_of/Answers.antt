@@ -1,7 +1,5 @@
-use Rattle.std.proofs.Common.{[], ◌∙◌, ◌∷◌, ◌≡◌, sym}
-use Rattle.std.proofs.lemmas.Result.{IfOk-weaker}
-use Rattle.fragment_choice.proofs.Prelude.{AreNames}
-use Rattle.fragment_choice.proofs.{Gathering.both_ok, Levels.all_names, Levels.endless, Levels.unled}
+use Rattle.std.proofs.Common.{◌∷◌, ◌≡◌}
+use Rattle.fragment_choice.proofs.{Gathering.{both_ok}, Levels.{all_names, endless, unled}, Prelude.{[], AreNames, IfOk-weaker, sym, ◌∙◌}}
 use Rattle.fragment_choice.proofs.aliases.AliasIndex.names_of.Goals as goal
 
 pub returns-then-is_empty : goal.returns-then-is_empty

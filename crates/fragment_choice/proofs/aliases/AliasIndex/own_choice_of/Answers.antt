@@ -1,5 +1,5 @@
-use Rattle.std.proofs.Common.{◌∙◌, ◌≡◌, ap, IfOk, Some, subst, sym}
-use Rattle.fragment_choice.proofs.Prelude.{Choice, HostViewMap, own_choice}
+use Rattle.std.proofs.Common.{◌≡◌}
+use Rattle.fragment_choice.proofs.Prelude.{ap, Choice, HostViewMap, IfOk, own_choice, Some, subst, sym, ◌∙◌}
 use Rattle.fragment_choice.proofs.aliases.AliasIndex.own_choice_of.Goals as goal
 
 pub returns-in_ok-try_clone-in-Some-Some : goal.returns-in_ok-try_clone-in-Some-Some

@@ -1,7 +1,5 @@
-use Rattle.std.proofs.Common.{[], ◌++◌, ◌∷◌, ◌⊎◌, Bool, Bor, inl, inr, length, List, refl, subst, sym, take, ℕ}
-use Rattle.std.specs.declared.alloc.Global.{Global}
-use Rattle.std.specs.declared.vec.Vec.{Vec}
-use Rattle.index_rows.proofs.Prelude.{IsAmong, IsLeastOrNone, IsMember, more_kinds, neighbors_of, one_kind, successors_from}
+use Rattle.std.proofs.Common.{◌++◌, ◌∷◌, ◌⊎◌}
+use Rattle.index_rows.proofs.Prelude.{[], Bool, Bor, Global, inl, inr, IsAmong, IsLeastOrNone, IsMember, length, List, more_kinds, neighbors_of, one_kind, refl, subst, successors_from, sym, take, Vec, ℕ}
 use Rattle.index_rows.proofs.Insides.{kind_adjacency, kind_more, least_of_both, least_same, lesser_is, neighbors_inside, neighbors_there}
 use Rattle.index_rows.proofs.successors.Successors.least_member.Goals as goal
 

@@ -1,5 +1,4 @@
-use Rattle.std.proofs.Common.{take}
-use Rattle.index_rows.proofs.Prelude.{IsAmong, IsLeastOrNone, IsMember, successors_from}
+use Rattle.index_rows.proofs.Prelude.{IsAmong, IsLeastOrNone, IsMember, successors_from, take}
 use Rattle.index_rows.proofs.successors.Successors.least_member.Given as goal
 
 abbrev pub invariant-loop-adjacency : goal.invariant-loop-adjacency

@@ -1,7 +1,5 @@
-use Rattle.std.proofs.Common.{◌+◌, Bor, length, List, refl, take, ℕ}
-use Rattle.std.specs.declared.alloc.Global.{Global}
-use Rattle.std.specs.declared.vec.Vec.{Vec}
-use Rattle.index_rows.proofs.Insides.{kind_adjacency, kind_more, neighbors_inside, neighbors_there, spread_kind}
+use Rattle.std.proofs.Common.{◌+◌}
+use Rattle.index_rows.proofs.{Insides.{kind_adjacency, kind_more, neighbors_inside, neighbors_there, spread_kind}, Prelude.{Bor, Global, length, List, refl, take, Vec, ℕ}}
 use Rattle.index_rows.proofs.successors.Successors.spread.Goals as goal
 
 -- the adjacency lists of this kind

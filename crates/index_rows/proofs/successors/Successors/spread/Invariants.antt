@@ -1,5 +1,4 @@
-use Rattle.std.proofs.Common.{take}
-use Rattle.index_rows.proofs.Prelude.{IsSpread, successors_inside}
+use Rattle.index_rows.proofs.Prelude.{IsSpread, successors_inside, take}
 use Rattle.index_rows.proofs.successors.Successors.spread.Given as goal
 
 abbrev pub invariant-loop-adjacency : goal.invariant-loop-adjacency

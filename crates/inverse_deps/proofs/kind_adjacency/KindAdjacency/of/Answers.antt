@@ -1,5 +1,4 @@
-use Rattle.std.proofs.Common.{◌∙◌, arith}
-use Rattle.inverse_deps.proofs.Tabling.{kind_adjacency, kind_within}
+use Rattle.inverse_deps.proofs.{Prelude.{arith, ◌∙◌}, Tabling.{kind_adjacency, kind_within}}
 use Rattle.inverse_deps.proofs.kind_adjacency.KindAdjacency.of.Goals as goal
 
 pub index-requires : goal.index-requires

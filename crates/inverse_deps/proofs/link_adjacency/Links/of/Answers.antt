@@ -1,9 +1,5 @@
-use Rattle.std.proofs.Common.{◌<◌, ◌∙◌, ◌≡◌, ap, arith, IsTrue, length, List, subst, sym}
-use Rattle.std.proofs.lemmas.List.{length-map}
-use Rattle.std.specs.FinMap.Entries.{is_sorted}
-use Rattle.std.specs.declared.alloc.Global.{Global}
-use Rattle.std.specs.declared.vec.Vec.{Vec}
-use Rattle.inverse_deps.proofs.Prelude.{Dependency, links_in, Name, name_cmp, NameLoad}
+use Rattle.std.proofs.Common.{◌<◌, ◌≡◌}
+use Rattle.inverse_deps.proofs.Prelude.{ap, arith, Dependency, Global, is_sorted, IsTrue, length, length-map, links_in, List, Name, name_cmp, NameLoad, subst, sym, Vec, ◌∙◌}
 use Rattle.inverse_deps.proofs.Linking.{adjacency_found, all_within, AreFoundIn, found_in_more, found_in_none}
 use Rattle.inverse_deps.proofs.link_adjacency.Links.of.Goals as goal
 

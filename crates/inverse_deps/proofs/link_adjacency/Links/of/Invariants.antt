@@ -1,5 +1,4 @@
-use Rattle.inverse_deps.proofs.Prelude.{links_in}
-use Rattle.inverse_deps.proofs.Linking.{AreFoundIn}
+use Rattle.inverse_deps.proofs.{Linking.{AreFoundIn}, Prelude.{links_in}}
 use Rattle.inverse_deps.proofs.link_adjacency.Links.of.Given as goal
 
 abbrev pub invariant-loop-from : goal.invariant-loop-from

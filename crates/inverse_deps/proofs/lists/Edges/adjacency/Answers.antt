@@ -1,7 +1,4 @@
-use Rattle.std.proofs.Common.{List, subst, sym, ℕ}
-use Rattle.std.specs.declared.alloc.Global.{Global}
-use Rattle.std.specs.declared.vec.Vec.{Vec}
-use Rattle.inverse_deps.proofs.Prelude.{AreAdjacencyBy}
+use Rattle.inverse_deps.proofs.Prelude.{AreAdjacencyBy, Global, List, subst, sym, Vec, ℕ}
 use Rattle.inverse_deps.proofs.lists.Edges.adjacency.Goals as goal
 
 pub of-requires : goal.of-requires

@@ -1,6 +1,4 @@
-use Rattle.std.proofs.Common.{◌∙◌, ap, Some, sym}
-use Rattle.std.specs.Cmp.Lexicographic.{nat_list_cmp_total}
-use Rattle.inverse_deps.proofs.Prelude.{EdgeMap, find_at, find_gap, list_at, name_cmp, names_in}
+use Rattle.inverse_deps.proofs.Prelude.{ap, EdgeMap, find_at, find_gap, list_at, name_cmp, names_in, nat_list_cmp_total, Some, sym, ◌∙◌}
 use Rattle.inverse_deps.proofs.lists.Edges.of.Goals as goal
 
 pub returns-in-Ok : goal.returns-in-Ok

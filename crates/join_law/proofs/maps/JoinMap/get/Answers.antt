@@ -1,6 +1,5 @@
-use Rattle.std.proofs.Common.{◌∙◌, ap, Some, sym}
-use Rattle.join_law.proofs.Prelude.{find_at, find_gap}
 use Rattle.std.specs.FinMap.{find}
+use Rattle.join_law.proofs.Prelude.{ap, find_at, find_gap, Some, sym, ◌∙◌}
 use Rattle.join_law.proofs.maps.JoinMap.get.Goals as goal
 
 pub returns-in-Ok : goal.returns-in-Ok

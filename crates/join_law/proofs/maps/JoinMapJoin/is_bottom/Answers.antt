@@ -1,5 +1,4 @@
-use Rattle.std.proofs.Common.{arith}
-use Rattle.join_law.proofs.Prelude.{least_exactly_empty}
+use Rattle.join_law.proofs.Prelude.{arith, least_exactly_empty}
 use Rattle.join_law.proofs.maps.JoinMapJoin.is_bottom.Goals as goal
 
 pub returns-clause-least : goal.returns-clause-least

@@ -1,5 +1,4 @@
-use Rattle.std.proofs.Common.{subst}
-use Rattle.join_law.proofs.Prelude.{IsLeast, IsUpTo, not_least}
+use Rattle.join_law.proofs.Prelude.{IsLeast, IsUpTo, not_least, subst}
 use Rattle.join_law.proofs.versions.VersionedJoin.is_bottom.Goals as goal
 
 pub returns-in-At-clause-least : goal.returns-in-At-clause-least

@@ -1,5 +1,4 @@
-use Rattle.std.proofs.Common.{sym}
-use Rattle.load_path.proofs.CutLemmas.{below_deep}
+use Rattle.load_path.proofs.{CutLemmas.{below_deep}, Prelude.{sym}}
 use Rattle.load_path.proofs.texts.Parts.below.Goals as goal
 
 pub returns-then-is_some : goal.returns-then-is_some

@@ -1,6 +1,4 @@
-use Rattle.std.proofs.Common.{◌∙◌, ap, sym}
-use Rattle.load_path.proofs.Prelude.{located_sound, path_within}
-use Rattle.load_path.specs.Paths.{path_of}
+use Rattle.load_path.{proofs.Prelude.{ap, located_sound, path_within, sym, ◌∙◌}, specs.Paths.{path_of}}
 use Rattle.load_path.proofs.texts.Parts.of.Goals as goal
 
 pub below-requires : goal.below-requires

@@ -1,6 +1,6 @@
-use Rattle.std.proofs.Common.{◌≤◌, ap, arith, length, List, subst}
+use Rattle.std.proofs.Common.{◌≤◌}
 use mathlib.Core.List.{IsPrefix}
-use Rattle.node_histories.proofs.Prelude.{HistoryEvent, legal_filled, prefix_shorter, takes_in}
+use Rattle.node_histories.proofs.Prelude.{ap, arith, HistoryEvent, legal_filled, length, List, prefix_shorter, subst, takes_in}
 use Rattle.node_histories.proofs.prefixes.HistoryPrefix.begins.Goals as goal
 
 pub returns : goal.returns

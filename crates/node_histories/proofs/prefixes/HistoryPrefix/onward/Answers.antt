@@ -1,6 +1,6 @@
-use Rattle.std.proofs.Common.{◌≤◌, ap, arith, length, List, subst, sym}
+use Rattle.std.proofs.Common.{◌≤◌}
 use mathlib.Core.List.{IsPrefix}
-use Rattle.node_histories.proofs.Prelude.{HistoryEvent, legal_filled, opening_of, prefix_shorter}
+use Rattle.node_histories.proofs.Prelude.{ap, arith, HistoryEvent, legal_filled, length, List, opening_of, prefix_shorter, subst, sym}
 use Rattle.node_histories.proofs.prefixes.HistoryPrefix.onward.Goals as goal
 
 pub returns-clause-goes_on : goal.returns-clause-goes_on

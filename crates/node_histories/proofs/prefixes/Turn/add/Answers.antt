@@ -1,6 +1,5 @@
-use Rattle.std.proofs.Common.{[], ◌++◌, ◌∙◌, ◌∷◌, ◌≡◌, ap, arith, List, rules, subst, sym}
-use Rattle.node_histories.proofs.Prelude.{all_edits, HistoryEvent, IsLegal, IsNext, legal_filled, legal_snoc, takes_in, takes_in-snoc, TurnNow}
-use Rattle.node_histories.proofs.Exchanges.{adds_moves}
+use Rattle.std.proofs.Common.{◌++◌, ◌∷◌, ◌≡◌}
+use Rattle.node_histories.proofs.{Exchanges.{adds_moves}, Prelude.{[], all_edits, ap, arith, HistoryEvent, IsLegal, IsNext, legal_filled, legal_snoc, List, rules, subst, sym, takes_in, takes_in-snoc, TurnNow, ◌∙◌}}
 use Rattle.node_histories.proofs.prefixes.Turn.add.Goals as goal
 
 pub compare_exchange-found-requires : goal.compare_exchange-found-requires

@@ -1,5 +1,4 @@
-use Rattle.std.proofs.Common.{◌∙◌, ap}
-use Rattle.node_histories.proofs.Prelude.{high_of, high_of-store_of}
+use Rattle.node_histories.proofs.Prelude.{ap, high_of, high_of-store_of, ◌∙◌}
 use Rattle.node_histories.proofs.published_copy.PublishedCopy.counter.Goals as goal
 
 pub returns : goal.returns

@@ -1,5 +1,5 @@
-use Rattle.std.proofs.Common.{[], ◌∙◌, ◌∷◌, ◌≡◌, ap, List, refl, subst, sym}
-use Rattle.node_histories.proofs.Prelude.{HistoryEvent, IsLegal, Opening, opening_of, replica_of, replica_of-opening, takes_in}
+use Rattle.std.proofs.Common.{◌∷◌, ◌≡◌}
+use Rattle.node_histories.proofs.Prelude.{[], ap, HistoryEvent, IsLegal, List, Opening, opening_of, refl, replica_of, replica_of-opening, subst, sym, takes_in, ◌∙◌}
 use Rattle.node_histories.proofs.published_copy.PublishedCopy.opening.Goals as goal
 
 pub invariant_of-result : goal.invariant_of-result

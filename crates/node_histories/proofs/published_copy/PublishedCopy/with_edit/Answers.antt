@@ -1,6 +1,5 @@
-use Rattle.std.proofs.Common.{[], ◌++◌, ◌+◌, ◌∙◌, ◌∷◌, ◌≡◌, ap, sym}
-use Rattle.node_histories.proofs.Prelude.{Edit, Edited, next_version, replica_of, with_edit}
-use Rattle.node_histories.proofs.Turned.{turned_edit, version_next}
+use Rattle.std.proofs.Common.{◌++◌, ◌+◌, ◌∷◌, ◌≡◌}
+use Rattle.node_histories.proofs.{Prelude.{[], ap, Edit, Edited, next_version, replica_of, sym, with_edit, ◌∙◌}, Turned.{turned_edit, version_next}}
 use Rattle.node_histories.proofs.published_copy.PublishedCopy.with_edit.Goals as goal
 
 pub next_copy-requires-clause-kept : goal.next_copy-requires-clause-kept

@@ -1,6 +1,5 @@
-use Rattle.std.proofs.Common.{◌∙◌, ◌≡◌, ap}
-use Rattle.node_histories.proofs.Prelude.{Absorbed, changed_places, EntryMap, join, replica_of, store_of}
-use Rattle.node_histories.proofs.Turned.{turned_piece}
+use Rattle.std.proofs.Common.{◌≡◌}
+use Rattle.node_histories.proofs.{Prelude.{Absorbed, ap, changed_places, EntryMap, join, replica_of, store_of, ◌∙◌}, Turned.{turned_piece}}
 use Rattle.node_histories.proofs.published_copy.PublishedCopy.with_piece.Goals as goal
 
 pub next_copy-requires-clause-kept : goal.next_copy-requires-clause-kept

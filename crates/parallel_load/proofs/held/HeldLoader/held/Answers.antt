@@ -1,6 +1,4 @@
-use Rattle.std.proofs.Common.{All, subst}
-use Rattle.parallel_load.proofs.Prelude.{HostViewMap, IsHeldOn}
-use Rattle.parallel_load.proofs.Staying.{held_is}
+use Rattle.parallel_load.proofs.{Prelude.{All, HostViewMap, IsHeldOn, subst}, Staying.{held_is}}
 use Rattle.parallel_load.proofs.held.HeldLoader.held.Goals as goal
 
 pub returns-in-Ok : goal.returns-in-Ok

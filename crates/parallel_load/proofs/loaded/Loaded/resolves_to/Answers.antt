@@ -1,6 +1,4 @@
-use Rattle.std.proofs.Common.{◌∙◌, ap, Some, sym}
-use Rattle.std.specs.Cmp.Lexicographic.{nat_list_cmp_total}
-use Rattle.parallel_load.proofs.Prelude.{find_at, find_gap, load_at, LoadMap, Name, name_cmp, NameLoad}
+use Rattle.parallel_load.proofs.Prelude.{ap, find_at, find_gap, load_at, LoadMap, Name, name_cmp, NameLoad, nat_list_cmp_total, Some, sym, ◌∙◌}
 use Rattle.parallel_load.proofs.loaded.Loaded.resolves_to.Goals as goal
 
 pub returns-in-Ok : goal.returns-in-Ok

@@ -1,9 +1,5 @@
-use Rattle.std.proofs.Common.{◌∙◌, ap, Bor, map, Some, sym}
-use Rattle.std.proofs.lemmas.List.{map-append}
-use Rattle.parallel_load.proofs.Prelude.{LoadedUnit, unit_part}
-use Rattle.parallel_load.proofs.Steps.{made_none, made_one}
+use Rattle.parallel_load.proofs.{loaded.Loaded.units.Goals.{in-Unit+in_ok-push, in_default}, Prelude.{ap, Bor, LoadedUnit, map, map-append, Some, sym, unit_part, ◌∙◌}, Steps.{made_none, made_one}}
 use Rattle.parallel_load.proofs.loaded.Loaded.units.Goals as goal
-use Rattle.parallel_load.proofs.loaded.Loaded.units.Goals.{in-Unit+in_ok-push, in_default}
 
 pub loop-load-preserved : goal.loop-load-preserved
 loop-load-preserved c = elim c.match-load.branch [

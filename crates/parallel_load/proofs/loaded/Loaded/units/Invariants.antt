@@ -1,6 +1,5 @@
-use Rattle.std.proofs.Common.{◌≡◌, map, take}
-use Rattle.std.specs.List.{filter_map}
-use Rattle.parallel_load.proofs.Prelude.{unit_part}
+use Rattle.std.proofs.Common.{◌≡◌}
+use Rattle.parallel_load.proofs.Prelude.{filter_map, map, take, unit_part}
 use Rattle.parallel_load.proofs.loaded.Loaded.units.Given as goal
 
 abbrev pub invariant-loop-load : goal.invariant-loop-load

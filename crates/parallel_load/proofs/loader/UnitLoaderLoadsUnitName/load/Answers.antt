@@ -1,6 +1,5 @@
-use Rattle.std.proofs.Common.{◌∙◌, ◌≡◌, ap, false, subst, sym, true}
-use Rattle.std.proofs.lemmas.Result.{IfOk-weaker}
-use Rattle.parallel_load.proofs.Prelude.{IsAliasOf, IsLoadAlone, IsUnit, mains_are_their_own, Name, name_eq-Decides, OfUnit, Resolution, resolution}
+use Rattle.std.proofs.Common.{◌≡◌}
+use Rattle.parallel_load.proofs.Prelude.{ap, false, IfOk-weaker, IsAliasOf, IsLoadAlone, IsUnit, mains_are_their_own, Name, name_eq-Decides, OfUnit, Resolution, resolution, subst, sym, true, ◌∙◌}
 use Rattle.parallel_load.proofs.loader.UnitLoaderLoadsUnitName.load.Goals as goal
 
 differ : false ≡ true → ⊥

@@ -1,6 +1,5 @@
-use Rattle.std.proofs.Common.{◌<◌, ◌∙◌, ap, length, List, subst, sym, ℕ}
-use Rattle.parallel_load.proofs.Prelude.{key_at, Name}
-use Rattle.parallel_load.proofs.Indexing.{own_key}
+use Rattle.std.proofs.Common.{◌<◌}
+use Rattle.parallel_load.proofs.{Indexing.{own_key}, Prelude.{ap, key_at, length, List, Name, subst, sym, ℕ, ◌∙◌}}
 use Rattle.parallel_load.proofs.mains.Mains.name.Goals as goal
 
 pub returns : goal.returns

@@ -1,5 +1,5 @@
-use Rattle.std.proofs.Common.{◌≡◌, map}
-use Rattle.parallel_load.proofs.Prelude.{normalized_name}
+use Rattle.std.proofs.Common.{◌≡◌}
+use Rattle.parallel_load.proofs.Prelude.{map, normalized_name}
 use Rattle.parallel_load.proofs.mains.Mains.normalize_all.Given as goal
 
 abbrev pub invariant-loop-name : goal.invariant-loop-name

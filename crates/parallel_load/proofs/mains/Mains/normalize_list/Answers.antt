@@ -1,8 +1,7 @@
-use Rattle.std.proofs.Common.{[], ◌++◌, ◌∙◌, ◌∷◌, ap, List, sym}
-use Rattle.parallel_load.proofs.Prelude.{Name}
-use Rattle.parallel_load.proofs.Steps.{mains_more, mains_same, noted_more, noted_same}
+use Rattle.std.proofs.Common.{◌++◌, ◌∷◌}
+use Rattle.parallel_load.proofs.Prelude.{[], ap, List, Name, sym, ◌∙◌}
+use Rattle.parallel_load.proofs.{mains.Mains.normalize_list.Goals.{in-Some+in_ok-try_clone+in_ok-push+in_ok-push-2, in_default}, Steps.{mains_more, mains_same, noted_more, noted_same}}
 use Rattle.parallel_load.proofs.mains.Mains.normalize_list.Goals as goal
-use Rattle.parallel_load.proofs.mains.Mains.normalize_list.Goals.{in-Some+in_ok-try_clone+in_ok-push+in_ok-push-2, in_default}
 
 pub loop-name-preserved : goal.loop-name-preserved
 loop-name-preserved c =

@@ -1,5 +1,5 @@
-use Rattle.std.proofs.Common.{◌++◌, ◌≡◌, map, take}
-use Rattle.parallel_load.proofs.Prelude.{dependency_of, other_indices, other_mains}
+use Rattle.std.proofs.Common.{◌++◌, ◌≡◌}
+use Rattle.parallel_load.proofs.Prelude.{dependency_of, map, other_indices, other_mains, take}
 use Rattle.parallel_load.proofs.mains.Mains.normalize_list.Given as goal
 
 abbrev pub invariant-loop-name : goal.invariant-loop-name

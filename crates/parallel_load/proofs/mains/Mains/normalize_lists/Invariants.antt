@@ -1,6 +1,5 @@
-use Rattle.std.proofs.Common.{◌++◌, ◌≡◌, map, take}
-use Rattle.std.specs.List.{flat_map}
-use Rattle.parallel_load.proofs.Prelude.{list_indices, list_normalized}
+use Rattle.std.proofs.Common.{◌++◌, ◌≡◌}
+use Rattle.parallel_load.proofs.Prelude.{flat_map, list_indices, list_normalized, map, take}
 use Rattle.parallel_load.proofs.mains.Mains.normalize_lists.Given as goal
 
 abbrev pub invariant-loop-list : goal.invariant-loop-list

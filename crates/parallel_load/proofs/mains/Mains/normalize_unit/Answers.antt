@@ -1,7 +1,5 @@
-use Rattle.std.proofs.Common.{◌++◌, ◌∙◌, ◌≡◌, ap, List, map, sym}
-use Rattle.std.specs.List.{flat_map}
-use Rattle.parallel_load.proofs.Prelude.{Dependency, DependencyList, list_indices, list_normalized, LoadedUnit, OfUnit}
-use Rattle.parallel_load.proofs.Keeping.{lists_same}
+use Rattle.std.proofs.Common.{◌++◌, ◌≡◌}
+use Rattle.parallel_load.proofs.{Keeping.{lists_same}, Prelude.{ap, Dependency, DependencyList, flat_map, List, list_indices, list_normalized, LoadedUnit, map, OfUnit, sym, ◌∙◌}}
 use Rattle.parallel_load.proofs.mains.Mains.normalize_unit.Goals as goal
 
 pub returns-then-eq : goal.returns-then-eq

@@ -1,6 +1,4 @@
-use Rattle.std.proofs.Common.{◌∙◌, ap, false, List, sym, true, ℕ}
-use Rattle.parallel_load.proofs.Prelude.{Name, other_index}
-use Rattle.parallel_load.proofs.Indexing.{index_none, other_is}
+use Rattle.parallel_load.proofs.{Indexing.{index_none, other_is}, Prelude.{ap, false, List, Name, other_index, sym, true, ℕ, ◌∙◌}}
 use Rattle.parallel_load.proofs.mains.Mains.other.Goals as goal
 
 pub returns-then-eq-clause-index : goal.returns-then-eq-clause-index

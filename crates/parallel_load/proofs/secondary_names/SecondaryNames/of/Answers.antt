@@ -1,5 +1,4 @@
-use Rattle.std.specs.Ordering.{nat_cmp}
-use Rattle.parallel_load.proofs.{SecondaryNames.in_order, SideBySide.sorted_is_non_decreasing}
+use Rattle.parallel_load.proofs.{Prelude.{nat_cmp}, SecondaryNames.{in_order}, SideBySide.{sorted_is_non_decreasing}}
 use Rattle.parallel_load.proofs.secondary_names.SecondaryNames.of.Goals as goal
 
 pub invariant_of-result : goal.invariant_of-result

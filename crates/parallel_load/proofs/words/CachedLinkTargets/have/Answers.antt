@@ -1,6 +1,4 @@
-use Rattle.std.proofs.Common.{[], ◌∙◌, ap, List, Option, sym, unwrap_or}
-use Rattle.std.specs.Cmp.Lexicographic.{nat_list_cmp_total}
-use Rattle.parallel_load.proofs.Prelude.{find_at, find_gap, Name, name_cmp, NamedWords, Target, words_in}
+use Rattle.parallel_load.proofs.Prelude.{[], ap, find_at, find_gap, List, Name, name_cmp, NamedWords, nat_list_cmp_total, Option, sym, Target, unwrap_or, words_in, ◌∙◌}
 use Rattle.parallel_load.proofs.words.CachedLinkTargets.have.Goals as goal
 
 pub returns-in-Ok : goal.returns-in-Ok

@@ -1,5 +1,4 @@
-use Rattle.parallel_load.proofs.Prelude.{name_cmp, sorted_from_keys}
-use Rattle.parallel_load.proofs.Gathering.{own_link_targets}
+use Rattle.parallel_load.proofs.{Gathering.{own_link_targets}, Prelude.{name_cmp, sorted_from_keys}}
 use Rattle.parallel_load.proofs.words.CachedLinkTargets.of.Goals as goal
 
 pub invariant_of-result : goal.invariant_of-result

@@ -1,7 +1,5 @@
-use Rattle.std.proofs.Common.{◌∙◌, ◌≡◌, ap, Bool, false, List, refl, sym, true, ℕ}
-use Rattle.std.specs.Bool.{beq}
-use Rattle.std.specs.Ordering.{eq_by_cmp}
-use Rattle.parallel_load.proofs.Prelude.{link_targets_with, name_cmp, name_eq-Decides, same_by}
+use Rattle.std.proofs.Common.{◌≡◌}
+use Rattle.parallel_load.proofs.Prelude.{ap, beq, Bool, eq_by_cmp, false, link_targets_with, List, name_cmp, name_eq-Decides, refl, same_by, sym, true, ℕ, ◌∙◌}
 use Rattle.parallel_load.proofs.words.LinkTargets.is.Goals as goal
 
 same_ends : (a b : Bool) → beq a b ≡ true → a ≡ b

@@ -1,8 +1,7 @@
-use Rattle.std.proofs.Common.{◌++◌, ◌+◌, ◌<◌, ◌∙◌, ◌≡◌, arith, drop, List, map, Some, subst, sym, ℕ}
-use Rattle.parallel_load.proofs.Prelude.{IsOwnLinkAt, levels, link_targets, targets_in, words_of}
-use Rattle.parallel_load.proofs.Gathering.{end_there, link_more, nothing_more}
+use Rattle.std.proofs.Common.{◌++◌, ◌+◌, ◌<◌, ◌≡◌}
+use Rattle.parallel_load.proofs.Prelude.{arith, drop, IsOwnLinkAt, levels, link_targets, List, map, Some, subst, sym, targets_in, words_of, ℕ, ◌∙◌}
+use Rattle.parallel_load.proofs.{Gathering.{end_there, link_more, nothing_more}, words.LinkTargets.of.Goals.{in-Link+in_ok-push-in-Link, in-Nothing}}
 use Rattle.parallel_load.proofs.words.LinkTargets.of.Goals as goal
-use Rattle.parallel_load.proofs.words.LinkTargets.of.Goals.{in-Nothing, in-Link+in_ok-push-in-Link}
 
 pub returns-in-End : goal.returns-in-End
 returns-in-End c =

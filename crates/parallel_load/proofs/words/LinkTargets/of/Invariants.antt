@@ -1,5 +1,5 @@
-use Rattle.std.proofs.Common.{◌++◌, ◌≡◌, drop, map, Some}
-use Rattle.parallel_load.proofs.Prelude.{levels, link_targets, targets_in, words_of}
+use Rattle.std.proofs.Common.{◌++◌, ◌≡◌}
+use Rattle.parallel_load.proofs.Prelude.{drop, levels, link_targets, map, Some, targets_in, words_of}
 use Rattle.parallel_load.proofs.words.LinkTargets.of.Given as goal
 
 abbrev pub invariant-loop-level : goal.invariant-loop-level

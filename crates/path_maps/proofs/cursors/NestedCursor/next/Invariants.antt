@@ -1,6 +1,5 @@
-use Rattle.std.proofs.Common.{[], ◌++◌, ◌≡◌, length}
-use Rattle.std.specs.List.{flat_map}
-use Rattle.path_maps.proofs.Prelude.{in_hand}
+use Rattle.std.proofs.Common.{◌++◌, ◌≡◌}
+use Rattle.path_maps.proofs.Prelude.{[], flat_map, in_hand, length}
 use Rattle.path_maps.proofs.cursors.NestedCursor.next.Given as goal
 
 abbrev pub invariant-loop-inner : goal.invariant-loop-inner

@@ -1,7 +1,4 @@
-use Rattle.std.proofs.Common.{◌∙◌, ap}
-use Rattle.std.specs.List.{flat_map}
-use Rattle.path_maps.proofs.Prelude.{by_rank, RankMap}
-use Rattle.path_maps.proofs.LeftAfter.{ranks_listed}
+use Rattle.path_maps.proofs.{LeftAfter.{ranks_listed}, Prelude.{ap, by_rank, flat_map, RankMap, ◌∙◌}}
 use Rattle.path_maps.proofs.entries.PathEntries.of_ranks.Goals as goal
 
 pub returns : goal.returns

@@ -1,7 +1,4 @@
-use Rattle.std.proofs.Common.{◌∙◌}
-use Rattle.std.specs.Option.{option_copied}
-use Rattle.path_maps.proofs.Prelude.{or_empty}
-use Rattle.path_maps.proofs.LookUps.{found_entries, found_well_formed_paths}
+use Rattle.path_maps.proofs.{LookUps.{found_entries, found_well_formed_paths}, Prelude.{option_copied, or_empty, ◌∙◌}}
 use Rattle.path_maps.proofs.held.Held.entries_in.Goals as goal
 
 pub of_folder-requires : goal.of_folder-requires

@@ -1,7 +1,5 @@
-use Rattle.std.proofs.Common.{◌∙◌, ◌≡◌, ap, List, None, Some, subst, sym, ℕ}
-use Rattle.std.specs.FinMap.Entries.{find}
-use Rattle.std.specs.Option.{option_copied, option_map}
-use Rattle.path_maps.proofs.Prelude.{bytes_cmp, IsPath, NameMap, or_empty, path_at}
+use Rattle.std.proofs.Common.{◌≡◌}
+use Rattle.path_maps.proofs.Prelude.{ap, bytes_cmp, find, IsPath, List, NameMap, None, option_copied, option_map, or_empty, path_at, Some, subst, sym, ℕ, ◌∙◌}
 use Rattle.path_maps.proofs.LookUps.{at_name_of, no_folder, no_name, viewed_is, well_formed_there}
 use Rattle.path_maps.proofs.held.Held.entry_at.Goals as goal
 

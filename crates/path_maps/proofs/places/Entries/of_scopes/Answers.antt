@@ -1,7 +1,4 @@
-use Rattle.std.proofs.Common.{◌∙◌, ap}
-use Rattle.std.specs.List.{flat_map}
-use Rattle.path_maps.proofs.Prelude.{by_scope, ScopeMap}
-use Rattle.path_maps.proofs.LeftAfter.{scopes_listed}
+use Rattle.path_maps.proofs.{LeftAfter.{scopes_listed}, Prelude.{ap, by_scope, flat_map, ScopeMap, ◌∙◌}}
 use Rattle.path_maps.proofs.places.Entries.of_scopes.Goals as goal
 
 pub returns : goal.returns

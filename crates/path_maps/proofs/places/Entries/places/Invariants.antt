@@ -1,4 +1,5 @@
-use Rattle.std.proofs.Common.{◌++◌, ◌≡◌, length, map}
+use Rattle.std.proofs.Common.{◌++◌, ◌≡◌}
+use Rattle.path_maps.proofs.Prelude.{length, map}
 use Rattle.path_maps.proofs.places.Entries.places.Given as goal
 
 abbrev pub invariant-loop-placed : goal.invariant-loop-placed

@@ -1,7 +1,4 @@
-use Rattle.std.proofs.Common.{◌∙◌, ap}
-use Rattle.std.specs.List.{flat_map}
-use Rattle.path_maps.proofs.Prelude.{by_scope_zipped, ScopeMap}
-use Rattle.path_maps.proofs.LeftZipped.{scopes_compared}
+use Rattle.path_maps.proofs.{LeftZipped.{scopes_compared}, Prelude.{ap, by_scope_zipped, flat_map, ScopeMap, ◌∙◌}}
 use Rattle.path_maps.proofs.places_zipped.Zipped.of_scopes.Goals as goal
 
 pub returns : goal.returns

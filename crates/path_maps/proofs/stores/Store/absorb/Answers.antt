@@ -1,6 +1,6 @@
-use Rattle.std.proofs.Common.{◌+◌, ◌∙◌, ◌≤◌, ap, arith, subst, sym}
-use Rattle.path_maps.proofs.Prelude.{all_held, join-left, store_below_refl}
-use Rattle.path_maps.proofs.{Ascends.join_known, Ascends.nothing_changed, Merges.merged, Merges.merged_changes, Merges.merged_kept, Merges.part_kept, Merges.part_within, Merges.partly, Merges.rest_joined, Merges.rest_within, Merges.within_counted, Merges.within_fits, Merges.within_listed, Singles.single_scopes}
+use Rattle.std.proofs.Common.{◌+◌, ◌≤◌}
+use Rattle.path_maps.proofs.Prelude.{all_held, ap, arith, join-left, store_below_refl, subst, sym, ◌∙◌}
+use Rattle.path_maps.proofs.{Ascends.{join_known, nothing_changed}, Merges.{merged, merged_changes, merged_kept, part_kept, part_within, partly, rest_joined, rest_within, within_counted, within_fits, within_listed}, Singles.{single_scopes}}
 use Rattle.path_maps.proofs.stores.Store.absorb.Goals as goal
 
 pub returns-in_default-clause-kept : goal.returns-in_default-clause-kept

@@ -1,9 +1,6 @@
-use Rattle.std.proofs.Common.{◌+◌, ◌↔◌, ◌∙◌, ◌≡◌, ◌≢◌, ap, arith, List, subst, sym}
-use Rattle.std.proofs.lemmas.Result.{IfOk-weaker}
-use Rattle.std.specs.List.Sorted.{IsStrictlySortedBy}
-use Rattle.std.specs.Prelude.{IsOk}
-use Rattle.path_maps.proofs.Prelude.{additions, differing, IsAmong, place_cmp, PlaceParts, together, visible_at}
-use Rattle.path_maps.proofs.{Differing.changed_ascends, Differing.changed_exact, Differing.changed_in, Differing.nothing_changed, DifferingZipped.nothing_zipped, DifferingZipped.zipped_ascends, DifferingZipped.zipped_exact}
+use Rattle.std.proofs.Common.{◌+◌, ◌↔◌, ◌≡◌, ◌≢◌}
+use Rattle.path_maps.proofs.Prelude.{additions, ap, arith, differing, IfOk-weaker, IsAmong, IsOk, IsStrictlySortedBy, List, place_cmp, PlaceParts, subst, sym, together, visible_at, ◌∙◌}
+use Rattle.path_maps.proofs.{Differing.{changed_ascends, changed_exact, changed_in, nothing_changed}, DifferingZipped.{nothing_zipped, zipped_ascends, zipped_exact}}
 use Rattle.std.specs.FinMap as finmap
 use Rattle.path_maps.proofs.stores.Store.changed.Goals as goal
 

@@ -1,5 +1,4 @@
-use Rattle.std.proofs.Common.{◌∙◌}
-use Rattle.path_maps.proofs.Listed.{all_entries, kept_well_formed}
+use Rattle.path_maps.proofs.{Listed.{all_entries, kept_well_formed}, Prelude.{◌∙◌}}
 use Rattle.path_maps.proofs.stores.Store.entries.Goals as goal
 
 pub of_scopes-requires : goal.of_scopes-requires

@@ -1,6 +1,5 @@
-use Rattle.std.proofs.Common.{◌∙◌, ◌≡◌, ap, arith, refl}
-use Rattle.path_maps.proofs.Prelude.{look_up_place, PlaceParts, zipped}
-use Rattle.path_maps.proofs.{Listed.all_entries, Listed.kept_well_formed, LookUps.held_is}
+use Rattle.std.proofs.Common.{◌≡◌}
+use Rattle.path_maps.proofs.{Listed.{all_entries, kept_well_formed}, LookUps.{held_is}, Prelude.{ap, arith, look_up_place, PlaceParts, refl, zipped, ◌∙◌}}
 use Rattle.std.specs.FinMap as finmap
 use Rattle.path_maps.proofs.stores.Store.entries_zipped.Goals as goal
 

@@ -1,6 +1,5 @@
-use Rattle.std.proofs.Common.{◌∙◌, ◌≡◌, ap, filter, List, map}
-use Rattle.std.proofs.lemmas.Result.{IfOk-weaker}
-use Rattle.path_maps.proofs.Prelude.{Entry, is_in, is_within, PathMap, PathParts, placed, PlaceParts, places_of_folder}
+use Rattle.std.proofs.Common.{◌≡◌}
+use Rattle.path_maps.proofs.Prelude.{ap, Entry, filter, IfOk-weaker, is_in, is_within, List, map, PathMap, PathParts, placed, PlaceParts, places_of_folder, ◌∙◌}
 use Rattle.std.specs.FinMap as finmap
 use Rattle.path_maps.proofs.stores.Store.folder.Goals as goal
 

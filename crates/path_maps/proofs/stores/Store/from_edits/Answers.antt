@@ -1,6 +1,5 @@
-use Rattle.std.proofs.Common.{[], ◌++◌, ◌∙◌, ◌∷◌, ap, sym, take}
-use Rattle.std.proofs.lemmas.List.{take_more}
-use Rattle.path_maps.proofs.Prelude.{Edit, EntryMap, sum_of, sum_of-push, with_edit}
+use Rattle.std.proofs.Common.{◌++◌, ◌∷◌}
+use Rattle.path_maps.proofs.Prelude.{[], ap, Edit, EntryMap, sum_of, sum_of-push, sym, take, take_more, with_edit, ◌∙◌}
 use Rattle.path_maps.proofs.stores.Store.from_edits.Goals as goal
 
 pub loop-edit-preserved : goal.loop-edit-preserved

@@ -1,6 +1,5 @@
-use Rattle.std.proofs.Common.{[], ◌++◌, ◌∙◌, ◌∷◌, ap, List, map, sym, take}
-use Rattle.std.proofs.lemmas.List.{map-append, take_more}
-use Rattle.path_maps.proofs.Prelude.{at_fleet, EntryMap, flat_holds_nothing, FlatEdit, holds_shows, sum_of, sum_of-push, with_edit}
+use Rattle.std.proofs.Common.{◌++◌, ◌∷◌}
+use Rattle.path_maps.proofs.Prelude.{[], ap, at_fleet, EntryMap, flat_holds_nothing, FlatEdit, holds_shows, List, map, map-append, sum_of, sum_of-push, sym, take, take_more, with_edit, ◌∙◌}
 use Rattle.path_maps.proofs.stores.Store.from_flat.Goals as goal
 
 pub loop-edit-preserved : goal.loop-edit-preserved

@@ -1,5 +1,5 @@
-use Rattle.std.proofs.Common.{◌≡◌, map, take}
-use Rattle.path_maps.proofs.Prelude.{at_fleet, sum_of}
+use Rattle.std.proofs.Common.{◌≡◌}
+use Rattle.path_maps.proofs.Prelude.{at_fleet, map, sum_of, take}
 use Rattle.path_maps.proofs.stores.Store.from_flat.Given as goal
 
 abbrev pub invariant-loop-edit : goal.invariant-loop-edit

@@ -1,5 +1,4 @@
-use Rattle.std.proofs.Common.{◌∙◌}
-use Rattle.path_maps.proofs.Scopes.{there}
+use Rattle.path_maps.proofs.{Prelude.{◌∙◌}, Scopes.{there}}
 use Rattle.path_maps.proofs.stores.Store.get.Goals as goal
 
 pub returns : goal.returns

@@ -1,7 +1,5 @@
-use Rattle.std.proofs.Common.{◌-◌, ◌∙◌, ap, arith}
-use Rattle.std.proofs.lemmas.Bool.{eqb-true}
-use Rattle.path_maps.proofs.Prelude.{EntryMap}
-use Rattle.path_maps.proofs.{Ascends.additions_within, DifferingZipped.none_besides}
+use Rattle.std.proofs.Common.{◌-◌}
+use Rattle.path_maps.proofs.{Ascends.{additions_within}, DifferingZipped.{none_besides}, Prelude.{ap, arith, EntryMap, eqb-true, ◌∙◌}}
 use Rattle.std.specs.FinMap as finmap
 use Rattle.path_maps.proofs.stores.Store.has_all_of.Goals as goal
 

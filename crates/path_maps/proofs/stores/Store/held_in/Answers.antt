@@ -1,6 +1,4 @@
-use Rattle.std.proofs.Common.{◌∙◌, ap, Option, subst, sym}
-use Rattle.path_maps.proofs.Prelude.{AreWellFormed, flat, or_empty, RankMap}
-use Rattle.path_maps.proofs.Scopes.{scope_kept, scope_viewed}
+use Rattle.path_maps.proofs.{Prelude.{ap, AreWellFormed, flat, Option, or_empty, RankMap, subst, sym, ◌∙◌}, Scopes.{scope_kept, scope_viewed}}
 use Rattle.path_maps.proofs.stores.Store.held_in.Goals as goal
 
 pub of-requires : goal.of-requires

@@ -1,6 +1,5 @@
-use Rattle.std.proofs.Common.{◌+◌, ◌-◌, ◌^◌, ◌∙◌, ◌≡◌, ◌≤◌, ap, arith, cond, IsSome, None, subst, sym}
-use Rattle.path_maps.proofs.Prelude.{PlaceParts}
-use Rattle.path_maps.proofs.{Edits.joined_edit, Edits.kept_edit, Edits.one_held, LookUps.added_new, LookUps.counted_with, LookUps.fits_with, LookUps.held_not_new, LookUps.is_new}
+use Rattle.std.proofs.Common.{◌+◌, ◌-◌, ◌^◌, ◌≡◌, ◌≤◌}
+use Rattle.path_maps.proofs.{Edits.{joined_edit, kept_edit, one_held}, LookUps.{added_new, counted_with, fits_with, held_not_new, is_new}, Prelude.{ap, arith, cond, IsSome, None, PlaceParts, subst, sym, ◌∙◌}}
 use Rattle.std.specs.FinMap as finmap
 use Rattle.path_maps.proofs.stores.Store.join_edit.Goals as goal
 

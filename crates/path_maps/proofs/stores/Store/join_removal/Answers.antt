@@ -1,7 +1,5 @@
-use Rattle.std.proofs.Common.{◌+◌, ◌∙◌, ◌≡◌, ap, cond, sym, true}
-use Rattle.std.proofs.lemmas.Bool.{OnTrue_from}
-use Rattle.path_maps.proofs.Prelude.{Content, Edit, PlaceParts, with_edit}
-use Rattle.path_maps.proofs.{Edits.joined_edit, Edits.kept_edit, Removals.removal_visible, Removals.visible_held}
+use Rattle.std.proofs.Common.{◌+◌, ◌≡◌}
+use Rattle.path_maps.proofs.{Edits.{joined_edit, kept_edit}, Prelude.{ap, cond, Content, Edit, OnTrue_from, PlaceParts, sym, true, with_edit, ◌∙◌}, Removals.{removal_visible, visible_held}}
 use Rattle.std.specs.FinMap as finmap
 use Rattle.path_maps.proofs.stores.Store.join_removal.Goals as goal
 

@@ -1,6 +1,6 @@
-use Rattle.std.proofs.Common.{◌+◌, ◌∙◌, ◌≤◌, ap, arith, Err, Ok, OnErr, Result, subst, sym}
-use Rattle.path_maps.proofs.Prelude.{all_held, join-left, store_below_refl}
-use Rattle.path_maps.proofs.{Ascends.join_known, Ascends.nothing_changed, Merges.merged, Merges.merged_changes, Merges.merged_kept, Merges.part_again, Merges.part_kept, Merges.part_within, Merges.within_counted, Merges.within_fits, Merges.within_listed, Singles.single_scopes}
+use Rattle.std.proofs.Common.{◌+◌, ◌≤◌}
+use Rattle.path_maps.proofs.Prelude.{all_held, ap, arith, Err, join-left, Ok, OnErr, Result, store_below_refl, subst, sym, ◌∙◌}
+use Rattle.path_maps.proofs.{Ascends.{join_known, nothing_changed}, Merges.{merged, merged_changes, merged_kept, part_again, part_kept, part_within, within_counted, within_fits, within_listed}, Singles.{single_scopes}}
 use Rattle.path_maps.proofs.stores.Store.merge.Goals as goal
 
 on_err : {T E P : Type 0} (r : Result T E) → P → OnErr r P

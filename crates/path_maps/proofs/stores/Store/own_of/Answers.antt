@@ -1,6 +1,4 @@
-use Rattle.std.proofs.Common.{◌∙◌, ap, Option, subst, sym}
-use Rattle.path_maps.proofs.Prelude.{AreWellFormed, flat, Host, or_empty, Own, PathMap, RankMap}
-use Rattle.path_maps.proofs.Scopes.{scope_kept, scope_viewed}
+use Rattle.path_maps.proofs.{Prelude.{ap, AreWellFormed, flat, Host, Option, or_empty, Own, PathMap, RankMap, subst, sym, ◌∙◌}, Scopes.{scope_kept, scope_viewed}}
 use Rattle.path_maps.proofs.stores.Store.own_of.Goals as goal
 
 pub of-held-requires : goal.of-held-requires

@@ -1,6 +1,4 @@
-use Rattle.std.proofs.Common.{◌∙◌, ap, sym}
-use Rattle.path_maps.proofs.Prelude.{all_held}
-use Rattle.path_maps.proofs.Sames.{held_one}
+use Rattle.path_maps.proofs.{Prelude.{all_held, ap, sym, ◌∙◌}, Sames.{held_one}}
 use Rattle.path_maps.proofs.stores.Store.same.Goals as goal
 
 pub returns : goal.returns

@@ -1,7 +1,4 @@
-use Rattle.std.proofs.Common.{◌∙◌, ap, Option}
-use Rattle.std.specs.Option.{option_and_then}
-use Rattle.path_maps.proofs.Prelude.{Entry, shown}
-use Rattle.path_maps.proofs.Scopes.{there}
+use Rattle.path_maps.proofs.{Prelude.{ap, Entry, Option, option_and_then, shown, ◌∙◌}, Scopes.{there}}
 use Rattle.path_maps.proofs.stores.Store.visible.Goals as goal
 
 pub returns : goal.returns

@@ -1,5 +1,5 @@
-use Rattle.std.proofs.Common.{◌++◌, ◌≡◌, length}
-use Rattle.path_maps.proofs.Prelude.{differing}
+use Rattle.std.proofs.Common.{◌++◌, ◌≡◌}
+use Rattle.path_maps.proofs.Prelude.{differing, length}
 use Rattle.path_maps.proofs.together.Together.differing.Given as goal
 
 abbrev pub invariant-loop-shown : goal.invariant-loop-shown

@@ -1,5 +1,5 @@
-use Rattle.std.proofs.Common.{◌/◌, ◌∙◌, ◌≡◌, ap, List, map, subst, sym}
-use Rattle.path_maps.proofs.Prelude.{AllKeys, at_level, Entry, folder_viewed, holding, PathParts, ranks_after}
+use Rattle.std.proofs.Common.{◌/◌, ◌≡◌}
+use Rattle.path_maps.proofs.Prelude.{AllKeys, ap, at_level, Entry, folder_viewed, holding, List, map, PathParts, ranks_after, subst, sym, ◌∙◌}
 use Rattle.path_maps.proofs.view.HostView.entries_in.Goals as goal
 
 pub invariant_of-result : goal.invariant_of-result

@@ -1,6 +1,5 @@
-use Rattle.std.proofs.Common.{◌/◌, ◌∙◌, ap, sym}
-use Rattle.std.specs.Option.{option_and_then, option_map}
-use Rattle.path_maps.proofs.Prelude.{get-view, path_at, PathMap}
+use Rattle.std.proofs.Common.{◌/◌}
+use Rattle.path_maps.proofs.Prelude.{ap, get-view, option_and_then, option_map, path_at, PathMap, sym, ◌∙◌}
 use Rattle.std.specs.FinMap as finmap
 use Rattle.path_maps.proofs.view.HostView.entry_at.Goals as goal
 

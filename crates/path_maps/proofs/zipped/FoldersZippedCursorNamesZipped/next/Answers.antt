@@ -1,7 +1,4 @@
-use Rattle.std.proofs.Common.{◌∙◌, IsTrue, subst, sym}
-use Rattle.std.specs.FinMap.Entries.{is_sorted}
-use Rattle.path_maps.proofs.Prelude.{bytes_cmp, NameMap}
-use Rattle.path_maps.proofs.{LeftAfter.first_names, LeftAfter.more_folders, LeftZipped.more_folders_sorted, LeftZipped.next_folders}
+use Rattle.path_maps.proofs.{LeftAfter.{first_names, more_folders}, LeftZipped.{more_folders_sorted, next_folders}, Prelude.{bytes_cmp, is_sorted, IsTrue, NameMap, subst, sym, ◌∙◌}}
 use Rattle.path_maps.proofs.zipped.FoldersZippedCursorNamesZipped.next.Goals as goal
 
 pub invariant_of-result : goal.invariant_of-result

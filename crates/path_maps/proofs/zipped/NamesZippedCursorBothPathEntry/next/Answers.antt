@@ -1,6 +1,5 @@
-use Rattle.std.proofs.Common.{◌∙◌, ◌∷◌, sym}
-use Rattle.path_maps.proofs.Prelude.{names_zipped}
-use Rattle.path_maps.proofs.LeftZipped.{at_of, next_names}
+use Rattle.std.proofs.Common.{◌∷◌}
+use Rattle.path_maps.proofs.{LeftZipped.{at_of, next_names}, Prelude.{names_zipped, sym, ◌∙◌}}
 use Rattle.path_maps.proofs.zipped.NamesZippedCursorBothPathEntry.next.Goals as goal
 
 pub returns : goal.returns

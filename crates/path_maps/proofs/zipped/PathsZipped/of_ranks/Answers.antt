@@ -1,8 +1,4 @@
-use Rattle.std.proofs.Common.{◌∙◌, ap}
-use Rattle.std.specs.List.{flat_map}
-use Rattle.std.specs.Option.{option_copied}
-use Rattle.path_maps.proofs.Prelude.{by_rank_zipped, or_empty, RankMap}
-use Rattle.path_maps.proofs.LeftZipped.{ranks_compared}
+use Rattle.path_maps.proofs.{LeftZipped.{ranks_compared}, Prelude.{ap, by_rank_zipped, flat_map, option_copied, or_empty, RankMap, ◌∙◌}}
 use Rattle.path_maps.proofs.zipped.PathsZipped.of_ranks.Goals as goal
 
 pub returns : goal.returns

@@ -1,8 +1,4 @@
-use Rattle.std.proofs.Common.{◌∙◌, IsTrue, refl, subst, sym}
-use Rattle.std.specs.FinMap.Entries.{is_sorted}
-use Rattle.std.specs.Option.{option_copied}
-use Rattle.path_maps.proofs.Prelude.{bytes_cmp, FolderMap, or_empty}
-use Rattle.path_maps.proofs.{LeftAfter.first_folders, LeftAfter.more_ranks, LeftZipped.next_ranks}
+use Rattle.path_maps.proofs.{LeftAfter.{first_folders, more_ranks}, LeftZipped.{next_ranks}, Prelude.{bytes_cmp, FolderMap, is_sorted, IsTrue, option_copied, or_empty, refl, subst, sym, ◌∙◌}}
 use Rattle.path_maps.proofs.zipped.RanksZippedCursorFoldersZipped.next.Goals as goal
 
 pub invariant_of-result : goal.invariant_of-result

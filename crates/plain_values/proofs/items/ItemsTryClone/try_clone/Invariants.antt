@@ -1,4 +1,5 @@
-use Rattle.std.proofs.Common.{◌≡◌, take}
+use Rattle.std.proofs.Common.{◌≡◌}
+use Rattle.plain_values.proofs.Prelude.{take}
 use Rattle.plain_values.proofs.items.ItemsTryClone.try_clone.Given as goal
 
 -- the copy holds the elements visited so far

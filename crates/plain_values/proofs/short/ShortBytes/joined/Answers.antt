@@ -1,7 +1,6 @@
-use Rattle.std.proofs.Common.{◌++◌, ◌+◌, ◌∙◌, ◌≡◌, ap, arith, length, length-append, List, take, ℕ}
-use Rattle.std.proofs.lemmas.List.{take-append-le, take_all}
-use Rattle.std.proofs.lemmas.Slice.{take-put_mid}
+use Rattle.std.proofs.Common.{◌++◌, ◌+◌, ◌≡◌}
 use borrow.Rule.Slice.PartMut.{put_mid}
+use Rattle.plain_values.proofs.Prelude.{ap, arith, length, length-append, List, take, take-append-le, take-put_mid, take_all, ℕ, ◌∙◌}
 use Rattle.plain_values.proofs.short.ShortBytes.joined.Goals as goal
 
 -- `front` is written first, and `back` after it

@@ -1,10 +1,6 @@
-use Rattle.std.proofs.Common.{◌∙◌, ap, arith, ℕ}
-use Rattle.std.specs.declared.alloc.Global.{Global}
-use Rattle.std.specs.declared.vec.Vec.{Vec}
-use Rattle.plan_choice.proofs.Prelude.{case_of, count_of, IsSound}
-use Rattle.plan_choice.proofs.{Fitting.untrue, WeakDependencyLemmas.listed_all, WeakDependencyLemmas.listed_more, WeakDependencyLemmas.listed_still}
+use Rattle.plan_choice.proofs.Prelude.{ap, arith, case_of, count_of, Global, IsSound, Vec, ℕ, ◌∙◌}
+use Rattle.plan_choice.proofs.{case_sets.CaseSets.faults.Goals.{else-not-is_sound, then-not-is_sound+in_ok-push}, Fitting.{untrue}, WeakDependencyLemmas.{listed_all, listed_more, listed_still}}
 use Rattle.plan_choice.proofs.case_sets.CaseSets.faults.Goals as goal
-use Rattle.plan_choice.proofs.case_sets.CaseSets.faults.Goals.{then-not-is_sound+in_ok-push, else-not-is_sound}
 
 pub loop-unit-preserved : goal.loop-unit-preserved
 loop-unit-preserved c =

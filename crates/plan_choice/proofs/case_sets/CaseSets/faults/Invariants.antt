@@ -1,5 +1,5 @@
-use Rattle.std.proofs.Common.{◌<◌, ◌↔◌, ℕ}
-use Rattle.plan_choice.proofs.Prelude.{case_of, IsAmong, IsSound}
+use Rattle.std.proofs.Common.{◌<◌, ◌↔◌}
+use Rattle.plan_choice.proofs.Prelude.{case_of, IsAmong, IsSound, ℕ}
 use Rattle.plan_choice.proofs.case_sets.CaseSets.faults.Given as goal
 
 abbrev pub invariant-loop-unit : goal.invariant-loop-unit

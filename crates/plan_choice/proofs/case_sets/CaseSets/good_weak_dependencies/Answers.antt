@@ -1,6 +1,6 @@
-use Rattle.std.proofs.Common.{◌<◌, ◌↔◌, ◌∙◌, ◌≡◌, All, ap, arith, Bool, length, List, subst, sym, ℕ}
-use Rattle.plan_choice.proofs.Prelude.{AreBitsOf, case_of, count_of, IndexedCase, IsGood, IsListOf, IsMember, IsReached, IsSound, Listed, Named, successors_from}
-use Rattle.plan_choice.proofs.{Fitting.all_places, WeakDependencyLemmas.good_is}
+use Rattle.std.proofs.Common.{◌<◌, ◌↔◌, ◌≡◌}
+use Rattle.plan_choice.proofs.Prelude.{All, ap, AreBitsOf, arith, Bool, case_of, count_of, IndexedCase, IsGood, IsListOf, IsMember, IsReached, IsSound, length, List, Listed, Named, subst, successors_from, sym, ℕ, ◌∙◌}
+use Rattle.plan_choice.proofs.{Fitting.{all_places}, WeakDependencyLemmas.{good_is}}
 use Rattle.plan_choice.proofs.case_sets.CaseSets.good_weak_dependencies.Goals as goal
 
 pub reached-requires-clause-sources : goal.reached-requires-clause-sources

@@ -1,7 +1,6 @@
-use Rattle.std.proofs.Common.{◌<◌, ◌↔◌, ◌∙◌, IsTrue, subst, sym, ℕ}
-use Rattle.std.specs.Ordering.{nat_cmp}
-use Rattle.plan_choice.proofs.Prelude.{AreBitsOf, case_of, count_of, IndexedCase, IsAmong, IsIdle, IsLeast, IsMember, IsNeeded, IsSound, member_read, successors_from}
-use Rattle.plan_choice.proofs.{Fitting.none_tested, Fitting.nothing_there, Fitting.nothing_there_is, Fitting.tested_none, WeakDependencyLemmas.run_unless_idle}
+use Rattle.std.proofs.Common.{◌<◌, ◌↔◌}
+use Rattle.plan_choice.proofs.Prelude.{AreBitsOf, case_of, count_of, IndexedCase, IsAmong, IsIdle, IsLeast, IsMember, IsNeeded, IsSound, IsTrue, member_read, nat_cmp, subst, successors_from, sym, ℕ, ◌∙◌}
+use Rattle.plan_choice.proofs.{Fitting.{none_tested, nothing_there, nothing_there_is, tested_none}, WeakDependencyLemmas.{run_unless_idle}}
 use Rattle.plan_choice.proofs.case_sets.CaseSets.is_sound.Goals as goal
 
 pub returns : goal.returns

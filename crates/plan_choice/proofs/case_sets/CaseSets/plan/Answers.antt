@@ -1,6 +1,4 @@
-use Rattle.std.proofs.Common.{subst, ℕ}
-use Rattle.std.specs.Ordering.{nat_cmp}
-use Rattle.plan_choice.proofs.Prelude.{case_of, IndexedCase, IsAmong, IsCycle, IsMember, IsStartList, IsStuck, Precedes, Starts}
+use Rattle.plan_choice.proofs.Prelude.{case_of, IndexedCase, IsAmong, IsCycle, IsMember, IsStartList, IsStuck, nat_cmp, Precedes, Starts, subst, ℕ}
 use Rattle.plan_choice.proofs.PlanLemmas.{clear_7, cycle_same, start_list_same, starting_is, stuck_back}
 use Rattle.plan_choice.proofs.case_sets.CaseSets.plan.Goals as goal
 

@@ -1,8 +1,6 @@
-use Rattle.std.proofs.Common.{[], ◌++◌, ◌<◌, ◌↔◌, ◌∙◌, ◌∷◌, ◌≡◌, All, ap, Bool, IfOk, length, List, subst, sym, ℕ}
-use Rattle.std.specs.declared.alloc.Global.{Global}
-use Rattle.std.specs.declared.vec.Vec.{Vec}
-use Rattle.plan_choice.proofs.Prelude.{AreSuccessorsOf, count_of, IndexedCase, IsMember, IsReached, LeadsInside, Listed, within-both}
-use Rattle.plan_choice.proofs.{ChoiceLemmas.bits_are, ChoiceLemmas.pulled_is, Fitting.one_place, Fitting.successors_fit}
+use Rattle.std.proofs.Common.{◌++◌, ◌<◌, ◌↔◌, ◌∷◌, ◌≡◌}
+use Rattle.plan_choice.proofs.Prelude.{[], All, ap, AreSuccessorsOf, Bool, count_of, Global, IfOk, IndexedCase, IsMember, IsReached, LeadsInside, length, List, Listed, subst, sym, Vec, within-both, ℕ, ◌∙◌}
+use Rattle.plan_choice.proofs.{ChoiceLemmas.{bits_are, pulled_is}, Fitting.{one_place, successors_fit}}
 use Rattle.plan_choice.proofs.case_sets.CaseSets.pulled.Goals as goal
 
 pub reached_inside-requires : goal.reached_inside-requires

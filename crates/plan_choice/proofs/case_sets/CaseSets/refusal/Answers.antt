@@ -1,6 +1,4 @@
-use Rattle.std.proofs.Common.{subst, ℕ}
-use Rattle.std.specs.Ordering.{nat_cmp}
-use Rattle.plan_choice.proofs.Prelude.{AreNeededConflicts, case_of, conflict, IndexedCase, IsAmong, IsClearBelow, IsLeast, IsMember, IsRefusal, LacksRequisite, member_read, need_fault, requisite, successors_from}
+use Rattle.plan_choice.proofs.Prelude.{AreNeededConflicts, case_of, conflict, IndexedCase, IsAmong, IsClearBelow, IsLeast, IsMember, IsRefusal, LacksRequisite, member_read, nat_cmp, need_fault, requisite, subst, successors_from, ℕ}
 use Rattle.plan_choice.proofs.CauseLemmas.{all_run, clear_2, clear_4, clear_5, clear_6, first_unloaded, lacking, pair_along, rivalry}
 use Rattle.plan_choice.proofs.case_sets.CaseSets.refusal.Goals as goal
 

@@ -1,7 +1,5 @@
-use Rattle.std.proofs.Common.{◌<◌, ◌≡◌, All, arith, IfOk, List, subst, sym, ℕ}
-use Rattle.std.specs.Ordering.{nat_cmp}
-use Rattle.plan_choice.proofs.Prelude.{AreBitsOf, case_of, count_of, IndexedCase, IsDropped, IsPulled}
-use Rattle.plan_choice.proofs.{ChoiceLemmas.bits_are, ChoiceLemmas.remaining_is, Fitting.all_places}
+use Rattle.std.proofs.Common.{◌<◌, ◌≡◌}
+use Rattle.plan_choice.proofs.{ChoiceLemmas.{bits_are, remaining_is}, Fitting.{all_places}, Prelude.{All, AreBitsOf, arith, case_of, count_of, IfOk, IndexedCase, IsDropped, IsPulled, List, nat_cmp, subst, sym, ℕ}}
 use Rattle.plan_choice.proofs.case_sets.CaseSets.remaining.Goals as goal
 
 pub reached-requires-clause-sources : goal.reached-requires-clause-sources

@@ -1,8 +1,6 @@
-use Rattle.std.proofs.Common.{◌<◌, ◌↔◌, ◌∙◌, ◌≡◌, All, ap, Bool, length, List, subst, sym, ℕ}
-use Rattle.std.specs.List.Sorted.{IsStrictlySortedBy}
-use Rattle.std.specs.Ordering.{nat_cmp}
-use Rattle.plan_choice.proofs.Prelude.{AreBitsOf, case_of, count_of, IndexedCase, IsAmong, IsChosen, IsClosure, IsMember, IsReached, IsStoppedByConflict, LeadsInside, Listed, successors_from, TakesAlong}
-use Rattle.plan_choice.proofs.{Fitting.all_places, PlanLemmas.stopped_is}
+use Rattle.std.proofs.Common.{◌<◌, ◌↔◌, ◌≡◌}
+use Rattle.plan_choice.proofs.Prelude.{All, ap, AreBitsOf, Bool, case_of, count_of, IndexedCase, IsAmong, IsChosen, IsClosure, IsMember, IsReached, IsStoppedByConflict, IsStrictlySortedBy, LeadsInside, length, List, Listed, nat_cmp, subst, successors_from, sym, TakesAlong, ℕ, ◌∙◌}
+use Rattle.plan_choice.proofs.{Fitting.{all_places}, PlanLemmas.{stopped_is}}
 use Rattle.plan_choice.proofs.case_sets.CaseSets.stops.Goals as goal
 
 pub reached_inside-requires-clause-sources : goal.reached_inside-requires-clause-sources

@@ -1,8 +1,5 @@
-use Rattle.std.proofs.Common.{◌+◌, ◌∙◌, ap, sym}
-use Rattle.std.proofs.lemmas.Bool.{eqb-true}
-use Rattle.std.proofs.lemmas.List.{nil_from_length}
-use Rattle.std.specs.Str.Lines.{lines}
-use Rattle.section_reader.specs.Lines.{numbered}
+use Rattle.std.proofs.Common.{◌+◌}
+use Rattle.section_reader.{proofs.Prelude.{ap, eqb-true, lines, nil_from_length, sym, ◌∙◌}, specs.Lines.{numbered}}
 use Rattle.section_reader.proofs.lines.Lines.next_line.Goals as goal
 
 pub returns-then-is_empty-clause-next : goal.returns-then-is_empty-clause-next

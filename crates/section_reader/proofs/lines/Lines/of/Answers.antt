@@ -1,7 +1,4 @@
-use Rattle.std.proofs.Common.{ap}
-use Rattle.std.specs.Str.Lines.{lines}
-use Rattle.section_reader.proofs.Prelude.{numbered}
-use Rattle.section_reader.specs.Lines.{physical_lines}
+use Rattle.section_reader.{proofs.Prelude.{ap, lines, numbered}, specs.Lines.{physical_lines}}
 use Rattle.section_reader.proofs.lines.Lines.of.Goals as goal
 
 pub returns : goal.returns

@@ -1,6 +1,5 @@
-use Rattle.std.proofs.Common.{[], ◌++◌, ◌∙◌, ◌∷◌, ap}
-use Rattle.std.proofs.lemmas.Result.{on_ok_weaker}
-use Rattle.section_reader.proofs.Prelude.{items_at, Line, notes_at}
+use Rattle.std.proofs.Common.{◌++◌, ◌∷◌}
+use Rattle.section_reader.proofs.Prelude.{[], ap, items_at, Line, notes_at, on_ok_weaker, ◌∙◌}
 use Rattle.section_reader.proofs.PlaceLemmas.{items-assigned, items-outside, items-passed_over, items-unassigned, notes-assigned, notes-outside, notes-passed_over, notes-unassigned, nothing_more, one_more, same_assignment}
 use Rattle.section_reader.proofs.reader.Reader.read_entry.Goals as goal
 

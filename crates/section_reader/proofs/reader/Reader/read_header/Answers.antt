@@ -1,6 +1,5 @@
-use Rattle.std.proofs.Common.{◌++◌, ◌∙◌, ap, append-nil, sym}
-use Rattle.section_reader.proofs.Prelude.{Inside}
-use Rattle.section_reader.proofs.PlaceLemmas.{header_notes-bad, header_notes-good, place_following-bad, place_following-good}
+use Rattle.std.proofs.Common.{◌++◌}
+use Rattle.section_reader.proofs.{PlaceLemmas.{header_notes-bad, header_notes-good, place_following-bad, place_following-good}, Prelude.{ap, append-nil, Inside, sym, ◌∙◌}}
 use Rattle.section_reader.proofs.reader.Reader.read_header.Goals as goal
 
 pub returns-in_ok-from_slice-in-Some-clause-notes : goal.returns-in_ok-from_slice-in-Some-clause-notes

@@ -1,7 +1,4 @@
-use Rattle.std.proofs.Common.{[], ◌∙◌, append-nil, sym}
-use Rattle.std.proofs.lemmas.Result.{on_ok_weaker}
-use Rattle.section_reader.proofs.Prelude.{items_from, notes_from}
-use Rattle.section_reader.proofs.PlaceLemmas.{items_from-entry, items_from-header, notes_from-entry, notes_from-header, recorded_line}
+use Rattle.section_reader.proofs.{PlaceLemmas.{items_from-entry, items_from-header, notes_from-entry, notes_from-header, recorded_line}, Prelude.{[], append-nil, items_from, notes_from, on_ok_weaker, sym, ◌∙◌}}
 use Rattle.section_reader.proofs.reader.Reader.read_line.Goals as goal
 
 pub returns-then-is_bracketed : goal.returns-then-is_bracketed

@@ -1,7 +1,5 @@
-use Rattle.std.proofs.Common.{[], ◌++◌, ◌∙◌, ◌∷◌, ◌≡◌, ap, append-nil, Bor, List, map, sym, ℕ}
-use Rattle.std.specs.List.{flat_map}
-use Rattle.setting_rules.proofs.Prelude.{names_by, words_of}
-use Rattle.setting_rules.proofs.{Named.by_words, Named.names_by-append, Named.noted_by, Named.noted_by-append, RowLemmas.texts_more}
+use Rattle.std.proofs.Common.{◌++◌, ◌∷◌, ◌≡◌}
+use Rattle.setting_rules.proofs.{Named.{by_words, names_by-append, noted_by, noted_by-append}, Prelude.{[], ap, append-nil, Bor, flat_map, List, map, names_by, sym, words_of, ℕ, ◌∙◌}, RowLemmas.{texts_more}}
 use Rattle.setting_rules.proofs.dependency_lists.Dependencies.add_kind.Goals as goal
 
 pub loop-value-preserved : goal.loop-value-preserved

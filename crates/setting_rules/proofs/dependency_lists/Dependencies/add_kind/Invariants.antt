@@ -1,6 +1,5 @@
-use Rattle.std.proofs.Common.{◌++◌, ◌≡◌, map, take}
-use Rattle.std.specs.List.{flat_map}
-use Rattle.setting_rules.proofs.Prelude.{faults_by, key_for, names_by, note_on, words_of}
+use Rattle.std.proofs.Common.{◌++◌, ◌≡◌}
+use Rattle.setting_rules.proofs.Prelude.{faults_by, flat_map, key_for, map, names_by, note_on, take, words_of}
 use Rattle.setting_rules.proofs.dependency_lists.Dependencies.add_kind.Given as goal
 
 abbrev pub invariant-loop-value : goal.invariant-loop-value

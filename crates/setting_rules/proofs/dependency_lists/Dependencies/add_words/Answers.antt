@@ -1,6 +1,4 @@
-use Rattle.std.proofs.Common.{[], ◌∙◌, Bor, get_or, List, map, refl, ℕ}
-use Rattle.setting_rules.proofs.Prelude.{names_by}
-use Rattle.setting_rules.proofs.{Named.by_elements, Named.names_by-append, Named.noted_by, Named.noted_by-append, RowLemmas.texts_more}
+use Rattle.setting_rules.proofs.{Named.{by_elements, names_by-append, noted_by, noted_by-append}, Prelude.{[], Bor, get_or, List, map, names_by, refl, ℕ, ◌∙◌}, RowLemmas.{texts_more}}
 use Rattle.setting_rules.proofs.dependency_lists.Dependencies.add_words.Goals as goal
 
 pub loop-word-preserved : goal.loop-word-preserved

@@ -1,5 +1,5 @@
-use Rattle.std.proofs.Common.{◌++◌, ◌≡◌, map, take}
-use Rattle.setting_rules.proofs.Prelude.{faults_by, key_for, names_by, note_on}
+use Rattle.std.proofs.Common.{◌++◌, ◌≡◌}
+use Rattle.setting_rules.proofs.Prelude.{faults_by, key_for, map, names_by, note_on, take}
 use Rattle.setting_rules.proofs.dependency_lists.Dependencies.add_words.Given as goal
 
 abbrev pub invariant-loop-word : goal.invariant-loop-word

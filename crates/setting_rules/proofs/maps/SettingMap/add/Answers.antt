@@ -1,5 +1,5 @@
-use Rattle.std.proofs.Common.{[], ◌++◌, ◌∙◌, ◌∷◌}
-use Rattle.setting_rules.proofs.MapLemmas.{within_at, written_at}
+use Rattle.std.proofs.Common.{◌++◌, ◌∷◌}
+use Rattle.setting_rules.proofs.{MapLemmas.{within_at, written_at}, Prelude.{[], ◌∙◌}}
 use Rattle.setting_rules.proofs.maps.SettingMap.add.Goals as goal
 
 pub index_mut-requires : goal.index_mut-requires

@@ -1,8 +1,5 @@
 use Rattle.indexmap.specs.IndexMap.{insert_entry}
-use Rattle.std.proofs.Common.{◌∙◌, ap, sym}
-use Rattle.setting_rules.proofs.Prelude.{place_of, with_key}
-use Rattle.setting_rules.proofs.{MapLemmas.found_place, MapLemmas.found_stays, MapLemmas.new_goes_last, MapLemmas.new_place, SameKeys.same}
-use Rattle.setting_rules.specs.contracts.keys.SettingKeyPartialEq.TheImpl.{eq-value}
+use Rattle.setting_rules.{proofs.{MapLemmas.{found_place, found_stays, new_goes_last, new_place}, Prelude.{ap, place_of, sym, with_key, ◌∙◌}, SameKeys.{same}}, specs.contracts.keys.SettingKeyPartialEq.TheImpl.{eq-value}}
 use Rattle.setting_rules.proofs.maps.SettingMap.place.Goals as goal
 
 pub returns-in-Some-clause-entered : goal.returns-in-Some-clause-entered

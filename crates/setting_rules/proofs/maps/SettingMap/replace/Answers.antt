@@ -1,5 +1,5 @@
-use Rattle.std.proofs.Common.{[], ◌++◌, ◌∙◌, ◌∷◌, ap}
-use Rattle.setting_rules.proofs.MapLemmas.{within_at, written_at}
+use Rattle.std.proofs.Common.{◌++◌, ◌∷◌}
+use Rattle.setting_rules.proofs.{MapLemmas.{within_at, written_at}, Prelude.{[], ap, ◌∙◌}}
 use Rattle.setting_rules.proofs.maps.SettingMap.replace.Goals as goal
 
 pub index_mut-values-requires : goal.index_mut-values-requires

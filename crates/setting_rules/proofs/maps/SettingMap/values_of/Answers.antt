@@ -1,6 +1,4 @@
-use Rattle.std.proofs.Common.{◌∙◌, sym}
-use Rattle.setting_rules.proofs.Prelude.{SettingKey}
-use Rattle.setting_rules.proofs.RowLemmas.{look_found, look_passed}
+use Rattle.setting_rules.proofs.{Prelude.{SettingKey, sym, ◌∙◌}, RowLemmas.{look_found, look_passed}}
 use Rattle.setting_rules.proofs.maps.SettingMap.values_of.Goals as goal
 
 pub returns-then-is : goal.returns-then-is

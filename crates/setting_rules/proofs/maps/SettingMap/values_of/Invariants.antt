@@ -1,5 +1,5 @@
-use Rattle.std.proofs.Common.{◌≡◌, drop}
-use Rattle.setting_rules.proofs.Prelude.{values_at}
+use Rattle.std.proofs.Common.{◌≡◌}
+use Rattle.setting_rules.proofs.Prelude.{drop, values_at}
 use Rattle.setting_rules.proofs.maps.SettingMap.values_of.Given as goal
 
 -- the key isn't among the entries visited so far

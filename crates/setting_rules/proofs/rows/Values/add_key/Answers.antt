@@ -1,5 +1,4 @@
-use Rattle.setting_rules.proofs.Prelude.{escape_notes_at, rows_at}
-use Rattle.setting_rules.proofs.RowLemmas.{escape_notes_at-append, rows_at-append, texts_more}
+use Rattle.setting_rules.proofs.{Prelude.{escape_notes_at, rows_at}, RowLemmas.{escape_notes_at-append, rows_at-append, texts_more}}
 use Rattle.setting_rules.proofs.rows.Values.add_key.Goals as goal
 
 pub loop-text-preserved : goal.loop-text-preserved

@@ -1,5 +1,5 @@
-use Rattle.std.proofs.Common.{◌++◌, ◌≡◌, take}
-use Rattle.setting_rules.proofs.Prelude.{escape_notes_at, rows_at}
+use Rattle.std.proofs.Common.{◌++◌, ◌≡◌}
+use Rattle.setting_rules.proofs.Prelude.{escape_notes_at, rows_at, take}
 use Rattle.setting_rules.proofs.rows.Values.add_key.Given as goal
 
 abbrev pub invariant-loop-text : goal.invariant-loop-text

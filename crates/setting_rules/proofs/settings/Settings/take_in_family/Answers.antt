@@ -1,8 +1,7 @@
-use Rattle.std.proofs.Common.{[], ◌&&◌, ◌++◌, ◌∙◌, ◌∷◌, ◌≡◌, ap, cond, false, not, sym}
-use Rattle.setting_rules.proofs.Prelude.{changed, is_empty, key_of}
-use Rattle.setting_rules.proofs.Texts.{none_left}
+use Rattle.std.proofs.Common.{◌&&◌, ◌++◌, ◌∷◌, ◌≡◌}
+use Rattle.setting_rules.proofs.Prelude.{[], ap, changed, cond, false, is_empty, key_of, not, sym, ◌∙◌}
+use Rattle.setting_rules.proofs.{settings.Settings.take_in_family.Goals.{else-live-via-else-live, else-live-via-then-live+else-not-is_empty}, Texts.{none_left}}
 use Rattle.setting_rules.proofs.settings.Settings.take_in_family.Goals as goal
-use Rattle.setting_rules.proofs.settings.Settings.take_in_family.Goals.{else-live-via-then-live+else-not-is_empty, else-live-via-else-live}
 
 pub returns-in_ok-enter-clause-map : goal.returns-in_ok-enter-clause-map
 returns-in_ok-enter-clause-map c =

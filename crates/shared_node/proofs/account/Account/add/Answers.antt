@@ -1,6 +1,5 @@
-use Rattle.std.proofs.Common.{[], ◌++◌, ◌+◌, ◌<◌, ◌∙◌, ◌∷◌, ◌≡◌, ◌≤◌, ap, arith, get_or, length, List, rules, slice_index, slice_set, subst, sym, ℕ}
-use Rattle.std.proofs.lemmas.List.{get_or_read}
-use Rattle.shared_node.proofs.Prelude.{counter_of, HistoryEvent, takes_in, takes_of, takes_of-within}
+use Rattle.std.proofs.Common.{◌++◌, ◌+◌, ◌<◌, ◌∷◌, ◌≡◌, ◌≤◌}
+use Rattle.shared_node.proofs.Prelude.{[], ap, arith, counter_of, get_or, get_or_read, HistoryEvent, length, List, rules, slice_index, slice_set, subst, sym, takes_in, takes_of, takes_of-within, ℕ, ◌∙◌}
 use Rattle.shared_node.proofs.Counting.{counted}
 use Rattle.shared_node.proofs.account.Account.add.Goals as goal
 

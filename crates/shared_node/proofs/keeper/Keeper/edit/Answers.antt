@@ -1,5 +1,5 @@
-use Rattle.std.proofs.Common.{[], ◌++◌, ◌∙◌, ◌∷◌, ap, ℕ}
-use Rattle.shared_node.proofs.Prelude.{Edit, Edited}
+use Rattle.std.proofs.Common.{◌++◌, ◌∷◌}
+use Rattle.shared_node.proofs.Prelude.{[], ap, Edit, Edited, ℕ, ◌∙◌}
 use Rattle.shared_node.proofs.keeper.Keeper.edit.Goals as goal
 
 pub returns-in-None-clause-accepted : goal.returns-in-None-clause-accepted

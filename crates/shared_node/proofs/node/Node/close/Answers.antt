@@ -1,5 +1,4 @@
-use Rattle.std.proofs.Common.{List, subst, sym}
-use Rattle.shared_node.proofs.Prelude.{AllAgree, HistoryEvent}
+use Rattle.shared_node.proofs.Prelude.{AllAgree, HistoryEvent, List, subst, sym}
 use Rattle.shared_node.proofs.node.Node.close.Goals as goal
 
 pub returns-in-Ok-clause-agree : goal.returns-in-Ok-clause-agree

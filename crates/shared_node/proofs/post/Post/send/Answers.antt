@@ -1,7 +1,6 @@
+use Rattle.std.proofs.Common.{◌≡◌}
 use Rattle.left_right.specs.Sides.{view}
-use Rattle.std.proofs.Common.{◌≡◌, drop, None, Option, subst, sym}
-use Rattle.shared_node.proofs.Prelude.{latest, newest, PublishedCopy}
-use Rattle.shared_node.proofs.Latest.{History, IsPosted, sent}
+use Rattle.shared_node.proofs.{Latest.{History, IsPosted, sent}, Prelude.{drop, latest, newest, None, Option, PublishedCopy, subst, sym}}
 use Rattle.shared_node.proofs.post.Post.send.Goals as goal
 
 pub invariant_of-self : goal.invariant_of-self

@@ -1,6 +1,5 @@
-use Rattle.std.proofs.Common.{◌++◌, ◌↔◌, ◌≡◌, ◌⊎◌, inl, inr, List, subst, sym, ℕ}
-use Rattle.start_order.proofs.Prelude.{IsAmong, IsAmong-append_cases, IsAmong-append_left, IsAmong-append_right}
-use Rattle.start_order.proofs.Keys.{IsAmong-insert_key}
+use Rattle.std.proofs.Common.{◌++◌, ◌↔◌, ◌≡◌, ◌⊎◌}
+use Rattle.start_order.proofs.{Keys.{IsAmong-insert_key}, Prelude.{inl, inr, IsAmong, IsAmong-append_cases, IsAmong-append_left, IsAmong-append_right, List, subst, sym, ℕ}}
 use Rattle.start_order.proofs.free.Free.add.Goals as goal
 
 -- a key is inserted after the first ones

@@ -1,6 +1,5 @@
-use Rattle.std.proofs.Common.{◌++◌, ◌↔◌, ◌≡◌, ◌≤◌, List, MatchOption, None, Option, Some, subst, sym, ℕ}
-use Rattle.start_order.proofs.Prelude.{IsAmong, IsAmong-append_left, IsAmong-append_right, IsLeastIn}
-use Rattle.start_order.proofs.Frees.{found, left_of_both}
+use Rattle.std.proofs.Common.{◌++◌, ◌↔◌, ◌≡◌, ◌≤◌}
+use Rattle.start_order.proofs.{Frees.{found, left_of_both}, Prelude.{IsAmong, IsAmong-append_left, IsAmong-append_right, IsLeastIn, List, MatchOption, None, Option, Some, subst, sym, ℕ}}
 use Rattle.start_order.proofs.free.Free.take_least.Goals as goal
 
 -- what was found is none, or the least

@@ -1,6 +1,4 @@
-use Rattle.std.proofs.Common.{refl}
-use Rattle.unit_graph.proofs.Prelude.{count_of, name_at, neighbors, neighbors-below}
-use Rattle.unit_graph.proofs.Stepping.{only_kind, table_neighbors}
+use Rattle.unit_graph.proofs.{Prelude.{count_of, name_at, neighbors, neighbors-below, refl}, Stepping.{only_kind, table_neighbors}}
 use Rattle.unit_graph.proofs.graph.Graph.adjacency.Goals as goal
 
 pub returns-clause-successors : goal.returns-clause-successors

@@ -1,5 +1,5 @@
-use Rattle.std.proofs.Common.{[], ◌<◌, ◌∙◌, ◌∷◌, ◌≡◌, All, ap, List, map, subst, sym, ℕ}
-use Rattle.unit_graph.proofs.Prelude.{count_of, IsDistances, LeadsBy, Listed, LoadMap, Name, name_at, name_cmp, pulling, successors_from}
+use Rattle.std.proofs.Common.{◌<◌, ◌∷◌, ◌≡◌}
+use Rattle.unit_graph.proofs.Prelude.{[], All, ap, count_of, IsDistances, LeadsBy, List, Listed, LoadMap, map, Name, name_at, name_cmp, pulling, subst, successors_from, sym, ℕ, ◌∙◌}
 use Rattle.unit_graph.proofs.Stepping.{depths_below, depths_named}
 use Rattle.unit_graph.proofs.graph.Graph.depths.Goals as goal
 

@@ -1,6 +1,4 @@
-use Rattle.std.proofs.Common.{ap, subst}
-use Rattle.unit_graph.proofs.Prelude.{GraphMap, HasInverses, LeadToUnits}
-use Rattle.unit_graph.proofs.Stepping.{graph_indexing, has_inverses, lead_to_units}
+use Rattle.unit_graph.proofs.{Prelude.{ap, GraphMap, HasInverses, LeadToUnits, subst}, Stepping.{graph_indexing, has_inverses, lead_to_units}}
 use Rattle.unit_graph.proofs.graph.Graph.loaded.Goals as goal
 
 pub returns-clause-units : goal.returns-clause-units

@@ -1,6 +1,5 @@
-use Rattle.std.proofs.Common.{[], ◌++◌, ◌+◌, ◌∙◌, ◌∷◌, ◌≡◌, ap, arith, Bor, List, map, refl, sym, take}
-use Rattle.std.proofs.lemmas.List.{map-append, take_all, take_more}
-use Rattle.unit_graph.proofs.Prelude.{GraphMap, LoadedUnit, LoadMap, Name, units_in}
+use Rattle.std.proofs.Common.{◌++◌, ◌+◌, ◌∷◌, ◌≡◌}
+use Rattle.unit_graph.proofs.Prelude.{[], ap, arith, Bor, GraphMap, List, LoadedUnit, LoadMap, map, map-append, Name, refl, sym, take, take_all, take_more, units_in, ◌∙◌}
 use Rattle.unit_graph.proofs.graph.Graph.members.Goals as goal
 
 map_twice : {X Y Z : Type 0} (f : Y → Z) (g : X → Y) (xs : List X) → map (λ x. f (g x)) xs ≡ map f (map g xs)

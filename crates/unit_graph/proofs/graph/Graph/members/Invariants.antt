@@ -1,4 +1,5 @@
-use Rattle.std.proofs.Common.{◌≡◌, map, take}
+use Rattle.std.proofs.Common.{◌≡◌}
+use Rattle.unit_graph.proofs.Prelude.{map, take}
 use Rattle.unit_graph.proofs.graph.Graph.members.Given as goal
 
 abbrev pub invariant-loop-unit : goal.invariant-loop-unit

@@ -1,6 +1,5 @@
-use Rattle.std.proofs.Common.{[], ◌<◌, ◌∙◌, ◌∷◌, ◌≡◌, All, ap, List, map, subst, sym, ℕ}
-use Rattle.unit_graph.proofs.Prelude.{count_of, IsClosure, LeadsBy, Listed, LoadMap, Name, name_at, name_cmp, successors_from}
-use Rattle.unit_graph.proofs.Stepping.{reach_below, reach_named}
+use Rattle.std.proofs.Common.{◌<◌, ◌∷◌, ◌≡◌}
+use Rattle.unit_graph.proofs.{Prelude.{[], All, ap, count_of, IsClosure, LeadsBy, List, Listed, LoadMap, map, Name, name_at, name_cmp, subst, successors_from, sym, ℕ, ◌∙◌}, Stepping.{reach_below, reach_named}}
 use Rattle.unit_graph.proofs.graph.Graph.reach.Goals as goal
 
 pub names_at-requires : goal.names_at-requires

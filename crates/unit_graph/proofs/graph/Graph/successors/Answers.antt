@@ -1,8 +1,5 @@
-use Rattle.std.proofs.Common.{[], ◌+◌, ◌∙◌, ◌∷◌, ◌≡◌, ap, arith, get_or, List, refl, subst, sym, take, ℕ}
-use Rattle.std.proofs.lemmas.List.{take_all, take_more}
-use Rattle.std.specs.declared.alloc.Global.{Global}
-use Rattle.std.specs.declared.vec.Vec.{Vec}
-use Rattle.unit_graph.proofs.Prelude.{AreNamedSuccessors, AreSuccessorsOf, Before, count_of, DepKind, LeadsBy, name_at, Named, neighbors, neighbors-below, successors-push, successors_from, within-both, within-one}
+use Rattle.std.proofs.Common.{◌+◌, ◌∷◌, ◌≡◌}
+use Rattle.unit_graph.proofs.Prelude.{[], ap, AreNamedSuccessors, AreSuccessorsOf, arith, Before, count_of, DepKind, get_or, Global, LeadsBy, List, name_at, Named, neighbors, neighbors-below, refl, subst, successors-push, successors_from, sym, take, take_all, take_more, Vec, within-both, within-one, ℕ, ◌∙◌}
 use Rattle.unit_graph.proofs.Stepping.{kind_more, no_kinds, table_neighbors}
 use Rattle.unit_graph.proofs.graph.Graph.successors.Goals as goal
 

@@ -1,5 +1,4 @@
-use Rattle.std.proofs.Common.{take}
-use Rattle.unit_graph.proofs.Prelude.{AreNamedSuccessors, AreSuccessorsOf, count_of, LeadsBy, name_at, Named, successors_from}
+use Rattle.unit_graph.proofs.Prelude.{AreNamedSuccessors, AreSuccessorsOf, count_of, LeadsBy, name_at, Named, successors_from, take}
 use Rattle.unit_graph.proofs.graph.Graph.successors.Given as goal
 
 abbrev pub invariant-loop-kind : goal.invariant-loop-kind

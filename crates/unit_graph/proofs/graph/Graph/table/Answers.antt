@@ -1,6 +1,4 @@
-use Rattle.std.proofs.Common.{subst}
-use Rattle.unit_graph.proofs.Prelude.{GraphMap, IsTable}
-use Rattle.unit_graph.proofs.Stepping.{table_of_adjacency}
+use Rattle.unit_graph.proofs.{Prelude.{GraphMap, IsTable, subst}, Stepping.{table_of_adjacency}}
 use Rattle.unit_graph.proofs.graph.Graph.table.Goals as goal
 
 pub returns : goal.returns

@@ -1,5 +1,5 @@
-use Rattle.std.proofs.Common.{◌++◌, ◌≡◌, take}
-use Rattle.unit_loads.proofs.Prelude.{assignments_of, borrowed_items, borrowed_notes, bytes_at, notes_at}
+use Rattle.std.proofs.Common.{◌++◌, ◌≡◌}
+use Rattle.unit_loads.proofs.Prelude.{assignments_of, borrowed_items, borrowed_notes, bytes_at, notes_at, take}
 use Rattle.unit_loads.proofs.files.UnitText.of.Given as goal
 
 abbrev pub invariant-loop-placed : goal.invariant-loop-placed

@@ -1,7 +1,4 @@
-use Rattle.std.proofs.Common.{List, subst}
-use Rattle.std.proofs.lemmas.Result.{IfOk-weaker}
-use Rattle.unit_loads.proofs.Prelude.{Entry, EvaluatesTo, HasSettings, PathParts, unit_of_parts}
-use Rattle.unit_loads.proofs.{Borrowed.AreHeld, Borrowed.drop_ins_borrowed, Borrowed.link_names_from, EvaluatesTo.has_settings}
+use Rattle.unit_loads.proofs.{Borrowed.{AreHeld, drop_ins_borrowed, link_names_from}, EvaluatesTo.{has_settings}, Prelude.{Entry, EvaluatesTo, HasSettings, IfOk-weaker, List, PathParts, subst, unit_of_parts}}
 use Rattle.unit_loads.proofs.found.UnitParts.of.Goals as goal
 
 pub returns : goal.returns

@@ -1,5 +1,5 @@
-use Rattle.std.proofs.Common.{◌++◌, ◌∙◌, ap, map}
-use Rattle.unit_loads.proofs.Prelude.{items_with, lists_with, refuses, rows_of, setting_notes, settings_of}
+use Rattle.std.proofs.Common.{◌++◌}
+use Rattle.unit_loads.proofs.Prelude.{ap, items_with, lists_with, map, refuses, rows_of, setting_notes, settings_of, ◌∙◌}
 use Rattle.unit_loads.specs.declared.units.UnitNote.TheVariants as note
 use Rattle.unit_loads.proofs.found.UnitParts.of_files.Goals as goal
 

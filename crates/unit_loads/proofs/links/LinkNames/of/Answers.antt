@@ -1,5 +1,4 @@
-use Rattle.std.proofs.Common.{List, subst, sym}
-use Rattle.unit_loads.proofs.Prelude.{AreLinksFrom, Name, Requires, Wants}
+use Rattle.unit_loads.proofs.Prelude.{AreLinksFrom, List, Name, Requires, subst, sym, Wants}
 use Rattle.unit_loads.proofs.links.LinkNames.of.Goals as goal
 
 pub returns : goal.returns

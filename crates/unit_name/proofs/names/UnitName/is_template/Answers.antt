@@ -1,4 +1,4 @@
-use Rattle.std.proofs.Common.{rules}
+use Rattle.unit_name.proofs.Prelude.{rules}
 use Rattle.unit_name.proofs.names.UnitName.is_template.Goals as goal
 
 pub returns-clause-template : goal.returns-clause-template

@@ -1,5 +1,4 @@
-use Rattle.std.proofs.Common.{◌∙◌, ap, is_some}
-use Rattle.unit_name.proofs.Prelude.{kind, made_of_name}
+use Rattle.unit_name.proofs.Prelude.{ap, is_some, kind, made_of_name, ◌∙◌}
 use Rattle.unit_name.proofs.names.UnitName.kind.Goals as goal
 
 pub unwrap-requires : goal.unwrap-requires

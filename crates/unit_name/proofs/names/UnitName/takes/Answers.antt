@@ -1,6 +1,5 @@
-use Rattle.std.proofs.Common.{◌&&◌, ◌-◌, ◌∙◌, ap, arith, leb, length, subst, sym}
-use Rattle.unit_name.proofs.Prelude.{IsName, name_short}
-use Rattle.unit_name.proofs.Steps.{takes_is}
+use Rattle.std.proofs.Common.{◌&&◌, ◌-◌}
+use Rattle.unit_name.proofs.{Prelude.{ap, arith, IsName, leb, length, name_short, subst, sym, ◌∙◌}, Steps.{takes_is}}
 use Rattle.unit_name.proofs.names.UnitName.takes.Goals as goal
 
 pub overflow_sub-result : goal.overflow_sub-result

@@ -1,6 +1,4 @@
-use Rattle.std.proofs.Common.{[], ◌∙◌, ap, subst}
-use Rattle.unit_name.proofs.Prelude.{instance_name, IsName, prefix, suffix}
-use Rattle.unit_name.proofs.Steps.{template_bytes}
+use Rattle.unit_name.proofs.{Prelude.{[], ap, instance_name, IsName, prefix, subst, suffix, ◌∙◌}, Steps.{template_bytes}}
 use Rattle.unit_name.proofs.names.UnitName.template_of.Goals as goal
 
 pub invariant_of-result : goal.invariant_of-result

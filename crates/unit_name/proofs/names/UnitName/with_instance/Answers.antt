@@ -1,6 +1,4 @@
-use Rattle.std.proofs.Common.{◌∙◌, ap, subst, sym}
-use Rattle.unit_name.proofs.Prelude.{instance_name, IsName, prefix, suffix}
-use Rattle.unit_name.proofs.Steps.{IsTakenName, taken}
+use Rattle.unit_name.proofs.{Prelude.{ap, instance_name, IsName, prefix, subst, suffix, sym, ◌∙◌}, Steps.{IsTakenName, taken}}
 use Rattle.unit_name.proofs.names.UnitName.with_instance.Goals as goal
 
 made : (c : goal.In_ok-bytes) → IsTakenName c.args.self.now c.args.instance.now c.in_ok-bytes.bytes

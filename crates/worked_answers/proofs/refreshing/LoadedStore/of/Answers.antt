@@ -1,5 +1,4 @@
-use Rattle.std.specs.Option.{option_copied}
-use Rattle.worked_answers.proofs.Loading.{own_load}
+use Rattle.worked_answers.proofs.{Loading.{own_load}, Prelude.{option_copied}}
 use Rattle.worked_answers.proofs.refreshing.LoadedStore.of.Goals as goal
 
 pub returns : goal.returns
