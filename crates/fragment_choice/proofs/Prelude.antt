@@ -4,5 +4,6 @@ pub use Rattle.join_law.specs.declared.versions.Version.{Version}
 pub use Rattle.list_laws.specs.{Insertions.{put_kept, put_sound, put_there}, Members.{IsAmong-append_cases, IsAmong-append_left, IsAmong-append_right}}
 pub use Rattle.load_places.specs.LevelLaws.{passed_over, said_there}
 pub use Rattle.path_maps.specs.Folders.{is_in}
-pub use Rattle.std.{proofs.{Common.{[], ap, arith, Bool, cond, drop, eq-eqb, Err, false, filter, get_or, IfOk, inl, inr, IsTrue, length, List, map, None, not, Ok, OnOk, Option, refl, Result, rules, Some, subst, suc, sym, take, true, unwrap_or, zero, ℕ, ◌∙◌}, lemmas.{Bool.{and_from, eqb-false, eqb-true}, List.{map-id, Sums.{suffix_len_is}, take_all, take_more}, Map.Iter.{iter_end}, Option.{none-some, same_Some}, Result.{IfOk-weaker, on_ok_weaker}}}, specs.{BTreeMap.{BTreeMap, get, is_at, Updates, UpdatesBy}, BTreeSet.{insert_key}, declared.cmp.Ordering.{Ordering, TheVariants.{Equal, Greater, Less}}, FinMap.Entries.{find}, Global.{Vec}, List.{Sorted.{IsStrictlySortedBy}, suffix_len}, Map.{lookup}, Option.{option_and_then, option_or}, Ordering.{is_eq}}}
+pub use Rattle.std.{proofs.{Common.{[], ap, arith, Bool, cond, drop, eq-eqb, Err, false, filter, get_or, IfOk, inl, inr, IsTrue, length, List, map, None, not, Ok, OnOk, Option, refl, Result, rules, Some, subst, suc, sym, take, true, unwrap_or, zero, ℕ, ◌∙◌}, lemmas.{Bool.{and_from, eqb-false, eqb-true}, List.{map-id, Sums.{suffix_len_is}, take_all, take_more}, Map.Iter.{iter_end}, Option.{none-some, same_Some}, Result.{IfOk-weaker, on_ok_weaker}}}, specs.{BTreeMap.{BTreeMap, get, is_at, Updates, UpdatesBy}, BTreeSet.{insert_key}, declared.cmp.Ordering.{Ordering, TheVariants.{Equal, Greater, Less}}, FinMap.Entries.{find}, Global.{Vec}, List.{suffix_len}, Map.{lookup}, Option.{option_and_then, option_or}, Ordering.{is_eq}}}
+unfoldable pub use Rattle.std.specs.List.Sorted.{IsStrictlySortedBy}
 pub use Rattle.unit_name.specs.NameLaws.{name_eq-Decides}

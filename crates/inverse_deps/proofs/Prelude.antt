@@ -4,4 +4,5 @@ pub use Rattle.inverse_deps.specs.{AdjacencyLaws.{adjacency_makes_the_edges, adj
 pub use Rattle.parallel_load.specs.{KeyLaws.{key_found}, Prelude.{among_from_contains, contains_from_among, in_byte_order, IsAt, name_eq-Decides, names_stay}, SameLaws.{first_true, same_by, second_true}}
 pub use Rattle.setting_rules.specs.OrderLaws.{names_ascend}
 pub use Rattle.sorted_pairs.specs.{PlaceLaws.{at_within, find_at, find_gap}, Places.{IsGap}}
-pub use Rattle.std.{proofs.{Common.{[], All, ap, arith, Bool, eqb, false, get_or, get_or-set_other, get_or-set_same, inl, inr, IsTrue, length, length-set, List, map, None, not, Option, refl, set, Some, subst, suc, sym, take, true, zero, ℕ, ◌∙◌}, lemmas.{Bool.{cases_eq, cases_lt, ne_eqb}, List.{Elements.{All-contains, All-nil, All-push, Contains-get_or}, get_or-map, get_or_past, length-map, map-append, map-set, take_all, take_more}, Option.{none-some}}}, specs.{Cmp.Lexicographic.{nat_list_cmp_total, pointwise}, declared.{alloc.Global.{Global}, vec.Vec.{Vec}}, FinMap.Entries.{find, is_sorted}, List.Sorted.{IsStrictlySortedBy}, Map.{keys_of}, Option.{option_and_then}, Ordering.{eq_by_cmp, nat_cmp}, Prelude.{slice_index_or}}}
+pub use Rattle.std.{proofs.{Common.{[], All, ap, arith, Bool, eqb, false, get_or, get_or-set_other, get_or-set_same, inl, inr, IsTrue, length, length-set, List, map, None, not, Option, refl, set, Some, subst, suc, sym, take, true, zero, ℕ, ◌∙◌}, lemmas.{Bool.{cases_eq, cases_lt, ne_eqb}, List.{Elements.{All-contains, All-nil, All-push, Contains-get_or}, get_or-map, get_or_past, length-map, map-append, map-set, take_all, take_more}, Option.{none-some}}}, specs.{Cmp.Lexicographic.{nat_list_cmp_total, pointwise}, declared.{alloc.Global.{Global}, vec.Vec.{Vec}}, FinMap.Entries.{find, is_sorted}, Map.{keys_of}, Option.{option_and_then}, Ordering.{eq_by_cmp, nat_cmp}, Prelude.{slice_index_or}}}
+unfoldable pub use Rattle.std.specs.List.Sorted.{IsStrictlySortedBy}
