@@ -19,14 +19,10 @@
 mod dirs;
 mod folder_lists;
 mod laws;
-mod link_names;
-mod orders;
 mod precedence;
 
 pub use dirs::{name_dirs, type_dirs};
-pub use folder_lists::{UnitFolders, folders};
+pub use folder_lists::{Folder, UnitFolders, folders, links, order, places_of};
 pub use laws::{
     folder_laws, host_laws, order_laws, over_laws, precedence_laws, type_folder_laws, type_laws,
 };
-pub use link_names::{Folder, links};
-pub use orders::{order, places_of};

@@ -1,6 +1,6 @@
 use Rattle.std.proofs.Common.{◌++◌, ◌+◌, ◌<◌, ◌∷◌, ◌≡◌}
 use Rattle.unit_graph.proofs.Prelude.{[], ap, arith, get_or, key_at_place, keys_of, length, List, map, map-append, Name, name_at, sym, take, take_all, take_more, ℕ, ◌∙◌}
-use Rattle.unit_graph.proofs.reaches.named_distances.Goals as goal
+use Rattle.unit_graph.proofs.graph.named_distances.Goals as goal
 
 pub loop-pair-init : goal.loop-pair-init
 loop-pair-init c = c.new-named.ensures.items

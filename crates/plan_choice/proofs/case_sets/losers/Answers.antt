@@ -1,7 +1,7 @@
 use Rattle.std.proofs.Common.{◌<◌, ◌↔◌, ◌≡◌}
 use Rattle.plan_choice.proofs.Prelude.{ap, arith, Bool, case_of, count_of, false, Global, IsAmong, IsLoser, IsMember, IsMember-none, IsMember-within, IsTrue, length, List, neighbors_of, SetsBits, subst, sym, true, Vec, ℕ, ◌∙◌}
-use Rattle.plan_choice.proofs.{ChoiceLemmas.{bits_of_neighbors, clean_again, loser_is, loser_was}, choices.losers.Goals.{else-lost, else-lost-via-else-lost, else-lost-via-then-lost+else-is_extra, then-lost+then-is_extra+in_ok-push}, Fitting.{neighbors_fits, untrue}, WeakDependencyLemmas.{listed_more, listed_still}}
-use Rattle.plan_choice.proofs.choices.losers.Goals as goal
+use Rattle.plan_choice.proofs.{case_sets.losers.Goals.{else-lost, else-lost-via-else-lost, else-lost-via-then-lost+else-is_extra, then-lost+then-is_extra+in_ok-push}, ChoiceLemmas.{bits_of_neighbors, clean_again, loser_is, loser_was}, Fitting.{neighbors_fits, untrue}, WeakDependencyLemmas.{listed_more, listed_still}}
+use Rattle.plan_choice.proofs.case_sets.losers.Goals as goal
 
 pub loop-unit-init : goal.loop-unit-init
 loop-unit-init c = record {

@@ -1,6 +1,6 @@
 use Rattle.std.proofs.Common.{◌↔◌, ◌≡◌}
 use Rattle.dropins.proofs.Prelude.{ap, borrowed_are_drop_ins, Contains, entry_place, file_name, host_view_of, HostViewMap, IfOk-weaker, IsDropInAt, IsDropInAtOf, IsStrictlySortedBy, List, map, Name, name_cmp, option_copied, PlaceParts, subst, sym, ◌∙◌}
-use Rattle.dropins.proofs.orders.order.Goals as goal
+use Rattle.dropins.proofs.folder_lists.order.Goals as goal
 
 pub returns-clause-ascending : goal.returns-clause-ascending
 returns-clause-ascending c =

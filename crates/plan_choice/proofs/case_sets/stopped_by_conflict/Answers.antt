@@ -1,7 +1,7 @@
 use Rattle.std.proofs.Common.{◌<◌}
 use Rattle.plan_choice.proofs.Prelude.{ap, arith, Global, IsAmong, IsLeast, IsMember, IsMember-within, nat_cmp, successors_from, sym, Vec, ℕ, ◌∙◌}
-use Rattle.plan_choice.proofs.{Fitting.{tested_none, tested_some, untrue}, plans.stopped_by_conflict.Goals.{else-is_outside, else-is_outside-via-else-is_outside, else-is_outside-via-then-is_outside+else-is_some, then-is_outside+then-is_some+in_ok-push}, WeakDependencyLemmas.{listed_more, listed_still}}
-use Rattle.plan_choice.proofs.plans.stopped_by_conflict.Goals as goal
+use Rattle.plan_choice.proofs.{case_sets.stopped_by_conflict.Goals.{else-is_outside, else-is_outside-via-else-is_outside, else-is_outside-via-then-is_outside+else-is_some, then-is_outside+then-is_some+in_ok-push}, Fitting.{tested_none, tested_some, untrue}, WeakDependencyLemmas.{listed_more, listed_still}}
+use Rattle.plan_choice.proofs.case_sets.stopped_by_conflict.Goals as goal
 
 pub least_member-requires : goal.least_member-requires
 least_member-requires c = record { successors = c.requires.conflicting; node = (let l = c.loop-unit-test.true in omega (arith, l, c.requires.units)) }

@@ -1,6 +1,6 @@
 use Rattle.std.proofs.Common.{◌<◌, ◌≡◌}
 use Rattle.plan_choice.proofs.{Fitting.{untrue}, Prelude.{among_from_contains, arith, Contains-get_or, contains_from_among, get_or, get_or_default, IsMember, refl, subst, sym, ◌∙◌}}
-use Rattle.plan_choice.proofs.choices.loses.Goals as goal
+use Rattle.plan_choice.proofs.case_sets.loses.Goals as goal
 
 pub returns : goal.returns
 returns c = (

@@ -1,6 +1,6 @@
 use Rattle.std.proofs.Common.{◌<◌, ◌↔◌, ◌≡◌}
 use Rattle.plan_choice.proofs.Prelude.{case_of, IsAmong, IsLoser, IsMember, length, ℕ}
-use Rattle.plan_choice.proofs.choices.losers.Given as goal
+use Rattle.plan_choice.proofs.case_sets.losers.Given as goal
 
 abbrev pub invariant-loop-unit : goal.invariant-loop-unit
 invariant-loop-unit l = record {

@@ -1,6 +1,6 @@
 use Rattle.std.proofs.Common.{◌↔◌}
 use Rattle.dropins.proofs.Prelude.{Contains, host_view_of, HostViewMap, IfOk-weaker, IsLinked, IsLinkedOf, List, Name, option_copied, subst}
-use Rattle.dropins.proofs.link_names.links.Goals as goal
+use Rattle.dropins.proofs.folder_lists.links.Goals as goal
 
 pub returns-clause-exact : goal.returns-clause-exact
 returns-clause-exact c =

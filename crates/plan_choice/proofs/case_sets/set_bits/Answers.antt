@@ -1,6 +1,6 @@
 use Rattle.std.proofs.Common.{◌<◌}
 use Rattle.plan_choice.proofs.{ChoiceLemmas.{SetsBits-more, SetsBits-none}, Prelude.{arith, get_or, length, SetsBits, subst, take_all, take_more}}
-use Rattle.plan_choice.proofs.choices.set_bits.Goals as goal
+use Rattle.plan_choice.proofs.case_sets.set_bits.Goals as goal
 
 pub loop-node-init : goal.loop-node-init
 loop-node-init c = SetsBits-none c.args.bits.now.items c.args.value
