@@ -1,5 +1,5 @@
 //! Works what stores answer: loads by one thread and by workers, their graphs, and whole scripts. It reads a call a line
-//! from standard input, and writes each line with its answers below it; then dialogues, of which it says whether they go on as told.
+//! from standard input, and writes each line with its answers below it; then dialogues, of which it says whether they go on as expected.
 //!
 //! Promise: memory is refused only where it is.
 //!
