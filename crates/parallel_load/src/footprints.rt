@@ -1,6 +1,7 @@
 //! Footprints: the first components of the paths that decide a unit.
-ghost use Rattle.std.specs.{Prelude.{◌≡◌, IfOk, IsSome}, List.Sorted.{IsStrictlySortedBy}};
+ghost use Rattle.std.specs.{Prelude.{◌≡◌, ◌++◌, IfOk, IsSome, OnOk}, List.Sorted.{IsStrictlySortedBy}};
 ghost use Rattle.unit_name.specs.Names.{name_cmp};
+ghost use Rattle.dropins.specs.{FolderLists.{with_template}, Taken.{dirs_with, ending, name_dirs, type_dirs}, declared.folder_lists.Folder.TheVariants.{Requires, Wants}};
 ghost use Rattle.unit_loads.specs.Footprints.{footprint};
 ghost use Rattle.parallel_load.specs.{Footprints.{IsFootprintIn}, Loads.{unit_in}};
 
@@ -36,15 +37,31 @@ pub(crate) fn parts_of(
 ) -> Result<Vec<Bytes>, AllocError>
     ensures parts { IfOk result (λ parts. parts.items ≡ footprint name.now names.now) }
 {
+    let mut parts = own_parts(alloc, name)?;
+    let names = folders(alloc, names)?;
+    append_dirs(alloc, &mut parts, &names)?;
+    Ok(parts)
+}
+
+// The components of a unit's own paths: its name, and the template of an instance.
+fn own_parts(alloc: Global, name: &UnitName) -> Result<Vec<Bytes>, AllocError>
+    ensures parts { IfOk result (λ parts. parts.items ≡ with_template name.now) }
+{
     let mut parts = Vec::new(alloc);
     parts.push(Bytes::from_slice(alloc, name.bytes())?)?;
     if let Some(template) = name.template_of()? {
         parts.push(Bytes::from_slice(alloc, template.bytes())?)?;
     }
-    let names = folders(alloc, names)?;
-    parts.append(&mut name_dirs(alloc, &names, b".d")?)?;
-    parts.append(&mut type_dirs(alloc, &names, b".d")?)?;
-    parts.append(&mut name_dirs(alloc, &names, b".wants")?)?;
-    parts.append(&mut name_dirs(alloc, &names, b".requires")?)?;
     Ok(parts)
+}
+
+// Appends the folders with these names.
+fn append_dirs(alloc: Global, parts: &mut Vec<Bytes>, names: &[UnitName]) -> Result<(), AllocError>
+    ensures appended { OnOk result (parts.new.items ≡ parts.old.items ++ (name_dirs names.now ++ (type_dirs names.now
+        ++ (dirs_with (ending Wants) names.now ++ dirs_with (ending Requires) names.now)))) }
+{
+    parts.append(&mut name_dirs(alloc, names, b".d")?)?;
+    parts.append(&mut type_dirs(alloc, names, b".d")?)?;
+    parts.append(&mut name_dirs(alloc, names, b".wants")?)?;
+    parts.append(&mut name_dirs(alloc, names, b".requires")?)
 }

@@ -126,26 +126,11 @@ impl Mains {
     ) -> Result<Normalized, AllocError>
         ensures one { IfOk result (λ one. one ≡ normalized_name self.now (name, OfUnit unit)) }
     {
-        let mut unit = unit;
-        let mut deps = Items::new(alloc);
-        let normalized = self.normalize_lists(alloc, &unit.name, unit.deps.as_slice(), &mut deps)?;
-        let deps = Shared::new(alloc, deps)?;
-        if unit.deps == normalized {
-            let unit = Shared::new(alloc, unit)?;
-            let lists = NamedLists::of_unit(unit.try_clone()?);
-            let load = NameLoad::Unit(unit);
-            return Ok(Normalized {
-                name,
-                load,
-                lists,
-                deps,
-            });
-        }
-        let lists = NamedLists::alone(alloc, mem::replace(&mut unit.deps, normalized))?;
-        let load = NameLoad::Unit(Shared::new(alloc, unit)?);
+        let (normalized, deps) = self.normalize_deps(alloc, &unit.name, unit.deps.as_slice())?;
+        let (unit, lists) = with_lists_apart(alloc, unit, normalized)?;
         Ok(Normalized {
             name,
-            load,
+            load: NameLoad::Unit(unit),
             lists,
             deps,
         })
@@ -161,21 +146,29 @@ impl Mains {
     ) -> Result<Normalized, AllocError>
         ensures one { IfOk result (λ one. one ≡ normalized_name self.now (name, with_lists (OfUnit unit) lists)) }
     {
-        let mut deps = Items::new(alloc);
-        let normalized = self.normalize_lists(
-            alloc,
-            &unit.get().name,
-            lists.as_slice(),
-            &mut deps,
-        )?;
-        let deps = Shared::new(alloc, deps)?;
-        let load = NameLoad::Unit(with_dependencies(alloc, unit, normalized)?);
+        let (normalized, deps) = self.normalize_deps(alloc, &unit.get().name, lists.as_slice())?;
+        let unit = with_dependencies(alloc, unit, normalized)?;
         Ok(Normalized {
             name,
-            load,
+            load: NameLoad::Unit(unit),
             lists,
             deps,
         })
+    }
+
+    // Dependency lists by main names, and the dependencies by indices.
+    fn normalize_deps(
+        &self,
+        alloc: Global,
+        unit: &UnitName,
+        lists: &[DependencyList],
+    ) -> Result<(Items<DependencyList>, Shared<Items<Dependency>>), AllocError>
+        ensures lists { IfOk result (λ made. made.0 ≡ map (list_normalized self.now unit.now) lists.now) }
+        ensures deps { IfOk result (λ made. made.1 ≡ flat_map (list_indices self.now unit.now) lists.now) }
+    {
+        let mut deps = Items::new(alloc);
+        let normalized = self.normalize_lists(alloc, unit, lists, &mut deps)?;
+        Ok((normalized, Shared::new(alloc, deps)?))
     }
 
     // Dependency lists by main names. Appends the dependencies by indices.
@@ -220,6 +213,25 @@ impl Mains {
             names: in_byte_order(mains),
         })
     }
+}
+
+// The unit with these dependencies, and the lists that it had before. It has them itself if they are the same.
+fn with_lists_apart(
+    alloc: Global,
+    unit: Unit,
+    deps: Items<DependencyList>,
+) -> Result<(Shared<Unit>, NamedLists), AllocError>
+    ensures unit { IfOk result (λ made. made.0 ≡ record unit { deps = deps }) }
+    ensures lists { IfOk result (λ made. made.1 ≡ unit.deps) }
+{
+    if unit.deps == deps {
+        let unit = Shared::new(alloc, unit)?;
+        let lists = NamedLists::of_unit(unit.try_clone()?);
+        return Ok((unit, lists));
+    }
+    let mut unit = unit;
+    let lists = NamedLists::alone(alloc, mem::replace(&mut unit.deps, deps))?;
+    Ok((Shared::new(alloc, unit)?, lists))
 }
 
 // The unit with these dependencies. It is the same shared unit if it has them already.

@@ -4,7 +4,7 @@ ghost use Rattle.path_maps.specs.HostViews.{host_view_of};
 ghost use Rattle.fragment_choice.specs.{Resolutions.{main}, UnitNames.{AreNames}};
 ghost use Rattle.unit_loads.specs.Units.{IsUnit};
 ghost use Rattle.parallel_load.specs.{LoadRows.{AreReadOrLeft, IsOwnUnit, IsReadAgain}, Patched.{AreUnitsOf, with_loads}};
-ghost use Rattle.parallel_load.specs.{Refreshes.{IsBefore}, Touched.{HasParts, KeepsLinkTargets}};
+ghost use Rattle.parallel_load.specs.{Normalized.{load_normalized}, Refreshes.{IsBefore}, Touched.{HasParts, KeepsLinkTargets}, declared.loaded.NameLoad.TheVariants.{Unit as OfUnit}};
 
 use crate::affected_units::indices_affected;
 use crate::kept::{NamedLists, RawLoad};
@@ -91,9 +91,21 @@ fn unit_again(
     if unit.deps.as_slice() != lists.as_slice() {
         return Ok(None);
     }
+    Ok(Some(normalized_unit(alloc, mains, name, unit)?))
+}
+
+// What a name resolves to with a unit that was read for it, whose dependencies become main names.
+fn normalized_unit(
+    alloc: Global,
+    mains: &Mains,
+    name: &UnitName,
+    unit: Unit,
+) -> Result<NameLoad, AllocError>
+    ensures load { IfOk result (λ load. load ≡ load_normalized mains.now (OfUnit unit)) }
+{
     let kept = RawLoad::fresh(alloc, unit)?;
     let normalized = mains.normalize(alloc, name.try_clone()?, kept)?;
-    Ok(Some(normalized.load))
+    Ok(normalized.load)
 }
 
 // The unit of a main name, with the names that it had.

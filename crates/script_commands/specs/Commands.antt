@@ -92,6 +92,15 @@ question_of verb words =
     else (if bytes_eq verb (codes "crowd") then crowd_command words
     else unit_question_of verb words)))
 
+-- the first word names the command, which brings to one node what another holds, or changes none
+abbrev pub exchange_of : List ℕ → List (List ℕ) → Result Command LineRefusal
+exchange_of verb words =
+    if bytes_eq verb (codes "merge") then with_two_names Merge words
+    else (if bytes_eq verb (codes "part") then part_command words
+    else (if bytes_eq verb (codes "send") then with_two_names Send words
+    else (if bytes_eq verb (codes "sweep") then sweep_command words
+    else question_of verb words)))
+
 -- the first word names the command; the text is everything after two more words and one space
 abbrev pub change_of : List ℕ → List (List ℕ) → List ℕ → Result Command LineRefusal
 change_of verb words text =
@@ -99,11 +108,7 @@ change_of verb words text =
     else (if bytes_eq verb (codes "put") then put_command words text
     else (if bytes_eq verb (codes "link") then link_command words
     else (if bytes_eq verb (codes "remove") then with_name_and_word Remove words
-    else (if bytes_eq verb (codes "merge") then with_two_names Merge words
-    else (if bytes_eq verb (codes "part") then part_command words
-    else (if bytes_eq verb (codes "send") then with_two_names Send words
-    else (if bytes_eq verb (codes "sweep") then sweep_command words
-    else question_of verb words)))))))
+    else exchange_of verb words)))
 
 -- the command of a line with these words
 abbrev pub command_of_words : List (List ℕ) → List ℕ → Result Command LineRefusal

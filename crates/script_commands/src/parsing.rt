@@ -1,7 +1,7 @@
 //! Parsing a line into a command.
 ghost use Rattle.std.specs.{Prelude.{◌≡◌}, Str.{bytes_eq}};
 ghost use Rattle.script_words.specs.Words.{words_of, text_after};
-ghost use Rattle.script_commands.specs.Commands.{change_of, command_of, question_of, unit_question_of};
+ghost use Rattle.script_commands.specs.Commands.{change_of, command_of, exchange_of, question_of, unit_question_of};
 
 use crate::commands::{Command, LineRefusal};
 use crate::fields::Fields;
@@ -43,7 +43,16 @@ fn change<'a>(verb: &[u8], mut fields: Fields<'a>) -> Result<Command<'a>, LineRe
             node: fields.name()?,
             place: fields.last_word()?,
         })
-    } else if is_same(verb, b"merge") {
+    } else {
+        exchange(verb, fields)
+    }
+}
+
+// Returns the command that this word begins, if it isn't about one node alone, or changes none.
+fn exchange<'a>(verb: &[u8], mut fields: Fields<'a>) -> Result<Command<'a>, LineRefusal>
+    ensures command { result ≡ exchange_of verb.now (words_of fields.entry) }
+{
+    if is_same(verb, b"merge") {
         Ok(Command::Merge {
             from: fields.name()?,
             to: fields.last_name()?,

@@ -1,4 +1,5 @@
 //! A loaded unit.
+ghost use Rattle.std.specs.Prelude.{◌≡◌, IfOk};
 
 use fragment_choice::Cause;
 use plain_values::{Items, TryClone};
@@ -75,15 +76,43 @@ pub struct Unit {
 /// Returns an equal unit, whose texts share their bytes. Linear in its lists.
 impl TryClone for Unit {
     fn try_clone(&self) -> Result<Unit, AllocError> {
+        let (name, names, status) = self.identity()?;
+        let (dropins, values) = self.contents()?;
+        let (deps, notes) = self.findings()?;
         Ok(Unit {
-            name: self.name.try_clone()?,
-            names: self.names.try_clone()?,
-            status: self.status.try_clone()?,
-            dropins: self.dropins.try_clone()?,
-            values: self.values.try_clone()?,
-            deps: self.deps.try_clone()?,
-            notes: self.notes.try_clone()?,
+            name,
+            names,
+            status,
+            dropins,
+            values,
+            deps,
+            notes,
             manual: self.manual,
         })
+    }
+}
+
+// Copies of the parts of a unit, a few at a time, so that few are given up where memory runs out.
+impl Unit {
+    fn identity(&self) -> Result<(UnitName, Items<UnitName>, Status), AllocError>
+        ensures copies { IfOk result (λ copies. copies ≡ (self.now.name, self.now.names, self.now.status)) }
+    {
+        let name = self.name.try_clone()?;
+        let names = self.names.try_clone()?;
+        Ok((name, names, self.status.try_clone()?))
+    }
+
+    fn contents(&self) -> Result<(Items<Place>, Items<Row>), AllocError>
+        ensures copies { IfOk result (λ copies. copies ≡ (self.now.dropins, self.now.values)) }
+    {
+        let dropins = self.dropins.try_clone()?;
+        Ok((dropins, self.values.try_clone()?))
+    }
+
+    fn findings(&self) -> Result<(Items<DependencyList>, Items<UnitNote>), AllocError>
+        ensures copies { IfOk result (λ copies. copies ≡ (self.now.deps, self.now.notes)) }
+    {
+        let deps = self.deps.try_clone()?;
+        Ok((deps, self.notes.try_clone()?))
     }
 }

@@ -1,4 +1,4 @@
-use Rattle.parallel_load.proofs.{Keeping.{lists_same}, Prelude.{ap, load_normalized, Normalized, sym, ◌∙◌}, UnitsPut.{not_false}}
+use Rattle.parallel_load.proofs.{Keeping.{lists_same}, Prelude.{sym, ◌∙◌}, UnitsPut.{not_false}}
 use Rattle.parallel_load.proofs.patching.unit_again.Goals as goal
 
 pub read_unit-requires-clause-main : goal.read_unit-requires-clause-main
@@ -12,6 +12,6 @@ returns c = record {
     unit = c.in_ok-unit.unit;
     is_unit = c.in_ok-unit.ensures.unit;
     names_stay = sym c.as_slice.ensures.elements ∙ lists_same c.as_slice.result.now c.as_slice-2.result.now (not_false _ (sym c.ne.ensures ∙ c.if-ne.false)) ∙ c.as_slice-2.ensures.lists;
-    is = ap (λ (r : Normalized). r.load) c.in_ok-normalized.ensures.one ∙ ap (load_normalized c.args.mains.now) c.in_ok-kept.ensures.kept;
+    is = c.in_ok-normalized_unit.ensures.load;
   };
 }
