@@ -1,12 +1,13 @@
 //! Cursors over the entries of a store in place order: by scope, and within each scope by path.
-ghost use Rattle.std.specs.{Prelude.{◌≡◌, ◌∷◌, [], map, IfOk, MatchOption}, List.{flat_map}, Option.{option_copied}};
+ghost use Rattle.std.specs.{Prelude.{◌≡◌, ◌∷◌, [], map, IfOk, MatchOption}, Option.{option_copied}};
 ghost use Rattle.load_places.specs.Places.{place_cmp};
 ghost use Rattle.edit_sums.specs.Sums.{shown};
-ghost use Rattle.path_maps.specs.{Cursors.{left_of}, Kept.{HasWellFormedPaths}, PlaceMaps.{all_listed, placed}, Scopes.{within}};
+ghost use Rattle.path_maps.specs.{Kept.{HasWellFormedPaths}, PlaceMaps.{all_listed, placed}, Scopes.{within}};
 
-use crate::cursors::{Cursor, Nested};
+use crate::by_scope::{Places, places_of, places_of_scope};
+use crate::cursors::Cursor;
 use crate::entries::{PathEntries, PathEntry};
-use crate::stores::{RankMap, ScopeMap};
+use crate::stores::ScopeMap;
 use edit_sums::{Content, Entry};
 use load_places::{Place, Scope};
 use plain_values::Bytes;
@@ -97,83 +98,21 @@ impl<'a> Placed<'a> {
     }
 }
 
-// A cursor over the entries of a scope.
-#[derive(Drop)]
-struct ScopeLeft<'a> {
-    scope: &'a Scope,
-    entries: PathEntries<'a>,
-}
-
-impl<'a> Model for ScopeLeft<'a> {
-    ghost use Rattle.std.specs.Prelude.{List};
-    ghost use Rattle.load_places.specs.Places.{PlaceParts};
-    ghost use Rattle.edit_sums.specs.Entries.{Entry};
-    ghost use Rattle.path_maps.specs.PlaceMaps.{placed};
-
-    ghost Value = { List (PlaceParts × Entry) };
-
-    ghost view = { λ s. placed s.scope.now s.entries };
-}
-
-impl<'a> Cursor<Placed<'a>> for ScopeLeft<'a> {
-    ghost left = { λ s. s };
-
-    #[inline(always)]
-    fn next(&mut self) -> Option<Placed<'a>> {
-        let entry = self.entries.next_entry()?;
-        let scope = self.scope;
-        Some(Placed::new(scope, entry))
-    }
-}
-
-// A cursor over scopes.
-#[derive(Drop)]
-struct ScopesLeft<'a> {
-    scopes: &'a [(Scope, RankMap)],
-}
-
-impl<'a> Model for ScopesLeft<'a> {
-    ghost use Rattle.std.specs.Prelude.{List};
-    ghost use Rattle.load_places.specs.Places.{PlaceParts};
-    ghost use Rattle.edit_sums.specs.Entries.{Entry};
-    ghost use Rattle.path_maps.specs.{Cursors.{by_scope}, Kept.{HasWellFormedPaths}};
-
-    ghost Value = { List (List (PlaceParts × Entry)) };
-
-    ghost view = { λ s. by_scope s.scopes.now };
-
-    ghost invariant = { λ s. HasWellFormedPaths s.scopes.now };
-}
-
-impl<'a> Cursor<ScopeLeft<'a>> for ScopesLeft<'a> {
-    ghost left = { λ s. s };
-
-    fn next(&mut self) -> Option<ScopeLeft<'a>> {
-        let ((scope, ranks), rest) = self.scopes.split_first()?;
-        self.scopes = rest;
-        Some(ScopeLeft {
-            scope,
-            entries: PathEntries::of_ranks(ranks),
-        })
-    }
-}
-
 /// A cursor over the entries of a store, in place order.
 #[derive(Drop)]
 pub struct Entries<'a> {
-    // Nested: entries within scopes.
-    entries: Nested<ScopeLeft<'a>, ScopesLeft<'a>>,
+    entries: Places<'a, (), (), (), (), ()>,
 }
 
 impl<'a> Model for Entries<'a> {
-    ghost use Rattle.std.specs.Prelude.{List};
+    ghost use Rattle.std.specs.Prelude.{List, map};
     ghost use Rattle.load_places.specs.Places.{PlaceParts};
     ghost use Rattle.edit_sums.specs.Entries.{Entry};
     ghost use Rattle.path_maps.specs.Cursors.{left_of};
 
     ghost Value = { List (PlaceParts × Entry) };
 
-    ghost view = { λ e. left_of e.entries.inner e.entries.outer };
+    ghost view = { λ e. map (λ p. p.0) (left_of e.entries.inner e.entries.outer) };
 }
 
 impl<'a> Entries<'a> {
@@ -182,12 +121,8 @@ impl<'a> Entries<'a> {
         requires paths { HasWellFormedPaths scopes.now }
         ensures entries { result ≡ all_listed scopes.now }
     {
-        let scopes = scopes.pairs();
         Entries {
-            entries: Nested {
-                inner: None,
-                outer: ScopesLeft { scopes },
-            },
+            entries: places_of(scopes, ()),
         }
     }
 
@@ -196,10 +131,7 @@ impl<'a> Entries<'a> {
         ensures entries { result ≡ placed scope.now entries.entry }
     {
         Entries {
-            entries: Nested {
-                inner: Some(ScopeLeft { scope, entries }),
-                outer: ScopesLeft { scopes: &[] },
-            },
+            entries: places_of_scope(scope, entries.entries),
         }
     }
 
@@ -207,7 +139,8 @@ impl<'a> Entries<'a> {
     pub fn next_entry(&mut self) -> Option<Placed<'a>>
         ensures first { MatchOption result ((self.old ≡ []) × (self.new ≡ [])) (λ placed. self.old ≡ placed ∷ self.new) }
     {
-        self.entries.next()
+        let (placed, ()) = self.entries.next()?;
+        Some(placed)
     }
 
     /// Returns the places of all entries that are left. Fails only if memory runs out. Copies no bytes.
