@@ -1,6 +1,6 @@
 -- What cursors read from nested maps.
 use Rattle.std.proofs.Common.{◌++◌, ◌∷◌, ◌≡◌}
-use Rattle.path_maps.proofs.Prelude.{[], all_listed, AllByRecursion, AllHeld, AllKeys, and_parts, ap, At, at_name, below_all, beside_path, Content, content_cmp, Entry, flat_map, flat_map-append, FolderMap, folders_read, in_folder, in_rank, in_scope, is_less, is_sorted, IsHeldAt, IsMap, IsPath, IsReadable, IsTrue, IsUpTo, Less, List, listed, map, map-append, NameMap, names_read, Never, never_least, Ordering, path_at, PathParts, placed, PlaceParts, RankMap, ranks_read, refl, Scope, scope_read, ScopeMap, scopes_read, spread, subst, sym, Versioned, within, zipped, ℕ, ◌∙◌}
+use Rattle.path_maps.proofs.Prelude.{[], all_listed, AllByRecursion, AllHeld, AllKeys, and_parts, ap, At, below_all, beside_path, content_cmp, Entry, flat_map, flat_map-append, FolderMap, folders_read, in_folder, in_rank, in_scope, is_less, is_sorted, IsHeldAt, IsMap, IsPath, IsReadable, IsTrue, IsUpTo, Less, List, listed, map, map-append, NameMap, names_read, Never, never_least, Ordering, path_at, PathParts, PlaceParts, RankMap, ranks_read, refl, Scope, scope_read, ScopeMap, scopes_read, spread, subst, sym, within, zipped, ℕ, ◌∙◌}
 use Rattle.path_maps.proofs.LeftAfter.{back_keys, prefix_keys}
 
 -- ---- after the first item
@@ -42,10 +42,6 @@ names_held rank folder ((name, At x) ∷ es) held paths = (paths.0, names_held r
 pub keys_with : {K H : Type 0} (held : K → H) (es : List (K × Entry)) → map (λ p. p.0) (zipped held es) ≡ es
 keys_with held [] = refl
 keys_with held (e ∷ es) = ap (λ l. e ∷ l) (keys_with held es)
-
-pub scope_keys : {H : Type 0} (scope : Scope) (es : List ((PathParts × Entry) × H)) → map (λ p. p.0) (scope_read scope es) ≡ placed scope (map (λ p. p.0) es)
-scope_keys scope [] = refl
-scope_keys scope (e ∷ es) = ap (λ l. (within scope e.0.0, e.0.1) ∷ l) (scope_keys scope es)
 
 module _ {H : Type 0} (held : ℕ → List ℕ → List ℕ → H) where
   pub names_zipped : (rank : ℕ) (folder : List ℕ) (names : NameMap) → names_read (held rank folder) rank folder names ≡ zipped (beside_path held) (in_folder rank folder names)

@@ -13,18 +13,23 @@ use plain_values::Bytes;
 use std::marker::Model;
 
 /// What is held beside a map whose keys are read in ascending order.
-pub trait Beside<K: Ord, H>: Drop {
+pub trait Beside<K: Ord>: Drop {
+    /// What is held at a key.
+    type Held;
+
     // What is held at a key.
-    ghost held: { Self → K → H };
+    ghost held: { Self → K → Self.Held };
 
     /// Returns what is held at a key. What is held at greater keys stays the same.
-    fn meet(&mut self, key: &K) -> H
+    fn meet(&mut self, key: &K) -> Self::Held
         ensures held { result ≡ held self.old key.now }
         ensures later { (k : K) → K.cmp key.now k ≡ Less → held self.new k ≡ held self.old k };
 }
 
 // Nothing is held beside a map that is read alone.
-impl<K: Ord> Beside<K, ()> for () {
+impl<K: Ord> Beside<K> for () {
+    type Held = ();
+
     ghost held = { λ _ _. tt };
 
     #[inline(always)]
@@ -75,7 +80,9 @@ impl<'a, V: Join> Others<'a, V> {
     }
 }
 
-impl<'a> Beside<Bytes, HeldEntry<'a>> for Others<'a, Versioned<Content>> {
+impl<'a> Beside<Bytes> for Others<'a, Versioned<Content>> {
+    type Held = HeldEntry<'a>;
+
     ghost held = { λ o name. written_at (find bytes_cmp name o) };
 
     #[inline(always)]
@@ -90,7 +97,9 @@ impl<'a> Beside<Bytes, HeldEntry<'a>> for Others<'a, Versioned<Content>> {
     }
 }
 
-impl<'a> Beside<Bytes, Others<'a, Versioned<Content>>> for Others<'a, NameMap> {
+impl<'a> Beside<Bytes> for Others<'a, NameMap> {
+    type Held = Others<'a, Versioned<Content>>;
+
     ghost held = { λ o folder. or_empty (find bytes_cmp folder o) };
 
     #[inline(always)]
@@ -117,7 +126,9 @@ impl<'a> Model for OtherRanks<'a> {
     ghost view = { λ o. or_empty (option_copied o.ranks) };
 }
 
-impl<'a> Beside<u8, Others<'a, NameMap>> for OtherRanks<'a> {
+impl<'a> Beside<u8> for OtherRanks<'a> {
+    type Held = Others<'a, NameMap>;
+
     ghost held = { λ o rank. or_empty (find nat_cmp rank o) };
 
     fn meet(&mut self, key: &u8) -> Others<'a, NameMap> {
@@ -134,7 +145,9 @@ pub struct OtherScopes<'a> {
     pub scopes: &'a ScopeMap,
 }
 
-impl<'a> Beside<Scope, OtherRanks<'a>> for OtherScopes<'a> {
+impl<'a> Beside<Scope> for OtherScopes<'a> {
+    type Held = OtherRanks<'a>;
+
     ghost held = { λ o scope. ranks_of o.scopes.now scope };
 
     fn meet(&mut self, key: &Scope) -> OtherRanks<'a> {

@@ -2,7 +2,7 @@
 ghost use Rattle.std.specs.{Prelude.{◌≡◌, ◌∷◌, []}, List.{flat_map}, Ordering.{nat_cmp}};
 ghost use Rattle.std.specs.declared.cmp.Ordering.TheVariants.{Less};
 ghost use Rattle.load_path.specs.Paths.{IsPath};
-ghost use Rattle.path_maps.specs.Cursors.{beside_path, folders_read, IsHeldAt, left_of, names_read, or_nothing};
+ghost use Rattle.path_maps.specs.Cursors.{beside_path, folders_read, IsHeldAt, left_of, names_read};
 ghost use Rattle.path_maps.specs.{Folders.{path_at}, PathMaps.{at_name, bytes_cmp, in_folder, in_rank, listed}, Spread.{AllKeys}, Zipped.{zipped}};
 
 use crate::beside::Beside;
@@ -14,35 +14,17 @@ use edit_sums::Content;
 use join_law::Versioned;
 use plain_values::Bytes;
 
-/// A cursor over the names of a folder. Beside each is an `H`.
-pub type Names<'a, H, N> = Level<
-    Pair<'a, Bytes, Versioned<Content>>,
-    (PathEntry<'a>, H),
-    Pairs<'a, Bytes, Versioned<Content>>,
-    InFolder<'a, N>,
->;
+/// A cursor over the names of a folder.
+pub type Names<'a, N> = Level<Pairs<'a, Bytes, Versioned<Content>>, InFolder<'a, N>>;
 
-/// A cursor over the folders of a rank. Beside each is an `N`.
-pub type Folders<'a, H, N, F> = Level<
-    Pair<'a, Bytes, NameMap>,
-    Names<'a, H, N>,
-    Pairs<'a, Bytes, NameMap>,
-    InRank<F>,
->;
+/// A cursor over the folders of a rank.
+pub type Folders<'a, F> = Level<Pairs<'a, Bytes, NameMap>, InRank<F>>;
 
-/// A cursor over ranks. Beside each is an `F`.
-pub type Ranks<'a, H, N, F, R> = Level<
-    Pair<'a, u8, FolderMap>,
-    Folders<'a, H, N, F>,
-    Pairs<'a, u8, FolderMap>,
-    InRanks<R>,
->;
+/// A cursor over ranks.
+pub type Ranks<'a, R> = Level<Pairs<'a, u8, FolderMap>, InRanks<R>>;
 
 /// A cursor over the entries of all ranks, in path order.
-pub type Paths<'a, H, N, F, R> = Nested<
-    Names<'a, H, N>,
-    Nested<Folders<'a, H, N, F>, Ranks<'a, H, N, F, R>>,
->;
+pub type Paths<'a, N, F, R> = Nested<Names<'a, N>, Nested<Folders<'a, F>, Ranks<'a, R>>>;
 
 /// Reads the names of a folder.
 #[derive(Drop)]
@@ -52,8 +34,9 @@ pub struct InFolder<'a, N> {
     others: N,
 }
 
-impl<'a, H, N: Beside<Bytes, H>> Reading<Pair<'a, Bytes, Versioned<Content>>, (PathEntry<'a>, H)>
-    for InFolder<'a, N> {
+impl<'a, N: Beside<Bytes>> Reading<Pair<'a, Bytes, Versioned<Content>>> for InFolder<'a, N> {
+    type Read = (PathEntry<'a>, N::Held);
+
     ghost can = { λ s p. IsHeldAt (path_at s.rank s.folder.now p.0) p.1 };
 
     ghost before = { λ p q. bytes_cmp p.0 q.0 ≡ Less };
@@ -61,7 +44,7 @@ impl<'a, H, N: Beside<Bytes, H>> Reading<Pair<'a, Bytes, Versioned<Content>>, (P
     ghost part = { λ s p. zipped (λ _. N.held s.others p.0) (at_name s.rank s.folder.now p.0 p.1) };
 
     #[inline(always)]
-    fn read(&mut self, item: Pair<'a, Bytes, Versioned<Content>>) -> (PathEntry<'a>, H) {
+    fn read(&mut self, item: Pair<'a, Bytes, Versioned<Content>>) -> (PathEntry<'a>, N::Held) {
         let Pair { key: name, value } = item;
         let Some(entry) = value.entry() else {
             unreachable!()
@@ -78,10 +61,10 @@ pub struct InRank<F> {
     others: F,
 }
 
-impl<'a, H, N: Beside<Bytes, H>, F: Beside<Bytes, N>> Reading<
-    Pair<'a, Bytes, NameMap>,
-    Names<'a, H, N>,
-> for InRank<F> {
+impl<'a, N: Beside<Bytes>, F: Beside<Bytes, Held = N>> Reading<Pair<'a, Bytes, NameMap>>
+    for InRank<F> {
+    type Read = Names<'a, N>;
+
     ghost can = { λ s p. AllKeys IsPath (in_folder s.rank p.0 p.1) };
 
     ghost before = { λ p q. bytes_cmp p.0 q.0 ≡ Less };
@@ -89,12 +72,8 @@ impl<'a, H, N: Beside<Bytes, H>, F: Beside<Bytes, N>> Reading<
     ghost part = { λ s p. names_read (N.held (F.held s.others p.0)) s.rank p.0 p.1 ∷ [] };
 
     #[inline(always)]
-    fn read(&mut self, item: Pair<'a, Bytes, NameMap>) -> Names<'a, H, N> {
-        let Pair {
-            key: folder,
-            value: names,
-        } = item;
-        names_of(self.rank, folder, names, self.others.meet(folder))
+    fn read(&mut self, item: Pair<'a, Bytes, NameMap>) -> Names<'a, N> {
+        names_of(self.rank, item.key, item.value, self.others.meet(item.key))
     }
 }
 
@@ -104,10 +83,11 @@ pub struct InRanks<R> {
     others: R,
 }
 
-impl<'a, H, N: Beside<Bytes, H>, F: Beside<Bytes, N>, R: Beside<u8, F>> Reading<
+impl<'a, N: Beside<Bytes>, F: Beside<Bytes, Held = N>, R: Beside<u8, Held = F>> Reading<
     Pair<'a, u8, FolderMap>,
-    Folders<'a, H, N, F>,
 > for InRanks<R> {
+    type Read = Folders<'a, F>;
+
     ghost can = { λ _ p. AllKeys IsPath (in_rank p.0 p.1) };
 
     ghost before = { λ p q. nat_cmp p.0 q.0 ≡ Less };
@@ -115,45 +95,39 @@ impl<'a, H, N: Beside<Bytes, H>, F: Beside<Bytes, N>, R: Beside<u8, F>> Reading<
     ghost part = { λ s p. folders_read (λ f. N.held (F.held (R.held s.others p.0) f)) p.0 p.1 ∷ [] };
 
     #[inline(always)]
-    fn read(&mut self, item: Pair<'a, u8, FolderMap>) -> Folders<'a, H, N, F> {
-        let Pair {
-            key,
-            value: folders,
-        } = item;
-        let others = self.others.meet(key);
-        let rank = *key as usize;
-        let left = folders.pairs();
+    fn read(&mut self, item: Pair<'a, u8, FolderMap>) -> Folders<'a, F> {
+        let others = self.others.meet(item.key);
+        let rank = *item.key as usize;
+        let left = item.value.pairs();
         Level::new(Pairs { left }, InRank { rank, others })
     }
 }
 
 /// Returns a cursor over the names of a folder with valid paths.
 #[inline(always)]
-pub fn names_of<'a, H, N: Beside<Bytes, H>>(
+pub fn names_of<'a, N: Beside<Bytes>>(
     rank: usize,
     folder: &'a Bytes,
     names: &'a NameMap,
     others: N,
-) -> Names<'a, H, N>
+) -> Names<'a, N>
     requires paths { AllKeys IsPath (in_folder rank folder.now names.now) }
     ensures names { result ≡ names_read (N.held others) rank folder.now names.now }
 {
     let left = names.pairs();
-    Level::new(
-        Pairs { left },
-        InFolder {
-            rank,
-            folder,
-            others,
-        },
-    )
+    let reading = InFolder {
+        rank,
+        folder,
+        others,
+    };
+    Level::new(Pairs { left }, reading)
 }
 
 /// Returns a cursor over the entries of nested maps with valid paths.
-pub fn paths_of<'a, H, N: Beside<Bytes, H>, F: Beside<Bytes, N>, R: Beside<u8, F>>(
+pub fn paths_of<'a, N: Beside<Bytes>, F: Beside<Bytes, Held = N>, R: Beside<u8, Held = F>>(
     ranks: &'a RankMap,
     others: R,
-) -> Paths<'a, H, N, F, R>
+) -> Paths<'a, N, F, R>
     requires paths { AllKeys IsPath (listed ranks.now) }
     ensures entries { left_of result.inner (left_of result.outer.inner result.outer.outer)
         ≡ zipped (beside_path (λ r f. N.held (F.held (R.held others r) f))) (listed ranks.now) }
@@ -164,19 +138,6 @@ pub fn paths_of<'a, H, N: Beside<Bytes, H>, F: Beside<Bytes, N>, R: Beside<u8, F
         outer: Nested {
             inner: None,
             outer: Level::new(Pairs { left }, InRanks { others }),
-        },
-    }
-}
-
-/// Returns a cursor over the names of a folder, if there is one, and over no others.
-pub fn paths_of_folder<'a>(names: Option<Names<'a, (), ()>>) -> Paths<'a, (), (), (), ()>
-    ensures entries { left_of result.inner (left_of result.outer.inner result.outer.outer) ≡ or_nothing names.entry }
-{
-    Nested {
-        inner: names,
-        outer: Nested {
-            inner: None,
-            outer: Level::new(Pairs { left: &[] }, InRanks { others: () }),
         },
     }
 }

@@ -4,8 +4,8 @@ ghost use Rattle.load_path.specs.Paths.{IsPath, path_cmp};
 ghost use Rattle.path_maps.specs.{Cursors.{or_nothing}, Folders.{path_at}, PathMaps.{in_folder}, Spread.{AllKeys}};
 ghost use Rattle.edit_sums.specs.Sums.{shown};
 
-use crate::by_rank::{Paths, names_of, paths_of_folder};
-use crate::cursors::Cursor;
+use crate::by_rank::{Names, names_of};
+use crate::cursors::next_of;
 use crate::stores::NameMap;
 use edit_sums::{Content, Entry};
 use load_path::Path;
@@ -101,21 +101,21 @@ impl<'a> PathEntry<'a> {
     }
 }
 
-/// A cursor over the entries of a scope, in path order.
+/// A cursor over the entries of a folder, in path order.
 #[derive(Drop)]
 pub struct PathEntries<'a> {
-    pub(crate) entries: Paths<'a, (), (), (), ()>,
+    names: Option<Names<'a, ()>>,
 }
 
 impl<'a> Model for PathEntries<'a> {
     ghost use Rattle.std.specs.Prelude.{List, map};
     ghost use Rattle.load_path.specs.Paths.{PathParts};
     ghost use Rattle.edit_sums.specs.Entries.{Entry};
-    ghost use Rattle.path_maps.specs.Cursors.{left_of};
+    ghost use Rattle.path_maps.specs.Cursors.{or_nothing};
 
     ghost Value = { List (PathParts × Entry) };
 
-    ghost view = { λ e. map (λ p. p.0) (left_of e.entries.inner (left_of e.entries.outer.inner e.entries.outer.outer)) };
+    ghost view = { λ e. map (λ p. p.0) (or_nothing e.names) };
 }
 
 impl<'a> PathEntries<'a> {
@@ -123,9 +123,7 @@ impl<'a> PathEntries<'a> {
     pub(crate) fn none() -> Self
         ensures entries { result ≡ [] }
     {
-        PathEntries {
-            entries: paths_of_folder(None),
-        }
+        PathEntries { names: None }
     }
 
     // Returns a cursor over the entries of a folder with valid paths, or over none where there is no folder.
@@ -137,16 +135,14 @@ impl<'a> PathEntries<'a> {
             return PathEntries::none();
         };
         let names = names_of(rank as usize, folder, names, ());
-        PathEntries {
-            entries: paths_of_folder(Some(names)),
-        }
+        PathEntries { names: Some(names) }
     }
 
     /// Takes the next entry, if one is left. O(1). Allocates nothing.
     pub fn next_entry(&mut self) -> Option<PathEntry<'a>>
         ensures first { MatchOption result ((self.old ≡ []) × (self.new ≡ [])) (λ placed. self.old ≡ placed ∷ self.new) }
     {
-        let (entry, ()) = self.entries.next()?;
+        let (entry, ()) = next_of(&mut self.names)?;
         Some(entry)
     }
 }

@@ -3,7 +3,7 @@ ghost use Rattle.std.specs.{Prelude.{◌≡◌, ◌∷◌, [], List}, List.{flat
 ghost use Rattle.path_maps.specs.Cursors.{IsReadable};
 
 use crate::cursors::Cursor;
-use std::marker::{Model, PhantomData};
+use std::marker::Model;
 
 /// A borrowed pair of a map.
 #[derive(Drop)]
@@ -27,7 +27,9 @@ pub struct Pairs<'a, K, V> {
     pub left: &'a [(K, V)],
 }
 
-impl<'a, K, V> Cursor<Pair<'a, K, V>> for Pairs<'a, K, V> {
+impl<'a, K, V> Cursor for Pairs<'a, K, V> {
+    type Item = Pair<'a, K, V>;
+
     ghost left = { λ p. p.left.now };
 
     #[inline(always)]
@@ -39,7 +41,10 @@ impl<'a, K, V> Cursor<Pair<'a, K, V>> for Pairs<'a, K, V> {
 }
 
 /// Reads something from each of the items that it is given in ascending order.
-pub trait Reading<P, T>: Drop {
+pub trait Reading<P>: Drop {
+    /// What it reads.
+    type Read;
+
     // Whether it can read an item.
     ghost can: { Self → P → Type 0 };
 
@@ -47,10 +52,10 @@ pub trait Reading<P, T>: Drop {
     ghost before: { P → P → Type 0 };
 
     // What it reads from an item.
-    ghost part: { Self → P → List T };
+    ghost part: { Self → P → List Self.Read };
 
     /// Reads an item. What it reads from later items stays the same.
-    fn read(&mut self, item: P) -> T
+    fn read(&mut self, item: P) -> Self::Read
         requires can { can self.old item }
         ensures part { part self.old item ≡ result ∷ [] }
         ensures later { (p : P) → before item p → part self.new p ≡ part self.old p }
@@ -59,39 +64,37 @@ pub trait Reading<P, T>: Drop {
 
 /// Yields what is read from each item of a cursor.
 #[derive(Drop)]
-pub struct Level<P, T, S: Cursor<P>, R: Reading<P, T>> {
+pub struct Level<S: Cursor, R: Reading<S::Item>> {
     source: S,
     reading: R,
-    of: PhantomData<(P, T)>,
 }
 
-impl<P, T, S: Cursor<P>, R: Reading<P, T>> Model for Level<P, T, S, R> {
-    ghost Value = { List T };
+impl<S: Cursor, R: Reading<S::Item>> Model for Level<S, R> {
+    ghost Value = { List R.Read };
 
     ghost view = { λ l. flat_map (R.part l.reading) (S.left l.source) };
 
     ghost invariant = { λ l. IsReadable R.before (R.can l.reading) (S.left l.source) };
 }
 
-impl<P, T, S: Cursor<P>, R: Reading<P, T>> Level<P, T, S, R> {
+impl<S: Cursor, R: Reading<S::Item>> Level<S, R> {
     /// Returns a cursor over what is read from the items of a cursor.
+    #[inline(always)]
     pub fn new(source: S, reading: R) -> Self
         requires readable { IsReadable R.before (R.can reading) (S.left source) }
         ensures left { result ≡ flat_map (R.part reading) (S.left source) }
     {
-        Level {
-            source,
-            reading,
-            of: PhantomData,
-        }
+        Level { source, reading }
     }
 }
 
-impl<P, T, S: Cursor<P>, R: Reading<P, T>> Cursor<T> for Level<P, T, S, R> {
+impl<S: Cursor, R: Reading<S::Item>> Cursor for Level<S, R> {
+    type Item = R::Read;
+
     ghost left = { λ l. l };
 
     #[inline(always)]
-    fn next(&mut self) -> Option<T> {
+    fn next(&mut self) -> Option<R::Read> {
         let item = self.source.next()?;
         Some(self.reading.read(item))
     }

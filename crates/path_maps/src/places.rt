@@ -4,7 +4,7 @@ ghost use Rattle.load_places.specs.Places.{place_cmp};
 ghost use Rattle.edit_sums.specs.Sums.{shown};
 ghost use Rattle.path_maps.specs.{Kept.{HasWellFormedPaths}, PlaceMaps.{all_listed, placed}, Scopes.{within}};
 
-use crate::by_scope::{Places, places_of, places_of_scope};
+use crate::by_scope::{Places, places_of};
 use crate::cursors::Cursor;
 use crate::entries::{PathEntries, PathEntry};
 use crate::stores::ScopeMap;
@@ -101,7 +101,7 @@ impl<'a> Placed<'a> {
 /// A cursor over the entries of a store, in place order.
 #[derive(Drop)]
 pub struct Entries<'a> {
-    entries: Places<'a, (), (), (), (), ()>,
+    entries: Places<'a, (), (), (), ()>,
 }
 
 impl<'a> Model for Entries<'a> {
@@ -126,15 +126,6 @@ impl<'a> Entries<'a> {
         }
     }
 
-    // Returns a cursor over the entries of one scope.
-    pub(crate) fn of_scope(scope: &'a Scope, entries: PathEntries<'a>) -> Self
-        ensures entries { result ≡ placed scope.now entries.entry }
-    {
-        Entries {
-            entries: places_of_scope(scope, entries.entries),
-        }
-    }
-
     /// Takes the next entry, if one is left. O(1). Allocates nothing.
     pub fn next_entry(&mut self) -> Option<Placed<'a>>
         ensures first { MatchOption result ((self.old ≡ []) × (self.new ≡ [])) (λ placed. self.old ≡ placed ∷ self.new) }
@@ -153,4 +144,19 @@ impl<'a> Entries<'a> {
         }
         Ok(places)
     }
+}
+
+/// Returns the places of the entries of a folder, in a scope. Fails only if memory runs out. Copies no bytes.
+pub(crate) fn places_in(
+    scope: &Scope,
+    mut entries: PathEntries<'_>,
+    alloc: Global,
+) -> Result<Vec<Place>, AllocError>
+    ensures places { IfOk result (λ places. places.items ≡ map (λ p. p.0) (placed scope.now entries.entry)) }
+{
+    let mut places = Vec::new(alloc);
+    while let Some(entry) = entries.next_entry() {
+        places.push(Placed::new(scope, entry).place()?)?;
+    }
+    Ok(places)
 }

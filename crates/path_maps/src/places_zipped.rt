@@ -2,7 +2,7 @@
 ghost use Rattle.std.specs.{Prelude.{◌≡◌, ◌∷◌, [], MatchOption}, Option.{option_copied}};
 ghost use Rattle.path_maps.specs.{Kept.{HasWellFormedPaths}, PlaceMaps.{all_listed, look_up_place}, Zipped.{zipped}};
 
-use crate::beside::{HeldEntry, OtherRanks, OtherScopes, Others};
+use crate::beside::{OtherRanks, OtherScopes, Others};
 use crate::by_scope::{Places, places_of};
 use crate::cursors::Cursor;
 use crate::places::Placed;
@@ -19,7 +19,6 @@ use std::marker::Model;
 pub struct Zipped<'a> {
     entries: Places<
         'a,
-        HeldEntry<'a>,
         Others<'a, Versioned<Content>>,
         Others<'a, NameMap>,
         OtherRanks<'a>,
