@@ -1,8 +1,9 @@
 //! What another store holds beside the maps that are read: by scope, rank, folder and name.
-ghost use Rattle.std.specs.{Prelude.{◌≡◌}, FinMap.{find}, Option.{option_copied}, Ordering.{nat_cmp}};
+ghost use Rattle.std.specs.{Prelude.{◌≡◌, IsTrue, List, Option, ℕ}, FinMap.{find, is_sorted}, Option.{option_copied}, Ordering.{nat_cmp}};
 ghost use Rattle.std.specs.declared.cmp.Ordering.TheVariants.{Less};
+ghost use Rattle.edit_sums.specs.Entries.{Entry};
 ghost use Rattle.join_law.specs.{Maps.{or_empty}, VersionOrder.{written_at}};
-ghost use Rattle.path_maps.specs.{PathMaps.{bytes_cmp}, PlaceMaps.{ranks_of}};
+ghost use Rattle.path_maps.specs.{PathMaps.{bytes_cmp, RankMap}, PlaceMaps.{ranks_of}};
 
 use crate::meets::meet;
 use crate::stores::{NameMap, RankMap, ScopeMap};
@@ -43,9 +44,6 @@ pub struct HeldEntry<'a> {
 }
 
 impl<'a> Model for HeldEntry<'a> {
-    ghost use Rattle.std.specs.{Prelude.{Option}, Option.{option_copied}};
-    ghost use Rattle.edit_sums.specs.Entries.{Entry};
-
     ghost Value = { Option Entry };
 
     ghost view = { λ h. option_copied h.entry };
@@ -58,9 +56,6 @@ pub struct Others<'a, V> {
 }
 
 impl<'a, V> Model for Others<'a, V> {
-    ghost use Rattle.std.specs.{Prelude.{List, ℕ, IsTrue}, FinMap.{is_sorted}};
-    ghost use Rattle.path_maps.specs.PathMaps.{bytes_cmp};
-
     ghost Value = { List (List ℕ × V) };
 
     ghost view = { λ o. o.left.now };
@@ -117,10 +112,6 @@ pub struct OtherRanks<'a> {
 }
 
 impl<'a> Model for OtherRanks<'a> {
-    ghost use Rattle.std.specs.Option.{option_copied};
-    ghost use Rattle.join_law.specs.Maps.{or_empty};
-    ghost use Rattle.path_maps.specs.PathMaps.{RankMap};
-
     ghost Value = { RankMap };
 
     ghost view = { λ o. or_empty (option_copied o.ranks) };
@@ -139,20 +130,14 @@ impl<'a> Beside<u8> for OtherRanks<'a> {
     }
 }
 
-/// What another store has in all scopes.
-#[derive(Drop)]
-pub struct OtherScopes<'a> {
-    pub scopes: &'a ScopeMap,
-}
-
-impl<'a> Beside<Scope> for OtherScopes<'a> {
+impl<'a> Beside<Scope> for &'a ScopeMap {
     type Held = OtherRanks<'a>;
 
-    ghost held = { λ o scope. ranks_of o.scopes.now scope };
+    ghost held = { λ o scope. ranks_of o.now scope };
 
     fn meet(&mut self, key: &Scope) -> OtherRanks<'a> {
         OtherRanks {
-            ranks: self.scopes.get(key),
+            ranks: self.get(key),
         }
     }
 }

@@ -1,8 +1,8 @@
 //! Cursors over the entries of a scope, in path order: by rank, folder and name.
-ghost use Rattle.std.specs.{Prelude.{◌≡◌, ◌∷◌, [], IfOk, IfSome, MatchOption, map}, Option.{option_copied, option_map}};
-ghost use Rattle.load_path.specs.Paths.{IsPath, path_cmp};
+ghost use Rattle.std.specs.{Prelude.{◌≡◌, ◌∷◌, [], List, IfOk, MatchOption, map}, Option.{option_copied}};
+ghost use Rattle.load_path.specs.Paths.{IsPath, path_cmp, PathParts};
 ghost use Rattle.path_maps.specs.{Cursors.{or_nothing}, Folders.{path_at}, PathMaps.{in_folder}, Spread.{AllKeys}};
-ghost use Rattle.edit_sums.specs.Sums.{shown};
+ghost use Rattle.edit_sums.specs.{Entries.{Entry}, Sums.{shown}};
 
 use crate::by_rank::{Names, names_of};
 use crate::cursors::next_of;
@@ -25,14 +25,11 @@ pub struct PathEntry<'a> {
 }
 
 impl<'a> Model for PathEntry<'a> {
-    ghost use Rattle.load_path.specs.Paths.{PathParts, IsPath};
-    ghost use Rattle.edit_sums.specs.Entries.{Entry};
-
     ghost Value = { PathParts × Entry };
 
-    ghost view = { λ p. (record { rank = p.rank; folder = p.folder.now; name = p.name.now }, p.entry.now) };
+    ghost view = { λ p. (path_at p.rank p.folder.now p.name.now, p.entry.now) };
 
-    ghost invariant = { λ p. IsPath (record { rank = p.rank; folder = p.folder.now; name = p.name.now }) };
+    ghost invariant = { λ p. IsPath (path_at p.rank p.folder.now p.name.now) };
 }
 
 impl<'a> PathEntry<'a> {
@@ -108,11 +105,6 @@ pub struct PathEntries<'a> {
 }
 
 impl<'a> Model for PathEntries<'a> {
-    ghost use Rattle.std.specs.Prelude.{List, map};
-    ghost use Rattle.load_path.specs.Paths.{PathParts};
-    ghost use Rattle.edit_sums.specs.Entries.{Entry};
-    ghost use Rattle.path_maps.specs.Cursors.{or_nothing};
-
     ghost Value = { List (PathParts × Entry) };
 
     ghost view = { λ e. map (λ p. p.0) (or_nothing e.names) };
@@ -126,14 +118,11 @@ impl<'a> PathEntries<'a> {
         PathEntries { names: None }
     }
 
-    // Returns a cursor over the entries of a folder with valid paths, or over none where there is no folder.
-    pub(crate) fn of_folder(rank: u8, found: Option<(&'a Bytes, &'a NameMap)>) -> Self
-        requires paths { IfSome found (λ f. AllKeys IsPath (in_folder rank f.0.now f.1.now)) }
-        ensures entries { result ≡ or_nothing (option_map (λ f. in_folder rank f.0.now f.1.now) found.entry) }
+    // Returns a cursor over the entries of a folder with valid paths.
+    pub(crate) fn of_folder(rank: u8, folder: &'a Bytes, names: &'a NameMap) -> Self
+        requires paths { AllKeys IsPath (in_folder rank folder.now names.now) }
+        ensures entries { result ≡ in_folder rank folder.now names.now }
     {
-        let Some((folder, names)) = found else {
-            return PathEntries::none();
-        };
         let names = names_of(rank as usize, folder, names, ());
         PathEntries { names: Some(names) }
     }

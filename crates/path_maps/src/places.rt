@@ -1,8 +1,8 @@
 //! Cursors over the entries of a store in place order: by scope, and within each scope by path.
-ghost use Rattle.std.specs.{Prelude.{◌≡◌, ◌∷◌, [], map, IfOk, MatchOption}, Option.{option_copied}};
-ghost use Rattle.load_places.specs.Places.{place_cmp};
-ghost use Rattle.edit_sums.specs.Sums.{shown};
-ghost use Rattle.path_maps.specs.{Kept.{HasWellFormedPaths}, PlaceMaps.{all_listed, placed}, Scopes.{within}};
+ghost use Rattle.std.specs.{Prelude.{◌≡◌, ◌∷◌, [], List, map, IfOk, MatchOption}, Option.{option_copied}};
+ghost use Rattle.load_places.specs.Places.{place_cmp, PlaceParts};
+ghost use Rattle.edit_sums.specs.{Entries.{Entry}, Sums.{shown}};
+ghost use Rattle.path_maps.specs.{Cursors.{left_of}, Kept.{HasWellFormedPaths}, PlaceMaps.{all_listed, placed}, Scopes.{within}};
 
 use crate::by_scope::{Places, places_of};
 use crate::cursors::Cursor;
@@ -23,10 +23,6 @@ pub struct Placed<'a> {
 }
 
 impl<'a> Model for Placed<'a> {
-    ghost use Rattle.load_places.specs.Places.{PlaceParts};
-    ghost use Rattle.edit_sums.specs.Entries.{Entry};
-    ghost use Rattle.path_maps.specs.Scopes.{within};
-
     ghost Value = { PlaceParts × Entry };
 
     ghost view = { λ p. (within p.scope.now p.entry.0, p.entry.1) };
@@ -105,11 +101,6 @@ pub struct Entries<'a> {
 }
 
 impl<'a> Model for Entries<'a> {
-    ghost use Rattle.std.specs.Prelude.{List, map};
-    ghost use Rattle.load_places.specs.Places.{PlaceParts};
-    ghost use Rattle.edit_sums.specs.Entries.{Entry};
-    ghost use Rattle.path_maps.specs.Cursors.{left_of};
-
     ghost Value = { List (PlaceParts × Entry) };
 
     ghost view = { λ e. map (λ p. p.0) (left_of e.entries.inner e.entries.outer) };

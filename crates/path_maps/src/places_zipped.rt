@@ -1,8 +1,9 @@
 //! Cursors over the entries of a store in place order, each with what another store holds at its place.
-ghost use Rattle.std.specs.{Prelude.{◌≡◌, ◌∷◌, [], MatchOption}, Option.{option_copied}};
-ghost use Rattle.path_maps.specs.{Kept.{HasWellFormedPaths}, PlaceMaps.{all_listed, look_up_place}, Zipped.{zipped}};
+ghost use Rattle.std.specs.{Prelude.{◌≡◌, ◌∷◌, [], List, MatchOption}, Option.{option_copied}};
+ghost use Rattle.load_places.specs.Places.{PlaceParts};
+ghost use Rattle.path_maps.specs.{Cursors.{left_of}, Kept.{HasWellFormedPaths}, PlaceMaps.{all_listed, look_up_place}, Zipped.{Compared, zipped}};
 
-use crate::beside::{OtherRanks, OtherScopes, Others};
+use crate::beside::{OtherRanks, Others};
 use crate::by_scope::{Places, places_of};
 use crate::cursors::Cursor;
 use crate::places::Placed;
@@ -22,15 +23,11 @@ pub struct Zipped<'a> {
         Others<'a, Versioned<Content>>,
         Others<'a, NameMap>,
         OtherRanks<'a>,
-        OtherScopes<'a>,
+        &'a ScopeMap,
     >,
 }
 
 impl<'a> Model for Zipped<'a> {
-    ghost use Rattle.std.specs.Prelude.{List};
-    ghost use Rattle.load_places.specs.Places.{PlaceParts};
-    ghost use Rattle.path_maps.specs.{Zipped.{Compared}, Cursors.{left_of}};
-
     ghost Value = { List (Compared PlaceParts) };
 
     ghost view = { λ b. left_of b.entries.inner b.entries.outer };
@@ -43,7 +40,7 @@ impl<'a> Zipped<'a> {
         ensures entries { result ≡ zipped (look_up_place others.now) (all_listed scopes.now) }
     {
         Zipped {
-            entries: places_of(scopes, OtherScopes { scopes: others }),
+            entries: places_of(scopes, others),
         }
     }
 

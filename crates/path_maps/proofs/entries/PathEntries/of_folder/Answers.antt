@@ -3,5 +3,5 @@ use Rattle.path_maps.proofs.entries.PathEntries.of_folder.Goals as goal
 
 pub returns : goal.returns
 returns c =
-    let read = c.names_of-names.ensures.names ∙ names_zipped (λ _ _ _. tt) c.args.rank c.in-Some.folder.now c.in-Some.names.now in
-    record { entries = rw c.in-Some.is (ap (map (λ p. p.0)) read ∙ keys_with (λ _. tt) (in_folder c.args.rank c.in-Some.folder.now c.in-Some.names.now)) }
+    let read = c.names_of-names.ensures.names ∙ names_zipped (λ _ _ _. tt) c.args.rank c.args.folder.now c.args.names.now in
+    record { entries = ap (map (λ p. p.0)) read ∙ keys_with (λ _. tt) (in_folder c.args.rank c.args.folder.now c.args.names.now) }
