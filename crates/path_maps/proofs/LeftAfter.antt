@@ -1,4 +1,4 @@
--- What is left after the first name, folder or rank.
+-- Keys of lists that are joined; what is held has an entry.
 use Rattle.std.proofs.Common.{◌++◌, ◌∷◌, ◌≡◌, ◌≢◌}
 use Rattle.path_maps.proofs.Prelude.{[], AllKeys, AreFolders, AreNames, AreRanks, At, at_name, Content, content_cmp, Entry, FolderMap, FoldersBelow, in_folder, in_rank, in_scope, IsLeast, IsUpTo, List, listed, NameMap, NamesBelow, Never, never_least, PathParts, placed, RankMap, RanksBelow, refl, Scope, Versioned, ℕ}
 use Rattle.path_maps.proofs.Sames.{no_folders, no_names, no_ranks}
@@ -10,11 +10,6 @@ prefix_keys P (x ∷ xs) ys h = (h.0, prefix_keys P xs ys h.1)
 pub back_keys : {A E : Type 0} (P : A → Type 0) (xs ys : List (A × E)) → AllKeys P (xs ++ ys) → AllKeys P ys
 back_keys P [] ys h = h
 back_keys P (x ∷ xs) ys h = back_keys P xs ys h.1
-
--- What is held was written.
-pub held_at : (v : Versioned Content) → ¬ IsLeast (IsUpTo content_cmp) v → (x : Entry) × (v ≡ At x)
-held_at Never h = absurd (h (never_least content_cmp))
-held_at (At x) h = (x, refl)
 
 some_prefix : {A : Type 0} (xs ys : List A) → xs ≢ [] → xs ++ ys ≢ []
 some_prefix [] ys h = absurd (h refl)
