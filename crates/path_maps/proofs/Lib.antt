@@ -4,9 +4,9 @@ pub mod LookUps
 pub mod Edits
 pub mod Sames
 pub mod LeftAfter
+pub mod Readings
 pub mod Listed
 pub mod FoundAfter
-pub mod LeftZipped
 pub mod Ascends
 pub mod Sizes
 pub mod Merges

@@ -1,6 +1,6 @@
 -- What nested look-ups find.
 use Rattle.std.proofs.Common.{◌+◌, ◌↔◌, ◌∷◌, ◌≡◌, ◌≤◌}
-use Rattle.path_maps.proofs.Prelude.{[], all_held, AllHeld, AllKeys, ap, AreFolders, AreNames, AreRanks, AreScopes, AreWellFormed, arith, At, Bool, Bor, bytes_cmp, cond, Content, content_cmp, entries-flat, Entry, EntryMap, eq_by_cmp, false, filter, find, flat, folder-listed, FolderMap, FoldersBelow, found_well_formed, from_bool, get-flat, get-held, IfSome, in_folder, is_in, is_none_or, is_none_or-within, is_some, IsLeast, IsPath, IsSome, IsTrue, IsUpTo, List, listed, look_up, look_up_place, MatchOption, NameMap, names_in, NamesBelow, nat_cmp, Never, never_least, None, Option, option_map, or_empty, or_nothing, PathMap, PathParts, PlaceParts, RankMap, ranks_of, refl, scope_cmp, scope_well_formed, ScopeMap, Some, some_keys, subst, sym, true, Versioned, written, written_at, ℕ, ◌∙◌}
+use Rattle.path_maps.proofs.Prelude.{[], all_held, AllHeld, AllKeys, ap, AreFolders, AreNames, AreRanks, AreScopes, AreWellFormed, arith, At, Bool, bytes_cmp, cond, Content, content_cmp, entries-flat, Entry, EntryMap, eq_by_cmp, false, filter, find, flat, folder-listed, FolderMap, FoldersBelow, found_well_formed, from_bool, get-flat, get-held, in_folder, is_in, is_none_or, is_none_or-within, is_some, IsLeast, IsPath, IsSome, IsTrue, IsUpTo, List, listed, look_up, look_up_place, NameMap, names_in, NamesBelow, nat_cmp, Never, never_least, None, Option, or_empty, PathMap, PathParts, PlaceParts, RankMap, ranks_of, refl, scope_cmp, scope_well_formed, ScopeMap, Some, some_keys, subst, sym, true, Versioned, written, written_at, ℕ, ◌∙◌}
 use Rattle.path_maps.proofs.Listed.{paths_listed}
 use Rattle.std.specs.FinMap as finmap
 
@@ -137,32 +137,10 @@ module _ (m : ScopeMap) (is : AreScopes m) (s : EntryMap) (e : all_held m ≡ s)
 pub well_formed_there : (m : RankMap) → AreWellFormed m → (q : PathParts) (x : Entry) → look_up m q ≡ Some x → IsPath q
 well_formed_there m k q x h = k.paths q (subst (λ (o : Option Entry). IsSome o) (sym (get-flat m k.ranks q ∙ h)) refl)
 
--- The result of a search for a folder: it isn't there, or this is the folder with its names.
-abbrev pub IsFound : RankMap → ℕ → List ℕ → Option (Bor (List ℕ) × Bor NameMap) → Type 0
-IsFound m rank folder x = MatchOption x (find bytes_cmp folder (or_empty (find nat_cmp rank m)) ≡ None) (λ f. (f.0.now ≡ folder) × (find bytes_cmp folder (or_empty (find nat_cmp rank m)) ≡ Some f.1.now))
-
-abbrev pub names_borrowed : ℕ → Option (Bor (List ℕ) × Bor NameMap) → List (PathParts × Entry)
-names_borrowed rank x = or_nothing (option_map (λ f. in_folder rank f.0.now f.1.now) x)
-
--- All entries, in path order.
-listed_viewed : (m : RankMap) (v : PathMap) → AreRanks m → flat m ≡ v → listed m ≡ finmap.entries v
-listed_viewed m v is e = sym (entries-flat m is) ∙ ap (λ (t : PathMap). finmap.entries t) e
-
 module _ (m : RankMap) (rank : ℕ) (folder : List ℕ) where
-  found_names : (x : Option (Bor (List ℕ) × Bor NameMap)) → IsFound m rank folder x → names_borrowed rank x ≡ in_folder rank folder (names_in m rank folder)
-  found_names None h = sym (ap (λ (y : Option NameMap). in_folder rank folder (or_empty y)) h)
-  found_names (Some f) h = ap (λ (y : List ℕ). in_folder rank y f.1.now) h.0 ∙ sym (ap (λ (y : Option NameMap). in_folder rank folder (or_empty y)) h.1)
+  -- The entries of a folder, in path order.
+  pub folder_entries : (v : PathMap) → AreRanks m → flat m ≡ v → in_folder rank folder (names_in m rank folder) ≡ filter (λ p. is_in rank folder p.0) (finmap.entries v)
+  folder_entries v are e = sym (folder-listed rank folder m are) ∙ ap (λ es. filter (λ p. is_in rank folder p.0) es) (sym (entries-flat m are) ∙ ap (λ (t : PathMap). finmap.entries t) e)
 
-  found_paths : (x : Option (Bor (List ℕ) × Bor NameMap)) → AllKeys IsPath (names_borrowed rank x) → IfSome x (λ f. AllKeys IsPath (in_folder rank f.0.now f.1.now))
-  found_paths None h = tt
-  found_paths (Some f) h = h
-
-  -- The entries of a folder that was searched for.
-  pub found_entries : (v : PathMap) → AreRanks m → flat m ≡ v → (x : Option (Bor (List ℕ) × Bor NameMap)) → IsFound m rank folder x → names_borrowed rank x ≡ filter (λ p. is_in rank folder p.0) (finmap.entries v)
-  found_entries v are e x h = found_names x h ∙ sym (folder-listed rank folder m are) ∙ ap (filter (λ p. is_in rank folder p.0)) (listed_viewed m v are e)
-
-  pub found_well_formed_paths : AreWellFormed m → (x : Option (Bor (List ℕ) × Bor NameMap)) → IsFound m rank folder x → IfSome x (λ f. AllKeys IsPath (in_folder rank f.0.now f.1.now))
-  found_well_formed_paths k x h =
-      found_paths x
-      (subst (AllKeys IsPath) (sym (found_names x h ∙ sym (folder-listed rank folder m k.ranks)))
-      (some_keys (is_in rank folder) IsPath (listed m) (paths_listed m k.ranks k.paths)))
+  pub folder_paths : AreWellFormed m → AllKeys IsPath (in_folder rank folder (names_in m rank folder))
+  folder_paths k = subst (AllKeys IsPath) (folder-listed rank folder m k.ranks) (some_keys (is_in rank folder) IsPath (listed m) (paths_listed m k.ranks k.paths))

@@ -1,6 +1,6 @@
 -- What a binary search by bytes finds among sorted pairs.
 use Rattle.std.proofs.Common.{◌<◌, ◌∷◌, ◌≡◌}
-use Rattle.path_maps.proofs.Prelude.{[], ap, bytes_cmp, Equal, Err, find, find_at, find_gap, get_or, get_or_default, IfErr, IfOk, is_sorted, IsAt, IsBinarySearchResult, IsFoundAt, IsPlaceOf, IsSearchInRange, IsTrue, length, List, nat_cmp-IsAntisymmetric, nat_list_cmp_total, None, Ok, RankMap, refl, Result, Scope, scope_cmp, scope_cmp_total, ScopeMap, search_finds, slice_cmp-IsAntisymmetric, slice_get, Some, suc, sym, tied_itself, zero, ℕ, ◌∙◌}
+use Rattle.path_maps.proofs.Prelude.{[], bytes_cmp, Equal, Err, find, find_at, find_gap, get_or, IfErr, IfOk, is_sorted, IsAt, IsBinarySearchResult, IsFoundAt, IsPlaceOf, IsSearchInRange, IsTrue, length, List, nat_cmp-IsAntisymmetric, nat_list_cmp_total, None, Ok, RankMap, refl, Result, Scope, scope_cmp, scope_cmp_total, ScopeMap, search_finds, slice_cmp-IsAntisymmetric, slice_get, Some, suc, sym, zero, ℕ, ◌∙◌}
 
 module _ {V : Type 0} (k : List ℕ) where
   tied_at : (es : List (List ℕ × V)) (i : ℕ) (d : List ℕ × V) → IsAt bytes_cmp k es i → bytes_cmp k (get_or es i d).0 ≡ Equal
@@ -21,12 +21,6 @@ module _ {V : Type 0} (k : List ℕ) where
       → IfOk r (λ i. i < length es) × IfOk r (IsPlaceOf k es) × IfErr r (λ _. find bytes_cmp k es ≡ None)
   places es (Ok i) s range found = (range, place_is es i s range found, tt)
   places es (Err i) s range found = (tt, tt, find_gap bytes_cmp k nat_list_cmp_total es i s (search_finds bytes_cmp nat_list_cmp_total k es (Err i) s range found).1)
-
-  -- The pair at an index, if it has this key, is found.
-  pub same_is : (es : List (List ℕ × V)) (i : ℕ) (d : List ℕ × V) → IsTrue (is_sorted bytes_cmp es) → i < length es → d ≡ get_or es i d → d.0 ≡ k → find bytes_cmp k es ≡ Some d.1
-  same_is es i d s lt at same =
-      let tied : bytes_cmp d.0 k ≡ Equal = ap (λ (x : List ℕ). bytes_cmp x k) same ∙ tied_itself nat_list_cmp_total k in
-      (place_is es i s lt (λ b. ap (λ p. bytes_cmp p.0 k) (get_or_default es i b d lt ∙ sym at) ∙ tied) d).1 ∙ ap (λ p. Some p.1) (sym at)
 
 -- The empty key is at the first pair or nowhere.
 pub unnamed_nowhere : {V : Type 0} (pairs : List (List ℕ × V)) → IsTrue (is_sorted bytes_cmp pairs) → ((e : List ℕ × V) → slice_get pairs 0 ≡ Some e → e.0 ≡ [] → ⊥) → find bytes_cmp [] pairs ≡ None

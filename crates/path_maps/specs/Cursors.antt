@@ -1,32 +1,8 @@
--- The state of a cursor over nested maps: what is left is in order, and its paths are valid.
+-- What cursors over nested maps yield, and what is left of them.
 -- Source: this project's own.
-use Rattle.std.proofs.Common.{◌++◌}
-use Rattle.path_maps.specs.Prelude.{[], AllHeld, content_cmp, Entry, flat_map, IsPath, IsUpTo, List, map, None, Option, PathParts, PlaceParts, Some, ℕ}
-use Rattle.path_maps.specs.{PathMaps.{AreFolders, AreNames, FolderMap, FoldersBelow, in_folder, in_rank, listed, NameMap, NamesBelow, RankMap}, PlaceMaps.{in_scope, ScopeMap}, Spread.{AllKeys}}
-
--- Names, folders and ranks that are left: none of them is empty, and all paths are valid.
-pub record AreNamesLeft (rank : ℕ) (folder : List ℕ) (names : NameMap) : Type 0 where
-  pub held : AllHeld (IsUpTo content_cmp) (λ _. Unit {0}) names
-  pub paths : AllKeys IsPath (in_folder rank folder names)
-
-pub record AreFoldersLeft (rank : ℕ) (folders : FolderMap) : Type 0 where
-  pub held : AllHeld NamesBelow AreNames folders
-  pub paths : AllKeys IsPath (in_rank rank folders)
-
-pub record AreRanksLeft (ranks : RankMap) : Type 0 where
-  pub held : AllHeld FoldersBelow AreFolders ranks
-  pub paths : AllKeys IsPath (listed ranks)
-
--- The entries of each folder of a rank, and of each folder of each rank.
-abbrev pub by_folder : ℕ → FolderMap → List (List (PathParts × Entry))
-by_folder rank = map (λ f. in_folder rank f.0 f.1)
-
-abbrev pub by_rank : RankMap → List (List (List (PathParts × Entry)))
-by_rank = map (λ r. by_folder r.0 r.1)
-
--- The entries of each scope.
-abbrev pub by_scope : ScopeMap → List (List (PlaceParts × Entry))
-by_scope = map (λ s. in_scope s.0 s.1)
+use Rattle.std.proofs.Common.{◌++◌, ◌∷◌}
+use Rattle.path_maps.specs.Prelude.{[], AllByRecursion, At, Content, Entry, flat_map, IsPath, List, Never, None, Option, PathParts, PlaceParts, Scope, Some, Versioned, ℕ}
+use Rattle.path_maps.specs.{PathMaps.{at_name, FolderMap, listed, NameMap, RankMap}, PlaceMaps.{ScopeMap}, Scopes.{within}, Zipped.{zipped}}
 
 -- The items of an optional value; none if it is absent.
 abbrev pub in_hand : {A B : Type 0} → (A → List B) → Option A → List B
@@ -40,3 +16,35 @@ or_nothing = in_hand (λ xs. xs)
 -- The rest of a list, and then all lists after it.
 abbrev pub left_of : {A : Type 0} → Option (List A) → List (List A) → List A
 left_of first rest = or_nothing first ++ flat_map (λ xs. xs) rest
+
+-- Each item can be read, and comes before all items after it.
+abbrev pub IsReadable : {P : Type 0} → (P → P → Type 0) → (P → Type 0) → List P → Type 0
+IsReadable before can [] = Unit {0}
+IsReadable before can (p ∷ ps) = can p × (AllByRecursion (before p) ps × IsReadable before can ps)
+
+-- An entry is held, at a valid path.
+abbrev pub IsHeldAt : PathParts → Versioned Content → Type 0
+IsHeldAt path Never = ⊥
+IsHeldAt path (At x) = IsPath path
+
+-- What is read from the names of a folder, from the folders of a rank and from all ranks: entries with what is held
+-- beside each.
+abbrev pub names_read : {H : Type 0} → (List ℕ → H) → ℕ → List ℕ → NameMap → List ((PathParts × Entry) × H)
+names_read held rank folder = flat_map (λ e. zipped (λ _. held e.0) (at_name rank folder e.0 e.1))
+
+abbrev pub folders_read : {H : Type 0} → (List ℕ → List ℕ → H) → ℕ → FolderMap → List (List ((PathParts × Entry) × H))
+folders_read held rank = flat_map (λ e. names_read (held e.0) rank e.0 e.1 ∷ [])
+
+abbrev pub ranks_read : {H : Type 0} → (ℕ → List ℕ → List ℕ → H) → RankMap → List (List (List ((PathParts × Entry) × H)))
+ranks_read held = flat_map (λ e. folders_read (held e.0) e.0 e.1 ∷ [])
+
+-- What is held beside a path, from what is held by rank, folder and name.
+abbrev pub beside_path : {H : Type 0} → (ℕ → List ℕ → List ℕ → H) → PathParts → H
+beside_path held q = held q.rank q.folder q.name
+
+-- What is read from the entries of a scope, and from all scopes.
+abbrev pub scope_read : {H : Type 0} → Scope → List ((PathParts × Entry) × H) → List ((PlaceParts × Entry) × H)
+scope_read scope = flat_map (λ p. ((within scope p.0.0, p.0.1), p.1) ∷ [])
+
+abbrev pub scopes_read : {H : Type 0} → (Scope → ℕ → List ℕ → List ℕ → H) → ScopeMap → List (List ((PlaceParts × Entry) × H))
+scopes_read held = flat_map (λ e. scope_read e.0 (zipped (beside_path (held e.0)) (listed e.1)) ∷ [])

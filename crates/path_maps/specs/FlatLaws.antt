@@ -1,6 +1,6 @@
 -- Stores of before there were hosts: sums of flat edits, each the fleet's.
 use Rattle.std.proofs.Common.{◌∷◌, ◌≡◌}
-use Rattle.path_maps.specs.Prelude.{[], ap, at_fleet, Entry, EntryMap, FlatEdit, get-sum_of, greatest_at, Host, List, map, None, Option, option_and_then, PathParts, refl, shown, sum_of, ℕ, ◌∙◌}
+use Rattle.path_maps.specs.Prelude.{[], ap, at_fleet, EntryMap, FlatEdit, get-sum_of, greatest_at, Host, List, map, None, option_and_then, PathParts, refl, shown, sum_of, ℕ, ◌∙◌}
 use Rattle.path_maps.specs.{HostLaws.{HoldsNothing, ShowsNothing}, Scopes.{within}}
 use Rattle.std.specs.FinMap as finmap
 

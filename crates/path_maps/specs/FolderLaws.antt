@@ -1,6 +1,6 @@
 -- The entries of one folder among all entries.
 use Rattle.std.proofs.Common.{◌&&◌, ◌++◌, ◌==◌, ◌∷◌, ◌≡◌}
-use Rattle.path_maps.specs.Prelude.{[], and_parts, ap, append-nil, arith, below_all, Bool, bytes_eq, cond, eq_by_cmp, eq_by_cmp_equiv, Equal, false, filter, filter-append, find, Greater, is_eq, is_eq-slice_cmp, is_equal, is_sorted, IsTotalOrder, IsTrue, Less, List, map, nat_cmp, nat_cmp-IsAntisymmetric, nat_cmp_total, nat_list_cmp_total, nat_tests, None, Option, or_empty, Ordering, refl, slice_cmp-IsAntisymmetric, Some, subst, sym, tied_itself, true, ℕ, ◌∙◌}
+use Rattle.path_maps.specs.Prelude.{[], and_parts, ap, append-nil, arith, below_all, Bool, bytes_eq, cond, eq_by_cmp, eq_by_cmp_equiv, Equal, false, filter, filter-append, find, Greater, is_eq, is_eq-slice_cmp, is_equal, is_sorted, IsTotalOrder, IsTrue, Less, List, nat_cmp, nat_cmp-IsAntisymmetric, nat_cmp_total, nat_list_cmp_total, nat_tests, None, Option, or_empty, Ordering, refl, slice_cmp-IsAntisymmetric, Some, subst, sym, tied_itself, true, ℕ, ◌∙◌}
 use Rattle.path_maps.specs.{Folders.{is_in, names_in}, PathMapLaws.{found_well_formed, of_folder, of_rank}, PathMaps.{AreFolders, AreRanks, bytes_cmp, FolderMap, FoldersBelow, in_folder, in_rank, listed, NameMap, RankMap}, Spread.{AllKeys, spread}, SpreadLaws.{all_keys_weaker, find_below}}
 
 module _ {A E : Type 0} (test : A → Bool) where
@@ -18,14 +18,6 @@ module _ {A E : Type 0} (test : A → Bool) where
   some_keys P (x ∷ xs) h = elim (test x.0) as (λ b. AllKeys P (cond b (x ∷ filter (λ p. test p.0) xs) (filter (λ p. test p.0) xs))) [
     | true ↦ (h.0, some_keys P xs h.1)
     | false ↦ some_keys P xs h.1
-  ]
-
-  -- The keys of the pairs whose keys pass a test.
-  pub keys_passed : (xs : List (A × E)) → map (λ p. p.0) (filter (λ p. test p.0) xs) ≡ filter test (map (λ p. p.0) xs)
-  keys_passed [] = refl
-  keys_passed (x ∷ xs) = elim (test x.0) as (λ b. map (λ (p : A × E). p.0) (cond b (x ∷ filter (λ p. test p.0) xs) (filter (λ p. test p.0) xs)) ≡ cond b (x.0 ∷ filter test (map (λ p. p.0) xs)) (filter test (map (λ p. p.0) xs))) [
-    | true ↦ ap (λ (l : List A). x.0 ∷ l) (keys_passed xs)
-    | false ↦ keys_passed xs
   ]
 
   -- If no pair of another key's part passes, what passes is what passes of this key's part.

@@ -3,12 +3,15 @@ ghost use Rattle.std.specs.Prelude.{◌≡◌, ◌∷◌, [], List, MatchOption}
 ghost use Rattle.path_maps.specs.Cursors.{in_hand};
 
 /// Yields the items of a list one after another.
-pub trait Cursor<T>: Drop {
+pub trait Cursor: Drop {
+    /// The items.
+    type Item;
+
     // What is left of the list.
-    ghost left: { Self → List T };
+    ghost left: { Self → List Self.Item };
 
     /// Takes the next item, if one is left.
-    fn next(&mut self) -> Option<T>
+    fn next(&mut self) -> Option<Self::Item>
         ensures first { MatchOption result ((left self.old ≡ []) × (left self.new ≡ []))
             (λ item. left self.old ≡ item ∷ left self.new) };
 }
@@ -22,14 +25,16 @@ pub struct Nested<C, O> {
     pub outer: O,
 }
 
-impl<T, C: Cursor<T>, O: Cursor<C>> Cursor<T> for Nested<C, O> {
+impl<C: Cursor, O: Cursor<Item = C>> Cursor for Nested<C, O> {
     ghost use Rattle.std.specs.{Prelude.{◌++◌}, List.{flat_map}};
     ghost use Rattle.path_maps.specs.Cursors.{in_hand};
+
+    type Item = C::Item;
 
     ghost left = { λ n. in_hand C.left n.inner ++ flat_map C.left (O.left n.outer) };
 
     #[inline(always)]
-    fn next(&mut self) -> Option<T> {
+    fn next(&mut self) -> Option<C::Item> {
         if let Some(item) = next_of(&mut self.inner) {
             return Some(item);
         }
@@ -43,9 +48,9 @@ impl<T, C: Cursor<T>, O: Cursor<C>> Cursor<T> for Nested<C, O> {
     }
 }
 
-// Takes the next item of the list that is being read, if there is such a list and it has one left.
+/// Takes the next item of the list that is being read, if there is such a list and it has one left.
 #[inline(always)]
-fn next_of<T, C: Cursor<T>>(cursor: &mut Option<C>) -> Option<T>
+pub fn next_of<C: Cursor>(cursor: &mut Option<C>) -> Option<C::Item>
     ensures first { MatchOption result ((in_hand C.left cursor.old ≡ []) × (in_hand C.left cursor.new ≡ []))
         (λ item. in_hand C.left cursor.old ≡ item ∷ in_hand C.left cursor.new) }
 {

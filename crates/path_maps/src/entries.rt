@@ -1,13 +1,13 @@
 //! Cursors over the entries of a scope, in path order: by rank, folder and name.
-ghost use Rattle.std.specs.{Prelude.{◌≡◌, ◌∷◌, [], IfOk, IfSome, MatchOption}, List.{flat_map}, Option.{option_copied, option_map}};
-ghost use Rattle.load_path.specs.Paths.{IsPath, path_cmp};
-ghost use Rattle.path_maps.specs.{Cursors.{or_nothing, left_of}, Folders.{path_at}, PathMaps.{in_folder, listed}, Spread.{AllKeys}};
-ghost use Rattle.edit_sums.specs.Sums.{shown};
+ghost use Rattle.std.specs.{Prelude.{◌≡◌, ◌∷◌, [], List, IfOk, MatchOption, map}, Option.{option_copied}};
+ghost use Rattle.load_path.specs.Paths.{IsPath, path_cmp, PathParts};
+ghost use Rattle.path_maps.specs.{Cursors.{or_nothing}, Folders.{path_at}, PathMaps.{in_folder}, Spread.{AllKeys}};
+ghost use Rattle.edit_sums.specs.{Entries.{Entry}, Sums.{shown}};
 
-use crate::cursors::{Cursor, Nested};
-use crate::stores::{FolderMap, NameMap, RankMap};
+use crate::by_rank::{Names, names_of};
+use crate::cursors::next_of;
+use crate::stores::NameMap;
 use edit_sums::{Content, Entry};
-use join_law::Versioned;
 use load_path::Path;
 use plain_values::{Bytes, order};
 use std::alloc::{AllocError, Global};
@@ -25,14 +25,11 @@ pub struct PathEntry<'a> {
 }
 
 impl<'a> Model for PathEntry<'a> {
-    ghost use Rattle.load_path.specs.Paths.{PathParts, IsPath};
-    ghost use Rattle.edit_sums.specs.Entries.{Entry};
-
     ghost Value = { PathParts × Entry };
 
-    ghost view = { λ p. (record { rank = p.rank; folder = p.folder.now; name = p.name.now }, p.entry.now) };
+    ghost view = { λ p. (path_at p.rank p.folder.now p.name.now, p.entry.now) };
 
-    ghost invariant = { λ p. IsPath (record { rank = p.rank; folder = p.folder.now; name = p.name.now }) };
+    ghost invariant = { λ p. IsPath (path_at p.rank p.folder.now p.name.now) };
 }
 
 impl<'a> PathEntry<'a> {
@@ -101,179 +98,40 @@ impl<'a> PathEntry<'a> {
     }
 }
 
-// A cursor over the names of a folder.
-#[derive(Drop)]
-struct NamesLeft<'a> {
-    rank: usize,
-    folder: &'a Bytes,
-    names: &'a [(Bytes, Versioned<Content>)],
-}
-
-impl<'a> Model for NamesLeft<'a> {
-    ghost use Rattle.std.specs.Prelude.{List};
-    ghost use Rattle.load_path.specs.Paths.{PathParts};
-    ghost use Rattle.edit_sums.specs.Entries.{Entry};
-    ghost use Rattle.path_maps.specs.{PathMaps.{in_folder}, Cursors.{AreNamesLeft}};
-
-    ghost Value = { List (PathParts × Entry) };
-
-    ghost view = { λ n. in_folder n.rank n.folder.now n.names.now };
-
-    ghost invariant = { λ n. AreNamesLeft n.rank n.folder.now n.names.now };
-}
-
-impl<'a> Cursor<PathEntry<'a>> for NamesLeft<'a> {
-    ghost left = { λ n. n };
-
-    fn next(&mut self) -> Option<PathEntry<'a>> {
-        let ((name, value), rest) = self.names.split_first()?;
-        let entry = value.entry()?;
-        let (rank, folder) = (self.rank, self.folder);
-        self.names = rest;
-        Some(PathEntry::new(rank, folder, name, entry))
-    }
-}
-
-// A cursor over the folders of a rank.
-#[derive(Drop)]
-struct FoldersLeft<'a> {
-    rank: usize,
-    folders: &'a [(Bytes, NameMap)],
-}
-
-impl<'a> Model for FoldersLeft<'a> {
-    ghost use Rattle.std.specs.Prelude.{List};
-    ghost use Rattle.load_path.specs.Paths.{PathParts};
-    ghost use Rattle.edit_sums.specs.Entries.{Entry};
-    ghost use Rattle.path_maps.specs.Cursors.{AreFoldersLeft, by_folder};
-
-    ghost Value = { List (List (PathParts × Entry)) };
-
-    ghost view = { λ f. by_folder f.rank f.folders.now };
-
-    ghost invariant = { λ f. AreFoldersLeft f.rank f.folders.now };
-}
-
-impl<'a> Cursor<NamesLeft<'a>> for FoldersLeft<'a> {
-    ghost left = { λ f. f };
-
-    fn next(&mut self) -> Option<NamesLeft<'a>> {
-        let ((folder, names), rest) = self.folders.split_first()?;
-        let rank = self.rank;
-        self.folders = rest;
-        Some(NamesLeft {
-            rank,
-            folder,
-            names: names.pairs(),
-        })
-    }
-}
-
-// A cursor over the ranks of a scope.
-#[derive(Drop)]
-struct RanksLeft<'a> {
-    ranks: &'a [(u8, FolderMap)],
-}
-
-impl<'a> Model for RanksLeft<'a> {
-    ghost use Rattle.std.specs.Prelude.{List};
-    ghost use Rattle.load_path.specs.Paths.{PathParts};
-    ghost use Rattle.edit_sums.specs.Entries.{Entry};
-    ghost use Rattle.path_maps.specs.Cursors.{AreRanksLeft, by_rank};
-
-    ghost Value = { List (List (List (PathParts × Entry))) };
-
-    ghost view = { λ r. by_rank r.ranks.now };
-
-    ghost invariant = { λ r. AreRanksLeft r.ranks.now };
-}
-
-impl<'a> Cursor<FoldersLeft<'a>> for RanksLeft<'a> {
-    ghost left = { λ r. r };
-
-    fn next(&mut self) -> Option<FoldersLeft<'a>> {
-        let ((rank, folders), rest) = self.ranks.split_first()?;
-        self.ranks = rest;
-        Some(FoldersLeft {
-            rank: *rank as usize,
-            folders: folders.pairs(),
-        })
-    }
-}
-
-// A cursor over the folders of all ranks.
-type AllFolders<'a> = Nested<FoldersLeft<'a>, RanksLeft<'a>>;
-
-/// A cursor over the entries of a scope, in path order.
+/// A cursor over the entries of a folder, in path order.
 #[derive(Drop)]
 pub struct PathEntries<'a> {
-    // Nested: names within folders within ranks.
-    entries: Nested<NamesLeft<'a>, AllFolders<'a>>,
+    names: Option<Names<'a, ()>>,
 }
 
 impl<'a> Model for PathEntries<'a> {
-    ghost use Rattle.std.specs.Prelude.{List};
-    ghost use Rattle.load_path.specs.Paths.{PathParts};
-    ghost use Rattle.edit_sums.specs.Entries.{Entry};
-    ghost use Rattle.path_maps.specs.Cursors.{left_of};
-
     ghost Value = { List (PathParts × Entry) };
 
-    ghost view = { λ e. left_of e.entries.inner (left_of e.entries.outer.inner e.entries.outer.outer) };
+    ghost view = { λ e. map (λ p. p.0) (or_nothing e.names) };
 }
 
 impl<'a> PathEntries<'a> {
-    // Returns a cursor over the entries of nested maps with valid paths.
-    pub(crate) fn of_ranks(ranks: &'a RankMap) -> Self
-        requires paths { AllKeys IsPath (listed ranks.now) }
-        ensures entries { result ≡ listed ranks.now }
-    {
-        let ranks = ranks.pairs();
-        PathEntries::from_folder(None, RanksLeft { ranks })
-    }
-
     // Returns a cursor over no entries.
     pub(crate) fn none() -> Self
         ensures entries { result ≡ [] }
     {
-        PathEntries::from_folder(None, RanksLeft { ranks: &[] })
+        PathEntries { names: None }
     }
 
-    // Returns a cursor over the entries of a folder with valid paths, or over none where there is no folder.
-    pub(crate) fn of_folder(rank: u8, found: Option<(&'a Bytes, &'a NameMap)>) -> Self
-        requires paths { IfSome found (λ f. AllKeys IsPath (in_folder rank f.0.now f.1.now)) }
-        ensures entries { result ≡ or_nothing (option_map (λ f. in_folder rank f.0.now f.1.now) found.entry) }
+    // Returns a cursor over the entries of a folder with valid paths.
+    pub(crate) fn of_folder(rank: u8, folder: &'a Bytes, names: &'a NameMap) -> Self
+        requires paths { AllKeys IsPath (in_folder rank folder.now names.now) }
+        ensures entries { result ≡ in_folder rank folder.now names.now }
     {
-        let names = match found {
-            None => None,
-            Some((folder, names)) => Some(NamesLeft {
-                rank: rank as usize,
-                folder,
-                names: names.pairs(),
-            }),
-        };
-        PathEntries::from_folder(names, RanksLeft { ranks: &[] })
-    }
-
-    // Returns a cursor over the entries of a folder, if there is one, and then those of some ranks.
-    fn from_folder(names: Option<NamesLeft<'a>>, ranks: RanksLeft<'a>) -> Self
-        ensures entries { result ≡ left_of names.entry (flat_map (λ xs. xs) ranks.entry) }
-    {
-        PathEntries {
-            entries: Nested {
-                inner: names,
-                outer: Nested {
-                    inner: None,
-                    outer: ranks,
-                },
-            },
-        }
+        let names = names_of(rank as usize, folder, names, ());
+        PathEntries { names: Some(names) }
     }
 
     /// Takes the next entry, if one is left. O(1). Allocates nothing.
     pub fn next_entry(&mut self) -> Option<PathEntry<'a>>
         ensures first { MatchOption result ((self.old ≡ []) × (self.new ≡ [])) (λ placed. self.old ≡ placed ∷ self.new) }
     {
-        self.entries.next()
+        let (entry, ()) = next_of(&mut self.names)?;
+        Some(entry)
     }
 }

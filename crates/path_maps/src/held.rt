@@ -84,6 +84,9 @@ impl<'a> Held<'a> {
     pub fn entries_in(&self, rank: u8, folder: &[u8]) -> PathEntries<'a>
         ensures entries { result ≡ filter (λ p. is_in rank folder.now p.0) (finmap.entries self.now) }
     {
-        PathEntries::of_folder(rank, folder_at(self.ranks, rank, folder))
+        match folder_at(self.ranks, rank, folder) {
+            Some((folder, names)) => PathEntries::of_folder(rank, folder, names),
+            None => PathEntries::none(),
+        }
     }
 }

@@ -12,6 +12,9 @@
 //! - `host_view_laws` and `difference_laws`: the laws of what a host sees, and of the places where two stores differ.
 #![tactic(auto)]
 
+mod beside;
+mod by_rank;
+mod by_scope;
 mod changes;
 mod counts;
 mod cursors;
@@ -19,6 +22,7 @@ mod differences;
 mod entries;
 mod held;
 mod laws;
+mod levels;
 mod look_ups;
 mod meets;
 mod places;
@@ -26,7 +30,6 @@ mod places_zipped;
 mod stores;
 mod together;
 mod view;
-mod zipped;
 
 pub use laws::{difference_laws, host_view_laws};
 pub use places::{Entries, Placed};

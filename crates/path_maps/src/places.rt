@@ -1,12 +1,13 @@
 //! Cursors over the entries of a store in place order: by scope, and within each scope by path.
-ghost use Rattle.std.specs.{Prelude.{◌≡◌, ◌∷◌, [], map, IfOk, MatchOption}, List.{flat_map}, Option.{option_copied}};
-ghost use Rattle.load_places.specs.Places.{place_cmp};
-ghost use Rattle.edit_sums.specs.Sums.{shown};
+ghost use Rattle.std.specs.{Prelude.{◌≡◌, ◌∷◌, [], List, map, IfOk, MatchOption}, Option.{option_copied}};
+ghost use Rattle.load_places.specs.Places.{place_cmp, PlaceParts};
+ghost use Rattle.edit_sums.specs.{Entries.{Entry}, Sums.{shown}};
 ghost use Rattle.path_maps.specs.{Cursors.{left_of}, Kept.{HasWellFormedPaths}, PlaceMaps.{all_listed, placed}, Scopes.{within}};
 
-use crate::cursors::{Cursor, Nested};
+use crate::by_scope::{Places, places_of};
+use crate::cursors::Cursor;
 use crate::entries::{PathEntries, PathEntry};
-use crate::stores::{RankMap, ScopeMap};
+use crate::stores::ScopeMap;
 use edit_sums::{Content, Entry};
 use load_places::{Place, Scope};
 use plain_values::Bytes;
@@ -22,10 +23,6 @@ pub struct Placed<'a> {
 }
 
 impl<'a> Model for Placed<'a> {
-    ghost use Rattle.load_places.specs.Places.{PlaceParts};
-    ghost use Rattle.edit_sums.specs.Entries.{Entry};
-    ghost use Rattle.path_maps.specs.Scopes.{within};
-
     ghost Value = { PlaceParts × Entry };
 
     ghost view = { λ p. (within p.scope.now p.entry.0, p.entry.1) };
@@ -97,83 +94,16 @@ impl<'a> Placed<'a> {
     }
 }
 
-// A cursor over the entries of a scope.
-#[derive(Drop)]
-struct ScopeLeft<'a> {
-    scope: &'a Scope,
-    entries: PathEntries<'a>,
-}
-
-impl<'a> Model for ScopeLeft<'a> {
-    ghost use Rattle.std.specs.Prelude.{List};
-    ghost use Rattle.load_places.specs.Places.{PlaceParts};
-    ghost use Rattle.edit_sums.specs.Entries.{Entry};
-    ghost use Rattle.path_maps.specs.PlaceMaps.{placed};
-
-    ghost Value = { List (PlaceParts × Entry) };
-
-    ghost view = { λ s. placed s.scope.now s.entries };
-}
-
-impl<'a> Cursor<Placed<'a>> for ScopeLeft<'a> {
-    ghost left = { λ s. s };
-
-    #[inline(always)]
-    fn next(&mut self) -> Option<Placed<'a>> {
-        let entry = self.entries.next_entry()?;
-        let scope = self.scope;
-        Some(Placed::new(scope, entry))
-    }
-}
-
-// A cursor over scopes.
-#[derive(Drop)]
-struct ScopesLeft<'a> {
-    scopes: &'a [(Scope, RankMap)],
-}
-
-impl<'a> Model for ScopesLeft<'a> {
-    ghost use Rattle.std.specs.Prelude.{List};
-    ghost use Rattle.load_places.specs.Places.{PlaceParts};
-    ghost use Rattle.edit_sums.specs.Entries.{Entry};
-    ghost use Rattle.path_maps.specs.{Cursors.{by_scope}, Kept.{HasWellFormedPaths}};
-
-    ghost Value = { List (List (PlaceParts × Entry)) };
-
-    ghost view = { λ s. by_scope s.scopes.now };
-
-    ghost invariant = { λ s. HasWellFormedPaths s.scopes.now };
-}
-
-impl<'a> Cursor<ScopeLeft<'a>> for ScopesLeft<'a> {
-    ghost left = { λ s. s };
-
-    fn next(&mut self) -> Option<ScopeLeft<'a>> {
-        let ((scope, ranks), rest) = self.scopes.split_first()?;
-        self.scopes = rest;
-        Some(ScopeLeft {
-            scope,
-            entries: PathEntries::of_ranks(ranks),
-        })
-    }
-}
-
 /// A cursor over the entries of a store, in place order.
 #[derive(Drop)]
 pub struct Entries<'a> {
-    // Nested: entries within scopes.
-    entries: Nested<ScopeLeft<'a>, ScopesLeft<'a>>,
+    entries: Places<'a, (), (), (), ()>,
 }
 
 impl<'a> Model for Entries<'a> {
-    ghost use Rattle.std.specs.Prelude.{List};
-    ghost use Rattle.load_places.specs.Places.{PlaceParts};
-    ghost use Rattle.edit_sums.specs.Entries.{Entry};
-    ghost use Rattle.path_maps.specs.Cursors.{left_of};
-
     ghost Value = { List (PlaceParts × Entry) };
 
-    ghost view = { λ e. left_of e.entries.inner e.entries.outer };
+    ghost view = { λ e. map (λ p. p.0) (left_of e.entries.inner e.entries.outer) };
 }
 
 impl<'a> Entries<'a> {
@@ -182,24 +112,8 @@ impl<'a> Entries<'a> {
         requires paths { HasWellFormedPaths scopes.now }
         ensures entries { result ≡ all_listed scopes.now }
     {
-        let scopes = scopes.pairs();
         Entries {
-            entries: Nested {
-                inner: None,
-                outer: ScopesLeft { scopes },
-            },
-        }
-    }
-
-    // Returns a cursor over the entries of one scope.
-    pub(crate) fn of_scope(scope: &'a Scope, entries: PathEntries<'a>) -> Self
-        ensures entries { result ≡ placed scope.now entries.entry }
-    {
-        Entries {
-            entries: Nested {
-                inner: Some(ScopeLeft { scope, entries }),
-                outer: ScopesLeft { scopes: &[] },
-            },
+            entries: places_of(scopes, ()),
         }
     }
 
@@ -207,7 +121,8 @@ impl<'a> Entries<'a> {
     pub fn next_entry(&mut self) -> Option<Placed<'a>>
         ensures first { MatchOption result ((self.old ≡ []) × (self.new ≡ [])) (λ placed. self.old ≡ placed ∷ self.new) }
     {
-        self.entries.next()
+        let (placed, ()) = self.entries.next()?;
+        Some(placed)
     }
 
     /// Returns the places of all entries that are left. Fails only if memory runs out. Copies no bytes.
@@ -220,4 +135,19 @@ impl<'a> Entries<'a> {
         }
         Ok(places)
     }
+}
+
+/// Returns the places of the entries of a folder, in a scope. Fails only if memory runs out. Copies no bytes.
+pub(crate) fn places_in(
+    scope: &Scope,
+    mut entries: PathEntries<'_>,
+    alloc: Global,
+) -> Result<Vec<Place>, AllocError>
+    ensures places { IfOk result (λ places. places.items ≡ map (λ p. p.0) (placed scope.now entries.entry)) }
+{
+    let mut places = Vec::new(alloc);
+    while let Some(entry) = entries.next_entry() {
+        places.push(Placed::new(scope, entry).place()?)?;
+    }
+    Ok(places)
 }

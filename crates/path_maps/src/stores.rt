@@ -15,7 +15,7 @@ use crate::counts::{Counts, count_entries};
 use crate::differences::find_unlike;
 use crate::held::Held;
 use crate::look_ups::host_at;
-use crate::places::Entries;
+use crate::places::{Entries, places_in};
 use crate::places_zipped::Zipped;
 use crate::together::Together;
 use crate::view::{HostView, Own};
@@ -190,7 +190,7 @@ impl Store {
             ≡ filter (is_within scope.now rank folder.now) (finmap.keys self.now)) }
     {
         let entries = self.held_in(scope).entries_in(rank, folder);
-        Entries::of_scope(scope, entries).places(self.allocator())
+        places_in(scope, entries, self.allocator())
     }
 
     /// All entries with their places, one after another in place order, those of removals too.

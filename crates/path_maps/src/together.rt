@@ -1,7 +1,8 @@
 //! A cursor over the places of two stores in place order, each with what both show there.
-ghost use Rattle.std.specs.Prelude.{◌≡◌, ◌∷◌, ◌++◌, [], None, IfOk, IsOk, MatchOption};
+ghost use Rattle.std.specs.{Prelude.{◌≡◌, ◌∷◌, ◌++◌, [], List, None, IfOk, IsOk, MatchOption}, Option.{option_copied}};
 ghost use Rattle.edit_sums.specs.Sums.{shown};
 ghost use Rattle.path_maps.specs.Together.{differ, differing, of_both, only_new, only_old, together};
+ghost use Rattle.path_maps.specs.Together as specs;
 
 use crate::places::{Entries, Placed};
 use edit_sums::Content;
@@ -19,9 +20,6 @@ struct Shown<'a> {
 }
 
 impl<'a> Model for Shown<'a> {
-    ghost use Rattle.std.specs.Option.{option_copied};
-    ghost use Rattle.path_maps.specs.Together as specs;
-
     ghost Value = { specs.Shown };
 
     ghost view = { λ s. (s.placed.0, (option_copied s.newer, option_copied s.older)) };
@@ -82,9 +80,6 @@ pub(crate) struct Together<'a> {
 }
 
 impl<'a> Model for Together<'a> {
-    ghost use Rattle.std.specs.Prelude.{List};
-    ghost use Rattle.path_maps.specs.Together as specs;
-
     ghost Value = { List specs.Shown };
 
     ghost view = { λ t. specs.together (specs.from_first t.newer t.newer_left) (specs.from_first t.older t.older_left) };

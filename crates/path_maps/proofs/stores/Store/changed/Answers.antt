@@ -1,7 +1,6 @@
-use Rattle.std.proofs.Common.{◌+◌, ◌↔◌, ◌≡◌, ◌≢◌}
-use Rattle.path_maps.proofs.Prelude.{additions, ap, arith, differing, IfOk-weaker, IsAmong, IsOk, IsStrictlySortedBy, List, place_cmp, PlaceParts, subst, sym, together, visible_at, ◌∙◌}
+use Rattle.std.proofs.Common.{◌↔◌, ◌≡◌, ◌≢◌}
+use Rattle.path_maps.proofs.Prelude.{ap, differing, IfOk-weaker, IsAmong, IsOk, IsStrictlySortedBy, List, place_cmp, PlaceParts, subst, sym, together, visible_at, ◌∙◌}
 use Rattle.path_maps.proofs.{Differing.{changed_ascends, changed_exact, changed_in, nothing_changed}, DifferingZipped.{nothing_zipped, zipped_ascends, zipped_exact}}
-use Rattle.std.specs.FinMap as finmap
 use Rattle.path_maps.proofs.stores.Store.changed.Goals as goal
 
 pub returns-clause-ascending : goal.returns-clause-ascending

@@ -1,0 +1,143 @@
+//! Cursors over nested maps by rank, folder and name, each entry with what is held beside it.
+ghost use Rattle.std.specs.{Prelude.{◌≡◌, ◌∷◌, []}, List.{flat_map}, Ordering.{nat_cmp}};
+ghost use Rattle.std.specs.declared.cmp.Ordering.TheVariants.{Less};
+ghost use Rattle.load_path.specs.Paths.{IsPath};
+ghost use Rattle.path_maps.specs.Cursors.{beside_path, folders_read, IsHeldAt, left_of, names_read};
+ghost use Rattle.path_maps.specs.{Folders.{path_at}, PathMaps.{at_name, bytes_cmp, in_folder, in_rank, listed}, Spread.{AllKeys}, Zipped.{zipped}};
+
+use crate::beside::Beside;
+use crate::cursors::{Cursor, Nested};
+use crate::entries::PathEntry;
+use crate::levels::{Level, Pair, Pairs, Reading};
+use crate::stores::{FolderMap, NameMap, RankMap};
+use edit_sums::Content;
+use join_law::Versioned;
+use plain_values::Bytes;
+
+/// A cursor over the names of a folder.
+pub type Names<'a, N> = Level<Pairs<'a, Bytes, Versioned<Content>>, InFolder<'a, N>>;
+
+/// A cursor over the folders of a rank.
+pub type Folders<'a, F> = Level<Pairs<'a, Bytes, NameMap>, InRank<F>>;
+
+/// A cursor over ranks.
+pub type Ranks<'a, R> = Level<Pairs<'a, u8, FolderMap>, InRanks<R>>;
+
+/// A cursor over the entries of all ranks, in path order.
+pub type Paths<'a, N, F, R> = Nested<Names<'a, N>, Nested<Folders<'a, F>, Ranks<'a, R>>>;
+
+/// Reads the names of a folder.
+#[derive(Drop)]
+pub struct InFolder<'a, N> {
+    rank: usize,
+    folder: &'a Bytes,
+    others: N,
+}
+
+impl<'a, N: Beside<Bytes>> Reading<Pair<'a, Bytes, Versioned<Content>>> for InFolder<'a, N> {
+    type Read = (PathEntry<'a>, N::Held);
+
+    ghost can = { λ s p. IsHeldAt (path_at s.rank s.folder.now p.0) p.1 };
+
+    ghost before = { λ p q. bytes_cmp p.0 q.0 ≡ Less };
+
+    ghost part = { λ s p. zipped (λ _. N.held s.others p.0) (at_name s.rank s.folder.now p.0 p.1) };
+
+    #[inline(always)]
+    fn read(&mut self, item: Pair<'a, Bytes, Versioned<Content>>) -> (PathEntry<'a>, N::Held) {
+        let Pair { key: name, value } = item;
+        let Some(entry) = value.entry() else {
+            unreachable!()
+        };
+        let entry = PathEntry::new(self.rank, self.folder, name, entry);
+        (entry, self.others.meet(name))
+    }
+}
+
+/// Reads the folders of a rank.
+#[derive(Drop)]
+pub struct InRank<F> {
+    rank: usize,
+    others: F,
+}
+
+impl<'a, N: Beside<Bytes>, F: Beside<Bytes, Held = N>> Reading<Pair<'a, Bytes, NameMap>>
+    for InRank<F> {
+    type Read = Names<'a, N>;
+
+    ghost can = { λ s p. AllKeys IsPath (in_folder s.rank p.0 p.1) };
+
+    ghost before = { λ p q. bytes_cmp p.0 q.0 ≡ Less };
+
+    ghost part = { λ s p. names_read (N.held (F.held s.others p.0)) s.rank p.0 p.1 ∷ [] };
+
+    #[inline(always)]
+    fn read(&mut self, item: Pair<'a, Bytes, NameMap>) -> Names<'a, N> {
+        names_of(self.rank, item.key, item.value, self.others.meet(item.key))
+    }
+}
+
+/// Reads all ranks.
+#[derive(Drop)]
+pub struct InRanks<R> {
+    others: R,
+}
+
+impl<'a, N: Beside<Bytes>, F: Beside<Bytes, Held = N>, R: Beside<u8, Held = F>> Reading<
+    Pair<'a, u8, FolderMap>,
+> for InRanks<R> {
+    type Read = Folders<'a, F>;
+
+    ghost can = { λ _ p. AllKeys IsPath (in_rank p.0 p.1) };
+
+    ghost before = { λ p q. nat_cmp p.0 q.0 ≡ Less };
+
+    ghost part = { λ s p. folders_read (λ f. N.held (F.held (R.held s.others p.0) f)) p.0 p.1 ∷ [] };
+
+    #[inline(always)]
+    fn read(&mut self, item: Pair<'a, u8, FolderMap>) -> Folders<'a, F> {
+        let others = self.others.meet(item.key);
+        let rank = *item.key as usize;
+        let left = item.value.pairs();
+        Level::new(Pairs { left }, InRank { rank, others })
+    }
+}
+
+/// Returns a cursor over the names of a folder with valid paths.
+#[inline(always)]
+pub fn names_of<'a, N: Beside<Bytes>>(
+    rank: usize,
+    folder: &'a Bytes,
+    names: &'a NameMap,
+    others: N,
+) -> Names<'a, N>
+    requires paths { AllKeys IsPath (in_folder rank folder.now names.now) }
+    ensures names { result ≡ names_read (N.held others) rank folder.now names.now }
+{
+    let left = names.pairs();
+    let reading = InFolder {
+        rank,
+        folder,
+        others,
+    };
+    Level::new(Pairs { left }, reading)
+}
+
+/// Returns a cursor over the entries of nested maps with valid paths.
+pub fn paths_of<'a, N: Beside<Bytes>, F: Beside<Bytes, Held = N>, R: Beside<u8, Held = F>>(
+    ranks: &'a RankMap,
+    others: R,
+) -> Paths<'a, N, F, R>
+    requires paths { AllKeys IsPath (listed ranks.now) }
+    ensures entries { left_of result.inner (left_of result.outer.inner result.outer.outer)
+        ≡ zipped (beside_path (λ r f. N.held (F.held (R.held others r) f))) (listed ranks.now) }
+{
+    let left = ranks.pairs();
+    Nested {
+        inner: None,
+        outer: Nested {
+            inner: None,
+            outer: Level::new(Pairs { left }, InRanks { others }),
+        },
+    }
+}
