@@ -5,6 +5,7 @@ ghost use Rattle.load_places.specs.Places.{place_cmp};
 
 use join_law::Version;
 use load_places::Place;
+use plain_values::copied;
 use sorted_pairs::seek;
 use std::alloc::{AllocError, Global};
 use std::marker::Model;
@@ -74,21 +75,7 @@ impl Digest {
         ensures copy { IfOk result (λ copy. copy ≡ self.now) }
     {
         Ok(Digest {
-            versions: copy_of(*self.versions.allocator(), &self.versions)?,
+            versions: copied(*self.versions.allocator(), &self.versions)?,
         })
     }
-}
-
-// Returns a copy of the versions.
-fn copy_of(
-    alloc: Global,
-    versions: &[(Place, Version)],
-) -> Result<Vec<(Place, Version)>, AllocError>
-    ensures copy { IfOk result (λ copy. copy.items ≡ versions.now) }
-{
-    let mut copy = Vec::with_capacity(alloc, versions.len())?;
-    for (place, version) in versions {
-        copy.push((place.try_clone()?, *version))?;
-    }
-    Ok(copy)
 }

@@ -7,10 +7,12 @@ ghost use Rattle.dropins.specs.{FolderLists.{folders, folders_of, with_name, wit
 
 use crate::dirs::{name_dirs, type_dirs};
 use crate::precedence::{Search, taken_entries};
+use plain_values::copied;
 use replica_store::{HostName, HostView, HostViewEntry, Place, Store};
 use std::alloc::{AllocError, Global};
 use std::collections::BTreeSet;
 use std::marker::Model;
+use std::slice::from_ref;
 use unit_name::{NameFault, Shape, UnitName};
 
 // Names in the order of their first occurrence, and the same names in a set.
@@ -90,7 +92,7 @@ pub fn folders(alloc: Global, names: &[UnitName]) -> Result<Vec<UnitName>, Alloc
 {
     if let Some((name, others)) = names.split_first() {
         if others.is_empty() && is_only_folder(name) {
-            return alone(alloc, name);
+            return copied(alloc, from_ref(name));
         }
     }
     let mut all = Listing::new(alloc);
@@ -108,15 +110,6 @@ fn is_only_folder(name: &UnitName) -> bool
         Shape::Plain | Shape::Template => !name.prefix().contains(&b'-'),
         Shape::Instance => false,
     }
-}
-
-// Returns a list of one name.
-fn alone(alloc: Global, name: &UnitName) -> Result<Vec<UnitName>, AllocError>
-    ensures alone { IfOk result (λ names. names.items ≡ name.now ∷ []) }
-{
-    let mut names = Vec::with_capacity(alloc, 1)?;
-    names.push(name.try_clone()?)?;
-    Ok(names)
 }
 
 /// The folders of a unit, listed once for its drop-ins and its links. In contracts it is the list. The folders of types

@@ -7,10 +7,11 @@ ghost use Rattle.fleet_answers.specs.Answers.{AreKnown, IsAnswer, IsSnapshot, Is
 ghost use Rattle.fleet_answers.specs.declared.questions.AnswerFault.TheVariants.{Workers};
 
 use crate::mirrored::mirrored;
-use crate::names::{copies_of, whole_names};
+use crate::names::whole_names;
 use crate::questions::{Answer, AnswerFault, Question};
 use crate::snapshots::Snapshot;
 use parallel_load::{Gate, LoadFault, are_sources, is_worker_count};
+use plain_values::{Items, copied};
 use replica_store::{HostName, Store};
 use std::alloc::{AllocError, Global};
 use std::marker::Model;
@@ -87,10 +88,10 @@ impl Remembered {
         if !serves(&store, &snapshot, names) {
             return None;
         }
-        let Ok(extra) = copies_of(store.allocator(), names) else {
+        let Ok(extra) = copied(store.allocator(), names) else {
             return None;
         };
-        let snapshot = snapshot.asked_for(extra);
+        let snapshot = snapshot.asked_for(Items::from_vec(extra));
         Some(Remembered { store, snapshot })
     }
 

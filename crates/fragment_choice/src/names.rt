@@ -9,9 +9,11 @@ ghost use Rattle.fragment_choice.specs.Indexes.{Adds, AreAliasesWithin, Gathers,
 
 use crate::aliases::AliasIndex;
 use crate::choices::{Choice, Chooses};
+use plain_values::copied;
 use replica_store::{HostName, Store};
 use std::alloc::{AllocError, Global};
 use std::collections::BTreeSet;
+use std::slice::from_ref;
 use unit_name::UnitName;
 
 /// Returns the names of a unit, as a host sees it or as it is seen without a host (systemd.unit(5), "Description"):
@@ -44,11 +46,11 @@ impl<'a> AliasIndex<'a> {
     {
         let others = self.all_after(alloc, name)?;
         if others.is_empty() {
-            return alone(alloc, name);
+            return copied(alloc, from_ref(name));
         }
         // an alias that more than eight others follow is its own main name, but has no other names
         if self.is_alias(alloc, name)? {
-            return alone(alloc, name);
+            return copied(alloc, from_ref(name));
         }
         listed(alloc, name, others)
     }
@@ -58,7 +60,7 @@ impl<'a> AliasIndex<'a> {
         ensures after { IfOk result (λ others. AreAliasesWithin self.now name.now 8 others.keys) }
     {
         let mut others = BTreeSet::new(alloc);
-        let mut level = alone(alloc, name)?;
+        let mut level = copied(alloc, from_ref(name))?;
         for depth in 0..8u8 {
             let next = self.after(alloc, &level)?;
             level = add_all(alloc, &mut others, next)?;
@@ -152,15 +154,6 @@ impl<'a> AliasIndex<'a> {
             _ => Ok(false),
         }
     }
-}
-
-// Returns a list of one name.
-fn alone(alloc: Global, name: &UnitName) -> Result<Vec<UnitName>, AllocError>
-    ensures alone { IfOk result (λ names. names.items ≡ name.now ∷ []) }
-{
-    let mut names = Vec::new(alloc);
-    names.push(name.try_clone()?)?;
-    Ok(names)
 }
 
 // Adds names to others, and returns the added names as a list.

@@ -2,7 +2,7 @@
 ghost use Rattle.std.specs.Prelude.{◌≡◌, ◌↔◌, IsTrue, IsOk, OnOk, IfOk, OnErr, IfErr};
 
 use crate::joins::{Join, Rest};
-use plain_values::Key;
+use plain_values::{Key, TryClone};
 use std::alloc::AllocError;
 use std::cmp::Ordering;
 
@@ -16,6 +16,12 @@ pub struct Version {
     pub counter: u64,
     /// The number of the node that made the edit.
     pub writer: u32,
+}
+
+impl TryClone for Version {
+    fn try_clone(&self) -> Result<Version, AllocError> {
+        Ok(*self)
+    }
 }
 
 /// A content with the version of the edit that wrote it, ordered by version, then by content. Of two entries at one

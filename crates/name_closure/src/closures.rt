@@ -5,8 +5,8 @@ ghost use Rattle.name_closure.specs.Loading.{LeadsByLoad, AreLoaded, IsRound};
 
 use crate::loads::{ClosureFault, Loads, Round};
 use crate::names::load_round;
-use crate::rounds::{add_loaded, copy_of, new_of};
-use plain_values::Key;
+use crate::rounds::{add_loaded, new_of};
+use plain_values::{Key, copied};
 use std::alloc::{AllocError, Global};
 use std::collections::BTreeMap;
 
@@ -74,7 +74,7 @@ pub fn close_by_rounds<
     ensures not_over { IfOk result (λ _. ¬ HasOver (Listed sources.now)
         (LeadsByLoad (L.is_loaded loader.now) (L.named loader.now)) K.cmp limit) }
 {
-    let sources = copy_of(alloc, sources)?;
+    let sources = copied(alloc, sources)?;
     let mut found = BTreeMap::new(alloc);
     let mut fresh = new_of(&found, sources);
     while !fresh.is_empty() {

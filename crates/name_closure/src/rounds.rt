@@ -9,17 +9,6 @@ use plain_values::Key;
 use std::alloc::{AllocError, Global};
 use std::collections::BTreeMap;
 
-// Returns an equal list.
-pub(crate) fn copy_of<K: Key>(alloc: Global, nodes: &[K]) -> Result<Vec<K>, AllocError>
-    ensures copy { IfOk result (λ copy. copy.items ≡ nodes.now) }
-{
-    let mut copy = Vec::new(alloc);
-    for node in nodes {
-        copy.push(node.try_clone()?)?;
-    }
-    Ok(copy)
-}
-
 // Returns the nodes that aren't found yet, each once, in ascending order. In place, allocating nothing. Costs a search
 // for each node, and O(m log m) for the m nodes that aren't found.
 pub(crate) fn new_of<K: Key, U>(found: &BTreeMap<K, U>, nodes: Vec<K>) -> Vec<K>

@@ -7,7 +7,7 @@ pub use Rattle.parallel_load.specs.{AffectedUnits.{AreAffected, AreAffectedBy, A
 pub use Rattle.path_maps.specs.HostLaws.{one_viewer}
 pub use Rattle.setting_rules.specs.SortedLaws.{sorted_is}
 pub use Rattle.sorted_pairs.specs.{PlaceLaws.{at_within, find_at, find_gap}, Places.{IsGap}}
-pub use Rattle.std.{proofs.{Common.{[], All, ap, append-nil, append_assoc, arith, Bool, Bor, codes, cond, drop, eq-eqb, Err, false, filter, get_or, IfErr, IfOk, inl, inr, is_some, IsSome, IsTrue, length, List, map, MatchOption, None, not, Ok, Option, position, refl, Result, rules, set, Some, subst, suc, sym, T, take, true, unwrap_or, zero, ℕ, ⊎_elim, ◌∙◌}, lemmas.{Bool.{and_from, and_parts, cases_Bool, cases_eq, cases_lt, cond-false, cond-true, Decides.{Decides-eqb}, eqb-true, ltb-false, ltb-true, or_cases, or_from, or_left, or_parts, or_right, true≢false}, Cmp.{tied_itself}, List.{append_cancel_right, Elements.{All-append, All-cons, All-head, All-nil, All-tail, All-weaker, filter_map-append}, Filters.{dedup_is}, length-map, map-append, map-id, Sorted.{Contains-permutation, IsPartitionPoint-from_clause, IsPermutation-sym, searched}, Sums.{passes_at_first, split_at_first}, take_all, take_more}, Map.{Iter.{iter_end}, Keys.{below_from_sorted}}, Option.{none-some, same_Some}, Result.{IfOk-weaker}, Slice.Eq.{ends_is, slice_eq-Decides, starts_is, strip_suffix_is}}, Math.Seq.{drop-cons}}, specs.{Bool.{beq}, Cmp.{Lexicographic.{nat_list_cmp_total, pointwise}, nat_cmp_total}, declared.{alloc.Global.{Global}, cmp.Ordering.{Ordering, TheVariants.{Equal, Greater, Less}}, vec.IntoIter.{IntoIter}}, FinMap.{Entries.{find}, is_sorted, nat_cmp-IsAntisymmetric, slice_cmp-IsAntisymmetric}, Global.{Vec}, Iterator.{Yields}, List.{cons_option, Contains, dedup, filter_map, flat_map, list_any, position_or_len, Sorted.{IsPartitionedBy, IsPartitionPoint, IsStrictlySortedBy}}, Map.{keys_of}, Option.{option_and_then, option_copied}, Ordering.{eq_by_cmp, is_lt, nat_cmp, ordering_then}, Prelude.{IfSome, IsPermutation, IsSorted}, Result.{IsErrAnd}, Str.{bytes_eq}, Vec.Iter.{into_iter_items, into_iter_steps}}}
+pub use Rattle.std.{proofs.{Common.{[], All, ap, append-nil, append_assoc, arith, Bool, Bor, codes, cond, drop, eq-eqb, Err, false, filter, get_or, IfErr, IfOk, inl, inr, is_some, IsSome, IsTrue, length, List, map, MatchOption, None, not, Ok, Option, position, refl, Result, rules, set, Some, subst, suc, sym, T, take, true, unwrap_or, zero, ℕ, ⊎_elim, ◌∙◌}, lemmas.{Bool.{and_from, and_parts, cases_Bool, cases_eq, cases_lt, cond-false, cond-true, Decides.{Decides-eqb}, eqb-true, ltb-false, ltb-true, or_cases, or_from, or_left, or_parts, or_right, true≢false}, Cmp.{tied_itself}, List.{append_cancel_right, Elements.{All-append, All-cons, All-head, All-nil, All-tail, All-weaker, filter_map-append}, Filters.{dedup_is}, length-map, map-append, Sorted.{Contains-permutation, IsPartitionPoint-from_clause, IsPermutation-sym, searched}, Sums.{passes_at_first, split_at_first}, take_all, take_more}, Map.Keys.{below_from_sorted}, Option.{none-some, same_Some}, Result.{IfOk-weaker}, Slice.Eq.{ends_is, slice_eq-Decides, starts_is, strip_suffix_is}}, Math.Seq.{drop-cons}}, specs.{Bool.{beq}, Cmp.{Lexicographic.{nat_list_cmp_total, pointwise}, nat_cmp_total}, declared.{alloc.Global.{Global}, cmp.Ordering.{Ordering, TheVariants.{Equal, Greater, Less}}, vec.IntoIter.{IntoIter}}, FinMap.{Entries.{find}, is_sorted, nat_cmp-IsAntisymmetric, slice_cmp-IsAntisymmetric}, Global.{Vec}, Iterator.{Yields}, List.{cons_option, Contains, dedup, filter_map, flat_map, list_any, position_or_len, Sorted.{IsPartitionedBy, IsPartitionPoint, IsStrictlySortedBy}}, Map.{keys_of}, Option.{option_and_then, option_copied}, Ordering.{eq_by_cmp, is_lt, nat_cmp, ordering_then}, Prelude.{IfSome, IsPermutation, IsSorted}, Result.{IsErrAnd}, Str.{bytes_eq}, Vec.Iter.{into_iter_items, into_iter_steps}}}
 pub use Rattle.unit_loads.specs.{Elsewhere.{unit_folders}, FootprintLaws.{store_footprints_decide}, Footprints.StartsIn.{alone, within}, MemberLaws.{among_filter_map, among_flat_map, filter_map_among, flat_map_among}, Prelude.{dirs_with, ending, folders, listed, mains_decide, name_dirs, names_ascend, one_list_of_names, Requires, Resolution, resolution, type_dirs, types_of, Wants, with_template}}
 pub use Rattle.unit_name.specs.NameLaws.{names_are_their_parts}
 pub use Rattle.worker_rounds.specs.{declared.chunks.Chunk.{Chunk}, Joined.{IsJoined}}

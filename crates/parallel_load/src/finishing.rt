@@ -7,11 +7,10 @@ ghost use Rattle.parallel_load.specs.Normalized.{IsNormalizedLoad, IsWhole, name
 
 use crate::kept::{NamedLists, RawLoad};
 use crate::loaded::{CachedRows, Dependency, Loaded, NameLoad};
-use crate::loader::add_names;
 use crate::mains::{Mains, Normalized};
 use crate::secondary_names::SecondaryNames;
 use crate::words::CachedLinkTargets;
-use plain_values::{Items, Shared, TryClone};
+use plain_values::{Items, Shared, copied};
 use replica_store::HostName;
 use std::alloc::{AllocError, Global};
 use std::collections::BTreeMap;
@@ -89,22 +88,12 @@ fn pairs_of(
 ) -> Result<Vec<(UnitName, RawLoad)>, AllocError>
     ensures pairs { IfOk result (λ pairs. pairs.items ≡ found.entries) }
 {
-    let mut pairs = Vec::with_capacity(alloc, found.len())?;
-    for pair in found {
-        pairs.push(pair)?;
-    }
-    Ok(pairs)
+    found.into_iter().collect(alloc)
 }
 
 // How many of these are units that were read.
 fn fresh_among(pairs: &[(UnitName, RawLoad)]) -> u64 {
-    let mut fresh: u64 = 0;
-    for (_, kept) in pairs {
-        if kept.is_fresh() {
-            fresh = fresh.saturating_add(1);
-        }
-    }
-    fresh
+    pairs.iter().filter(|pair| pair.1.is_fresh()).count() as u64
 }
 
 // Names with their units or main names, and with dependencies by main names and by indices. Each chunk has its own
@@ -175,10 +164,8 @@ fn load_with(
     ensures named { IfOk result (λ load. load.named ≡ kept.named.items) }
     ensures words { IfOk result (λ load. load.words ≡ kept.words) }
 {
-    let host = copy_of(host)?;
-    let mut asked = Vec::new(alloc);
-    add_names(&mut asked, extra)?;
-    let extra = Items::from_vec(asked);
+    let host = host.map(HostName::try_clone).transpose()?;
+    let extra = Items::from_vec(copied(alloc, extra)?);
     Ok(Loaded::new(host, extra, names, kept, fresh))
 }
 
@@ -187,7 +174,7 @@ pub(crate) fn copy_of_load(loaded: &Loaded) -> Result<Loaded, AllocError>
     ensures copy { IfOk result (λ copy. copy ≡ loaded.now) }
 {
     let alloc = loaded.allocator();
-    let names = copies_of(alloc, loaded.names())?;
+    let names = copied(alloc, loaded.names())?;
     load_with(
         alloc,
         loaded.host(),
@@ -196,27 +183,6 @@ pub(crate) fn copy_of_load(loaded: &Loaded) -> Result<Loaded, AllocError>
         loaded.kept()?,
         loaded.fresh(),
     )
-}
-
-// Copies of names with their units, which are shared.
-fn copies_of(alloc: Global, names: &[Named]) -> Result<Vec<Named>, AllocError>
-    ensures copies { IfOk result (λ copies. copies.items ≡ names.now) }
-{
-    let mut copies = Vec::with_capacity(alloc, names.len())?;
-    for (name, load) in names {
-        copies.push((name.try_clone()?, load.try_clone()?))?;
-    }
-    Ok(copies)
-}
-
-// The name of a host, if there is one. The copy shares its bytes.
-fn copy_of(host: Option<&HostName>) -> Result<Option<HostName>, AllocError>
-    ensures copy { IfOk result (λ copy. copy ≡ option_copied host.entry) }
-{
-    match host {
-        Some(host) => Ok(Some(host.try_clone()?)),
-        None => Ok(None),
-    }
 }
 
 // Names with their units or main names, and in the same order the lists of what they name and their dependencies by

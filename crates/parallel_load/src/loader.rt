@@ -5,6 +5,7 @@ ghost use Rattle.parallel_load.specs.Alone.{named_in, names_in_lists};
 use crate::kept::RawLoad;
 use fragment_choice::AliasIndex;
 use name_closure::Loads;
+use plain_values::append_copies;
 use setting_rules::DependencyList;
 use std::alloc::{AllocError, Global};
 use unit_loads::load_resolved;
@@ -70,17 +71,7 @@ fn add_lists(names: &mut Vec<UnitName>, lists: &[DependencyList]) -> Result<(), 
     ensures added { OnOk result (names.new.items ≡ names.old.items ++ names_in_lists lists.now) }
 {
     for list in lists {
-        add_names(names, list.names.as_slice())?;
-    }
-    Ok(())
-}
-
-// Appends names.
-pub(crate) fn add_names(names: &mut Vec<UnitName>, more: &[UnitName]) -> Result<(), AllocError>
-    ensures added { OnOk result (names.new.items ≡ names.old.items ++ more.now) }
-{
-    for name in more {
-        names.push(name.try_clone()?)?;
+        append_copies(names, list.names.as_slice())?;
     }
     Ok(())
 }

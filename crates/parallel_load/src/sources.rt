@@ -2,8 +2,8 @@
 ghost use Rattle.std.specs.Prelude.{◌≡◌, IfOk};
 ghost use Rattle.parallel_load.specs.Sources.{AreSourcesBy, whole_name};
 
-use crate::loader::add_names;
 use crate::words::CachedLinkTargets;
+use plain_values::copied;
 use std::alloc::{AllocError, Global};
 use unit_name::{NameFault, UnitName};
 
@@ -16,8 +16,7 @@ pub(crate) fn sources(
 ) -> Result<Vec<UnitName>, AllocError>
     ensures sources { IfOk result (λ names. AreSourcesBy words.now extra.now names.items) }
 {
-    let mut names = Vec::new(alloc);
-    add_names(&mut names, extra)?;
+    let mut names = copied(alloc, extra)?;
     for (name, _) in words.names() {
         if let Some(name) = whole_name(alloc, name.as_slice())? {
             names.push(name)?;

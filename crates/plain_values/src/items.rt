@@ -2,6 +2,7 @@
 ghost use Rattle.std.specs.Prelude.{◌≡◌, OnOk, OnErr, [], ◌∷◌, ◌++◌};
 
 use crate::keys::TryClone;
+use crate::lists::copied;
 use std::alloc::{AllocError, Global};
 use std::marker::Model;
 
@@ -80,11 +81,8 @@ impl<T: Drop> Items<T> {
 
 impl<T: TryClone> TryClone for Items<T> {
     fn try_clone(&self) -> Result<Items<T>, AllocError> {
-        let mut copy = Items::new(*self.elements.allocator());
-        for element in &self.elements {
-            copy.push(element.try_clone()?)?;
-        }
-        Ok(copy)
+        let elements = copied(*self.elements.allocator(), &self.elements)?;
+        Ok(Items { elements })
     }
 }
 

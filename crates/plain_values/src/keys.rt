@@ -16,6 +16,12 @@ pub trait Key: Ord + TryClone {
     ghost exact: { (x y : Self) → Self.cmp x y ≡ Equal → x ≡ y };
 }
 
+impl<A: TryClone, B: TryClone> TryClone for (A, B) {
+    fn try_clone(&self) -> Result<(A, B), AllocError> {
+        Ok((self.0.try_clone()?, self.1.try_clone()?))
+    }
+}
+
 impl TryClone for u8 {
     fn try_clone(&self) -> Result<u8, AllocError> {
         Ok(*self)

@@ -7,12 +7,14 @@
 //!   always shared.
 //! - `Items`: a list that contracts see as its elements; `Shared`: any value, shared by its copies.
 //! - `TryClone`: values whose copy may fail if memory runs out; `Key`: those with a total order.
+//! - `copied` and `append_copies`: copies of lists of such values.
 //! - `order` and `same`: comparison of byte slices, several bytes at a time.
 #![tactic(auto)]
 
 mod bytes;
 mod items;
 mod keys;
+mod lists;
 mod orders;
 mod shared;
 mod sharing;
@@ -21,6 +23,7 @@ mod short;
 pub use bytes::Bytes;
 pub use items::Items;
 pub use keys::{Key, TryClone};
+pub use lists::{append_copies, copied};
 pub use orders::{order, same};
 pub use shared::SharedBytes;
 pub use sharing::Shared;

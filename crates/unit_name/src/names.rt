@@ -46,7 +46,7 @@ pub enum NameFault {
 /// A name of 1 to 255 bytes: a stem, a dot and the suffix of a kind (systemd.unit(5), "Description"). Names are ordered
 /// by bytes; a proper prefix of a name is less. Methods that inspect a name are linear in its bytes and allocate
 /// nothing.
-#[derive(Debug, Drop)]
+#[derive(Debug, PartialEq, Eq, PartialOrd, Drop)]
 pub struct UnitName {
     bytes: Bytes,
 }
@@ -60,6 +60,8 @@ impl Model for UnitName {
     ghost view = { λ n. n.bytes };
 
     ghost invariant = { λ n. IsName n.bytes };
+
+    ghost inverse = { λ v. record { bytes = v } };
 }
 
 impl UnitName {
@@ -241,39 +243,6 @@ fn instance_bytes(
     bytes.push(b'.')?;
     bytes.extend_from_slice(suffix)?;
     Bytes::from_vec(bytes)
-}
-
-impl PartialEq for UnitName {
-    ghost use Rattle.std.specs.{Ordering.{eq_by_cmp}, Cmp.{eq_by_cmp_equiv, partial_equiv_from_equiv}};
-    ghost use Rattle.std.specs.Cmp.Lexicographic.{nat_list_cmp_total};
-    ghost use Rattle.unit_name.specs.Names.{name_cmp};
-
-    ghost eq = { eq_by_cmp name_cmp };
-
-    ghost laws = { partial_equiv_from_equiv (eq_by_cmp_equiv nat_list_cmp_total) };
-
-    fn eq(&self, other: &Self) -> bool {
-        self.cmp(other).is_eq()
-    }
-}
-
-impl Eq for UnitName {
-    ghost use Rattle.std.specs.{Cmp.{eq_by_cmp_equiv}, Cmp.Lexicographic.{nat_list_cmp_total}};
-
-    ghost laws = { eq_by_cmp_equiv nat_list_cmp_total };
-}
-
-impl PartialOrd for UnitName {
-    ghost use Rattle.std.specs.{Ordering.{as_partial_cmp}, Cmp.{partial_order_from_total}, Cmp.Lexicographic.{nat_list_cmp_total}};
-    ghost use Rattle.unit_name.specs.Names.{name_cmp};
-
-    ghost partial_cmp = { as_partial_cmp name_cmp };
-
-    ghost laws = { partial_order_from_total nat_list_cmp_total };
-
-    fn partial_cmp(&self, other: &Self) -> Option<Ordering> {
-        Some(self.cmp(other))
-    }
 }
 
 impl Ord for UnitName {

@@ -1,10 +1,10 @@
 use Rattle.std.proofs.Common.{◌+◌}
-use Rattle.fragment_choice.proofs.{Levels.{all_after, first_level, IsLevel, more_after, next_level, none_after}, Prelude.{[], arith, Gathers, LeadsToAny, List, Name, subst, sym}}
+use Rattle.fragment_choice.proofs.{Levels.{all_after, first_level, IsLevel, more_after, next_level, none_after}, Prelude.{[], arith, Gathers, LeadsToAny, List, Name, subst, sym, ◌∙◌}}
 use Rattle.fragment_choice.proofs.aliases.AliasIndex.all_after.Goals as goal
 
 pub loop-depth-init : goal.loop-depth-init
 loop-depth-init c = record {
-  level = first_level c.args.self.now c.args.name.now c.in_ok-level.level.items c.in_ok-level.ensures.alone;
+  level = first_level c.args.self.now c.args.name.now c.in_ok-level.level.items (c.in_ok-level.ensures.copy ∙ c.from_ref.ensures.value);
   after = none_after c.args.self.now c.args.name.now c.new-others.result.keys c.new-others.ensures.empty;
 }
 
