@@ -9,7 +9,7 @@
 //! - `Zipped`: a store's entries in place order, each with what another store holds at its place.
 //! - `HostView`, `HostViewEntries` and `HostViewEntry`: what a host sees of a store, or what is seen without a host, by level,
 //!   folder and name.
-//! - `host_view_laws` and `difference_laws`: the laws of what a host sees, and of the places where two stores differ.
+//! - `host_view_laws`: the laws of what a host sees.
 #![tactic(auto)]
 
 mod changes;
@@ -28,7 +28,7 @@ mod together;
 mod view;
 mod zipped;
 
-pub use laws::{difference_laws, host_view_laws};
+pub use laws::host_view_laws;
 pub use places::{Entries, Placed};
 pub use places_zipped::Zipped;
 pub use stores::{FolderMap, NameMap, RankMap, ScopeMap, Store};

@@ -2,9 +2,9 @@
 ghost use Rattle.std.specs.{Prelude.{◌≡◌, ◌<◌, ℕ, length, IfOk, IsTrue, MatchOption}, Ordering.{nat_cmp}};
 ghost use Rattle.list_laws.specs.Members.{IsAmong};
 ghost use Rattle.index_rows.specs.{Adjacency.{IsMember}, Successors.{AreSuccessorsOf, successors_from}};
-ghost use Rattle.plan_choice.specs.{IndexedCases.{case_of}, IndexedRefusals.{refusal_of}, Answers.{IsFirstPair, IsRefusal, IsClearBelow}};
+ghost use Rattle.plan_choice.specs.{IndexedCases.{case_of}, Answers.{IsFirstPair, IsRefusal, IsClearBelow}};
 
-use crate::answers::IndexedRefusal;
+use crate::answers::PlanRefusal;
 use crate::case_sets::CaseSets;
 use index_rows::{Successors, first_member, without};
 use std::alloc::{AllocError, Global};
@@ -30,27 +30,27 @@ fn first_pair(sources: &[bool], successors: &Successors, bits: &[bool]) -> Optio
 
 impl<'c, 'a> CaseSets<'c, 'a> {
     // The first cause that holds among those that are tested before the start order.
-    pub fn refusal(&self, alloc: Global) -> Result<Option<IndexedRefusal>, AllocError>
+    pub fn refusal(&self, alloc: Global) -> Result<Option<PlanRefusal<usize>>, AllocError>
         ensures { IfOk result (λ answer. MatchOption answer (IsClearBelow nat_cmp (case_of self.now) 6)
-            (λ refusal. IsRefusal nat_cmp (case_of self.now) (refusal_of refusal))) }
+            (IsRefusal nat_cmp (case_of self.now))) }
     {
         let case = self.case;
         if !case.loaded[case.target] {
-            return Ok(Some(IndexedRefusal::Target(case.target)));
+            return Ok(Some(PlanRefusal::Target(case.target)));
         }
         let unloaded = without(alloc, &self.needed, &case.loaded)?;
         if let Some(unit) = first_member(&unloaded) {
-            return Ok(Some(IndexedRefusal::Need(unit)));
+            return Ok(Some(PlanRefusal::Need(unit)));
         }
         if case.refuses_manual_start[case.target] {
-            return Ok(Some(IndexedRefusal::ManualStart));
+            return Ok(Some(PlanRefusal::ManualStart));
         }
         if let Some((unit, requisite)) = first_pair(&self.needed, &case.requisites, &self.idle) {
-            return Ok(Some(IndexedRefusal::Requisite(unit, requisite)));
+            return Ok(Some(PlanRefusal::Requisite(unit, requisite)));
         }
         match first_pair(&self.needed, &self.conflicting, &self.needed) {
             None => Ok(None),
-            Some((unit, conflicting_unit)) => Ok(Some(IndexedRefusal::Conflict(
+            Some((unit, conflicting_unit)) => Ok(Some(PlanRefusal::Conflict(
                 unit,
                 conflicting_unit,
             ))),

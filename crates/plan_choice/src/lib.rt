@@ -18,11 +18,9 @@ mod case_sets;
 mod cases;
 mod causes;
 mod choices;
-mod laws;
 mod plans;
 mod weak_dependencies;
 
-pub use answers::{IndexedPlan, IndexedRefusal};
+pub use answers::{IndexedPlan, PlanRefusal};
 pub use cases::IndexedCase;
-pub use laws::{plans_are_one, plans_by_name, plans_keep_promises};
 pub use plans::indexed_plan;

@@ -3,14 +3,15 @@ ghost use Rattle.std.specs.{Prelude.{◌≡◌, ℕ, length, IfOk, IfErr}, Order
 ghost use Rattle.list_laws.specs.Members.{IsAmong};
 ghost use Rattle.index_rows.specs.{Adjacency.{IsMember}, Successors.{AreSuccessorsOf, successors_from}};
 ghost use Rattle.name_closure.specs.Chains.{IsClosure};
-ghost use Rattle.plan_choice.specs.{IndexedCases.{case_of, count_of}, IndexedRefusals.{IsAnswer, refusal_of}};
+ghost use Rattle.plan_choice.specs.{IndexedCases.{case_of, count_of}, IndexedAnswers.{IsAnswer}};
 ghost use Rattle.plan_choice.specs.{Sets.{IsChosen, Starts, IsStoppedByConflict, TakesAlong}, Answers.{IsClearBelow, IsRefusal, IsPlan}};
 ghost use Rattle.plan_choice.specs.BitSets.{AreBitsOf, IsListOf};
 
-use crate::answers::{IndexedPlan, IndexedRefusal};
+use crate::answers::{IndexedPlan, PlanRefusal};
 use crate::case_sets::CaseSets;
 use crate::cases::IndexedCase;
 use index_rows::{Successors, members_of, reached_inside, without};
+use plain_values::Items;
 use start_order::start_order;
 use std::alloc::{AllocError, Global};
 
@@ -54,7 +55,7 @@ impl<'c, 'a> CaseSets<'c, 'a> {
     }
 
     // The plan if nothing is wrong with what the target needs, or the cycle among the units that are to start.
-    fn plan(&self, alloc: Global) -> Result<Result<IndexedPlan, IndexedRefusal>, AllocError>
+    fn plan(&self, alloc: Global) -> Result<Result<IndexedPlan, PlanRefusal<usize>>, AllocError>
         requires { IsClearBelow nat_cmp (case_of self.now) 6 }
         ensures { IfOk result (IsAnswer (case_of self.now)) }
     {
@@ -62,7 +63,7 @@ impl<'c, 'a> CaseSets<'c, 'a> {
         let chosen = self.chosen(alloc)?;
         let starting = without(alloc, &chosen, &case.running)?;
         match start_order(alloc, &starting, case.predecessors, case.successors)? {
-            Err(cycle) => Ok(Err(IndexedRefusal::Cycle(cycle))),
+            Err(cycle) => Ok(Err(PlanRefusal::Cycle(Items::from_vec(cycle)))),
             Ok(starts) => {
                 let stops = self.stops(alloc, &chosen)?;
                 Ok(Ok(IndexedPlan { stops, starts }))
@@ -78,13 +79,12 @@ impl<'c, 'a> CaseSets<'c, 'a> {
 pub fn indexed_plan(
     alloc: Global,
     case: &IndexedCase,
-) -> Result<Result<IndexedPlan, IndexedRefusal>, AllocError>
+) -> Result<Result<IndexedPlan, PlanRefusal<usize>>, AllocError>
     ensures plan { IfOk result (λ answer. IfOk answer (λ plan. IsPlan nat_cmp (case_of case.now) plan.stops.items
         plan.starts.items)) }
     ensures all { IfOk result (λ answer. IfOk answer (λ plan. (u : ℕ) → Starts nat_cmp (case_of case.now) u
         → IsAmong u plan.starts.items)) }
-    ensures refusal { IfOk result (λ answer. IfErr answer (λ refusal. IsRefusal nat_cmp (case_of case.now)
-        (refusal_of refusal))) }
+    ensures refusal { IfOk result (λ answer. IfErr answer (IsRefusal nat_cmp (case_of case.now))) }
 {
     let sets = CaseSets::of(alloc, case)?;
     match sets.refusal(alloc)? {

@@ -1,30 +1,9 @@
-//! Laws of commands: each is read back from its written form.
-ghost use Rattle.script_commands.specs.WrittenLaws.{CatIsReadBack, CrowdIsReadBack, EmptyPutIsReadBack, FilesIsReadBack, JustItsWordsAreRead, LinkIsReadBack, ListIsReadBack, MergeIsReadBack, NodeIsReadBack, OthersAreRefused, PartIsReadBack, PlanIsReadBack, PutIsReadBack, RemoveIsReadBack, SameIsReadBack, SendIsReadBack, ShowIsReadBack, SweepIsReadBack, WorkersIsReadBack};
+//! Laws of commands.
+ghost use Rattle.script_commands.specs.WrittenLaws.{JustItsWordsAreRead, OthersAreRefused};
 
-/// Each command is read back from its words, written with one space between them. Names are valid names; numbers are in
-/// decimal; places, targets and units are any words. A node whose units are asked for is written with or without an at
-/// sign and a host, which is any bytes other than spaces. The text of `put` is everything after the place and one
-/// space.
-pub fn commands_read_back()
-    ensures node { NodeIsReadBack }
-    ensures put { PutIsReadBack }
-    ensures empty_put { EmptyPutIsReadBack }
-    ensures link { LinkIsReadBack }
-    ensures remove { RemoveIsReadBack }
-    ensures merge { MergeIsReadBack }
-    ensures part { PartIsReadBack }
-    ensures send { SendIsReadBack }
-    ensures sweep { SweepIsReadBack }
-    ensures files { FilesIsReadBack }
-    ensures cat { CatIsReadBack }
-    ensures show { ShowIsReadBack }
-    ensures list { ListIsReadBack }
-    ensures plan { PlanIsReadBack }
-    ensures workers { WorkersIsReadBack }
-    ensures same { SameIsReadBack }
-    ensures crowd { CrowdIsReadBack }
-
-    // With any number of spaces, a line is read as a command exactly if it has the words of that command.
+/// A line is read as a command exactly if it has the words of that command, with any number of spaces; the text of `put` is
+/// everything after the place and one space. Any other line is refused by name.
+pub fn command_laws()
     ensures words { JustItsWordsAreRead }
     ensures others { OthersAreRefused }
 {}

@@ -6,7 +6,7 @@
 //! - `parse` returns the `Command` of a line, or a `LineRefusal`.
 //! - `read_place`, `read_places`, `read_file`, `read_link` and `read_host` parse the words of a command; a `Fault` is a
 //!   refusal or `Memory`.
-//! - `commands_read_back` is the law that written commands are read back.
+//! - `command_laws`: a line is a command just where it has its words.
 #![tactic(auto)]
 
 mod commands;
@@ -20,6 +20,6 @@ mod place_words;
 pub use commands::{Command, Fault, LineRefusal, Word, Words};
 pub use edit_counts::EditCount;
 pub use host_words::read_host;
-pub use laws::commands_read_back;
+pub use laws::command_laws;
 pub use parsing::parse;
 pub use place_words::{read_file, read_link, read_place, read_places};
