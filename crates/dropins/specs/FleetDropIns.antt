@@ -2,7 +2,7 @@
 -- Source: systemd.unit(5), "Description".
 use Rattle.std.proofs.Common.{◌<◌, ◌≡◌}
 use Rattle.dropins.specs.Prelude.{[], IsName, List, Name, option_and_then, PathMap, PathParts, shown_at, slice_get, Some, ℕ}
-use Rattle.dropins.specs.{declared.{link_names.Folder.{Folder}, precedence.Search.{Search, TheVariants.{DropIns, Links}}}, FolderLists.{folders}, Taken.{as_found, Candidate, Candidate.{At}, dirs_by, dirs_with, ending, name_dirs, Owner, Precedes, type_dirs}}
+use Rattle.dropins.specs.{declared.{folder_lists.Folder.{Folder}, precedence.Search.{Search, TheVariants.{DropIns, Links}}}, FolderLists.{folders}, Taken.{as_found, Candidate, Candidate.{At}, dirs_by, dirs_with, ending, name_dirs, Owner, Precedes, type_dirs}}
 
 -- The candidate is visible at the path, which is in one of the four directories and in the folder at this index of the
 -- list.

@@ -2,7 +2,7 @@
 -- are the drop-ins and links of the fleet by rank.
 use Rattle.std.proofs.Common.{◌%◌, ◌+◌, ◌/◌, ◌<◌, ◌==◌, ◌↔◌, ◌∷◌, ◌≡◌, ◌≤◌, ◌⊎◌}
 use Rattle.dropins.specs.Prelude.{[], ap, arith, Bool, cond, Content, EntryMap, false, File, Fleet, fleets_level, fleets_place, fleets_shown, fleets_sights, Gone, Host, host_view_of, HostViewMap, inl, inr, Link, List, Name, nat_tests, None, Option, option_and_then, option_map, path_after, path_at, PathParts, PlaceParts, refl, same_sights, scope_of, shown_at, ShowsNothing, Some, sym, true, viewed_at, viewed_place, within, ℕ, ◌∙◌}
-use Rattle.dropins.specs.{declared.{link_names.Folder.{Folder}, precedence.Search.{Search, TheVariants.{DropIns, Links}}}, FleetDropIns.{FleetStands, IsFleetDropIn, IsFleetLink, IsFleetTaken}, FolderLists.{folders}, OverLaws.{folders_decide_over, over_none, over_of_names}, PrecedenceLaws.{folders_decide}, Taken.{as_found, Candidate, Candidate.{At, Mask}, content_as_drop_in, dirs_by, dirs_with, ending, is_conf, is_null, IsDropInAt, IsDropInOf, IsLinked, IsTakenOver, name_dirs, Owner, Precedes, Stands, type_dirs}}
+use Rattle.dropins.specs.{declared.{folder_lists.Folder.{Folder}, precedence.Search.{Search, TheVariants.{DropIns, Links}}}, FleetDropIns.{FleetStands, IsFleetDropIn, IsFleetLink, IsFleetTaken}, FolderLists.{folders}, OverLaws.{folders_decide_over, over_none, over_of_names}, PrecedenceLaws.{folders_decide}, Taken.{as_found, Candidate, Candidate.{At, Mask}, content_as_drop_in, dirs_by, dirs_with, ending, is_conf, is_null, IsDropInAt, IsDropInOf, IsLinked, IsTakenOver, name_dirs, Owner, Precedes, Stands, type_dirs}}
 
 -- A host at whose places nothing is visible has the same drop-ins as without a host.
 abbrev pub HostsWithoutPlacesHaveTheseDropIns : Type 0

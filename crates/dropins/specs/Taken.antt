@@ -2,7 +2,7 @@
 -- Source: systemd.unit(5), "Description"; that the level goes before the closeness of a folder, and that types' folders come after every folder of a name, whatever the levels, is this project's own.
 use Rattle.std.proofs.Common.{if◌then◌else◌, ◌&&◌, ◌++◌, ◌-◌, ◌<◌, ◌↔◌, ◌∷◌, ◌≡◌, ◌≤◌, ◌⊎◌}
 use Rattle.dropins.specs.Prelude.{[], Bool, bytes_eq, codes, Contains, Content, drop, Entry, File, Gone, HostViewMap, IsLevel, IsName, length, level_of, Link, List, map, Name, nat_lt, None, Option, option_and_then, PathParts, PlaceParts, slice_get, Some, view, viewed_at, viewed_place, ℕ}
-use Rattle.dropins.specs.{declared.{link_names.Folder.{Folder, TheVariants.{Requires, Wants}}, precedence.Search.{Search, TheVariants.{DropIns, Links}}}, FolderLists.{folders, types_of}}
+use Rattle.dropins.specs.{declared.{folder_lists.Folder.{Folder, TheVariants.{Requires, Wants}}, precedence.Search.{Search, TheVariants.{DropIns, Links}}}, FolderLists.{folders, types_of}}
 use Rattle.std.specs.FinMap as finmap
 
 -- what stands for a file name in a folder: it takes the place and gives nothing, or it gives what is at this path

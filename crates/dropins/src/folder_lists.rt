@@ -1,8 +1,13 @@
-//! The folders of names.
-ghost use Rattle.std.specs.Prelude.{◌≡◌, ◌∷◌, [], IfOk, IsTrue, OnOk, fold};
-ghost use Rattle.unit_name.specs.Names.{IsName};
-ghost use Rattle.dropins.specs.{FolderLists.{folders, folders_of, with_name, with_prefix, with_template}, Listings.{IsKept}};
+//! The folders of names, and what a unit's folders give: its drop-ins, and the units that its link folders name.
+ghost use Rattle.std.specs.{List.{Contains, Sorted.{IsStrictlySortedBy}}, Option.{option_copied}, Prelude.{[], filter, fold, IfOk, IsTrue, List, map, OnOk, ℕ, ◌↔◌, ◌∷◌, ◌≡◌}};
+ghost use Rattle.load_places.specs.Places.{PlaceParts};
+ghost use Rattle.path_maps.specs.HostViews.{host_view_of};
+ghost use Rattle.unit_name.specs.Names.{is_name, IsName, Name, name_cmp};
+ghost use Rattle.dropins.specs.{FolderLists.{folders, folders_of, with_name, with_prefix, with_template}, Listings.{IsKept}, Taken.{AreDropInsOf, ending, entry_name, entry_place, file_name, IsDropInAt, IsLinked, IsLinkedOf}};
 
+use crate::dirs::{name_dirs, type_dirs};
+use crate::precedence::{Search, taken_entries};
+use replica_store::{HostName, HostView, HostViewEntry, Place, Store};
 use std::alloc::{AllocError, Global};
 use std::collections::BTreeSet;
 use std::marker::Model;
@@ -161,4 +166,146 @@ fn cut_name(alloc: Global, name: &UnitName, prefix: &[u8]) -> Result<UnitName, A
             Err(AllocError)
         }
     }
+}
+
+/// The folders whose links add dependencies (systemd.unit(5), "Description").
+#[derive(Clone, Copy, Debug, PartialEq, Eq)]
+pub enum Folder {
+    /// `NAME.wants`.
+    Wants,
+    /// `NAME.requires`.
+    Requires,
+}
+
+impl Folder {
+    // Returns what follows the unit's name in the folder's name.
+    fn ending(self) -> &'static [u8]
+        ensures ending { result.now ≡ ending self }
+    {
+        match self {
+            Folder::Wants => b".wants",
+            Folder::Requires => b".requires",
+        }
+    }
+}
+
+impl UnitFolders {
+    /// Returns the names that the link folders of a unit with these folders give, in byte order (systemd.unit(5),
+    /// "Description").
+    ///
+    /// Only links count, and a link gives its own file name. For each file name the link at the least level is taken,
+    /// and at that level the one in the first folder of the list. If it points to `/dev/null`, or if the file name is
+    /// no unit name, it gives nothing. Types have no link folders.
+    ///
+    /// Costs a search in the store for each folder at each level, and one sort by file name of the entries there. Fails
+    /// only if memory runs out.
+    pub fn links(
+        &self,
+        alloc: Global,
+        view: &HostView,
+        folder: Folder,
+    ) -> Result<Vec<UnitName>, AllocError>
+        ensures ascending { IfOk result (λ units. IsStrictlySortedBy name_cmp units.items) }
+        ensures exact { IfOk result (λ units. (n : Name) → Contains units.items n ↔ IsLinkedOf view.now
+            self.now folder n) }
+    {
+        let dirs = name_dirs(alloc, self.names(), folder.ending())?;
+        let taken = taken_entries(alloc, view, Search::Links, &dirs, &[])?;
+        unit_names(alloc, &taken)
+    }
+}
+
+/// Returns the names that the link folders of a unit with these names give, in byte order, as a host sees them or as
+/// they are seen without a host.
+///
+/// Lists the folders, and then does the same as `UnitFolders::links`.
+pub fn links(
+    alloc: Global,
+    store: &Store,
+    host: Option<&HostName>,
+    names: &[UnitName],
+    folder: Folder,
+) -> Result<Vec<UnitName>, AllocError>
+    ensures ascending { IfOk result (λ units. IsStrictlySortedBy name_cmp units.items) }
+    ensures exact { IfOk result (λ units. (n : Name) → Contains units.items n ↔ IsLinked (host_view_of store.now (option_copied host.entry)) names.now
+        folder n) }
+{
+    let folders = UnitFolders::of(alloc, names)?;
+    folders.links(alloc, &store.host_view(host), folder)
+}
+
+// Returns the file names that are unit names.
+fn unit_names(alloc: Global, taken: &[HostViewEntry]) -> Result<Vec<UnitName>, AllocError>
+    ensures names { IfOk result (λ units. units.items ≡ filter is_name (map entry_name taken.now)) }
+{
+    let mut units = Vec::new(alloc);
+    for placed in taken {
+        match UnitName::parse(alloc, placed.name().as_slice()) {
+            Ok(unit) => units.push(unit)?,
+            Err(NameFault::Memory) => return Err(AllocError),
+            Err(_) => {}
+        }
+    }
+    Ok(units)
+}
+
+impl UnitFolders {
+    /// Returns the drop-ins of a unit with these folders, in byte order of their file names (systemd.unit(5),
+    /// "Description"), as the borrowed entries that are seen there.
+    ///
+    /// A drop-in is a file in one of the folders `NAME.d` or `TYPE.d` whose name ends in `.conf` and is longer than
+    /// that; the type of a name is what follows its last dot, such as `service`. For each file name, the folders of
+    /// names come first: there the file at the least level is taken, and at that level the one in the first folder of
+    /// the list. If they have none, the file at the least level in the folders of types is taken. If the file that is
+    /// taken is empty, or is a link to `/dev/null`, there is no drop-in with this file name. Other links don't count.
+    ///
+    /// Costs a search in the store for each folder at each level, and one sort by file name of the entries there. Fails
+    /// only if memory runs out. Copies no bytes of an entry.
+    pub fn drop_ins<'a>(
+        &self,
+        alloc: Global,
+        view: &HostView<'a>,
+    ) -> Result<Vec<HostViewEntry<'a>>, AllocError>
+        ensures ascending { IfOk result (λ taken. IsStrictlySortedBy name_cmp (map entry_name taken.items)) }
+        ensures exact { IfOk result (λ taken. AreDropInsOf view.now self.now taken.items) }
+    {
+        let names = name_dirs(alloc, self.names(), b".d")?;
+        let types = type_dirs(alloc, self.names(), b".d")?;
+        taken_entries(alloc, view, Search::DropIns, &names, &types)
+    }
+}
+
+/// Returns the places of the drop-ins of a unit with these names, in byte order of their file names, as a host sees
+/// them or as they are seen without a host. They come from the folders of the names and of their types.
+///
+/// Lists the folders, and then does the same as `UnitFolders::drop_ins`.
+pub fn order(
+    alloc: Global,
+    store: &Store,
+    host: Option<&HostName>,
+    names: &[UnitName],
+) -> Result<Vec<Place>, AllocError>
+    ensures ascending { IfOk result (λ places. IsStrictlySortedBy name_cmp (map file_name places.items)) }
+    ensures exact { IfOk result (λ places. (p : PlaceParts) → Contains places.items p ↔ IsDropInAt
+        (host_view_of store.now (option_copied host.entry)) names.now p) }
+{
+    let folders = UnitFolders::of(alloc, names)?;
+    let view = store.host_view(host);
+    let taken = folders.drop_ins(alloc, &view)?;
+    places_of(alloc, &view, &taken)
+}
+
+/// Returns the places of entries that are seen, in the same order. Fails only if memory runs out. Copies no bytes.
+pub fn places_of(
+    alloc: Global,
+    view: &HostView,
+    entries: &[HostViewEntry],
+) -> Result<Vec<Place>, AllocError>
+    ensures places { IfOk result (λ places. places.items ≡ map (entry_place view.now) entries.now) }
+{
+    let mut places = Vec::new(alloc);
+    for placed in entries {
+        places.push(view.place(placed)?)?;
+    }
+    Ok(places)
 }

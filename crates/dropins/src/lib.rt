@@ -19,12 +19,8 @@
 mod dirs;
 mod folder_lists;
 mod laws;
-mod link_names;
-mod orders;
 mod precedence;
 
 pub use dirs::{name_dirs, type_dirs};
-pub use folder_lists::{UnitFolders, folders};
+pub use folder_lists::{Folder, UnitFolders, folders, links, order, places_of};
 pub use laws::{drop_in_laws, folder_laws};
-pub use link_names::{Folder, links};
-pub use orders::{order, places_of};

@@ -7,7 +7,7 @@ use thiserror::Error;
 use unit_name::NameFault;
 
 /// What may go wrong in these examples.
-#[derive(Debug, Drop, Error)]
+#[derive(Clone, Copy, Debug, Error)]
 pub enum EmbeddingFault {
     /// A text that writes no place.
     #[error("{0}")]

@@ -3,7 +3,7 @@
 //!
 //! Promise: none of its own.
 //!
-//! It writes what each comes to, and reads nothing. `stdout` has what must be written; the gate compares the two.
+//! It writes the result of each, and reads nothing. `stdout` has what must be written; the gate compares the two.
 #![tactic(auto)]
 
 mod asking;
@@ -23,7 +23,7 @@ use std::process::ExitCode;
 use std::sync::Wait;
 use std::thread::Threads;
 
-// What all ways come to, one behind another.
+// The results of all examples, one after another.
 fn shown(rt: &(impl AllocGlobal + Threads + Wait + Sync)) -> Result<Vec<u8>, EmbeddingFault> {
     let alloc = rt.alloc();
     let mut text = scripts::answers_to(
@@ -34,14 +34,14 @@ fn shown(rt: &(impl AllocGlobal + Threads + Wait + Sync)) -> Result<Vec<u8>, Emb
     text.extend_from_slice(&asking::ask_often(rt)?)?;
     let alike = exchanging::exchange_messages(alloc)?;
     text.extend_from_slice(&truth_of(alloc, "exchanged alike", alike)?)?;
-    let (told, takes) = sharing::edit_from_threads(rt)?;
-    text.extend_from_slice(&told)?;
+    let (answers, takes) = sharing::edit_from_threads(rt)?;
+    text.extend_from_slice(&answers)?;
     text.extend_from_slice(format!(in alloc; "takes by threads: {takes}\n")?.as_bytes())?;
     Ok(text)
 }
 
-// What all ways come to, or why one of them came to nothing.
-fn told(rt: &(impl AllocGlobal + Threads + Wait + Sync)) -> Result<Vec<u8>, EmbeddingFault> {
+// The results of all examples, or why one of them failed.
+fn results(rt: &(impl AllocGlobal + Threads + Wait + Sync)) -> Result<Vec<u8>, EmbeddingFault> {
     match shown(rt) {
         Ok(text) => Ok(text),
         Err(fault) => {
@@ -52,7 +52,7 @@ fn told(rt: &(impl AllocGlobal + Threads + Wait + Sync)) -> Result<Vec<u8>, Embe
 }
 
 fn main(rt: HostRuntime) -> ExitCode {
-    let Ok(text) = told(&rt) else {
+    let Ok(text) = results(&rt) else {
         return ExitCode::from(2);
     };
     let mut writer = Watched::new(io::writer(&rt));

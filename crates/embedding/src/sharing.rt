@@ -163,9 +163,9 @@ fn ask<N: NodeName>(
         return Err(EmbeddingFault::Node);
     };
     let mut text = Vec::new(rt.alloc());
-    let told = append_starts(rt, snapshots, view.store(), b"thread-0.service", &mut text);
+    let appended = append_starts(rt, snapshots, view.store(), b"thread-0.service", &mut text);
     let seat = view.leave();
-    told?;
+    appended?;
     Ok((seat, text))
 }
 

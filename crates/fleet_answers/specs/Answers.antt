@@ -65,7 +65,7 @@ module _ (load : LoadMap) where
     pub edges_are : AreEdges load edges
     pub plan_is : IsPlanBy edges request returned
 
-  -- this is what a question is told, all of whose names stand for units
+  -- this is returned for a question whose names all resolve to units
   abbrev pub IsReturned : Question → Answer → Type 0
   IsReturned (OfUnit host name) returned = (unit : LinkedUnit) × IsLinkedUnit name unit × (returned ≡ answer.Unit unit)
   IsReturned (OfPulled host name) returned = (pairs : List (ℕ × Name)) × ArePulled name pairs × (returned ≡ answer.Pulled pairs)
@@ -82,17 +82,18 @@ pub record IsSnapshot (s : HostViewMap) (extra : List Name) (load : LoadMap) : T
 abbrev pub IsSnapshotOf : EntryMap → LoadMap → Type 0
 IsSnapshotOf store load = IsSnapshot (host_view_of store load.host) load.extra load
 
--- this is what a question is told by such a load of all names that are asked for
+-- this is returned from such a load of all names that are asked for
 pub record IsReturnedFrom (s : HostViewMap) (names : List Name) (question : Question) (returned : Answer) : Type 0 where
   pub load : LoadMap
   pub snapshot : IsSnapshot s names load
   pub returned_is : IsReturned load question returned
 
--- the store is too large, or this is what the question is told
+-- the store is too large, or this is returned
 abbrev pub IsWholeAnswer : HostViewMap → List Name → Question → Answer → Type 0
 IsWholeAnswer s names question returned = (IsTooLarge s names × (returned ≡ answer.TooManyUnits)) ⊎ IsReturnedFrom s names question returned
 
--- This is what a question is answered from a store, as its host sees it or as it is seen without one, where further names are asked for: a template among the names is told before the store is looked at.
+-- This is the answer to a question from a store, as the question's host sees it or as it is seen without a host, where further
+-- names are asked for. A template among the names is answered before the store is read.
 abbrev pub IsAnswer : EntryMap → List Name → Question → Answer → Type 0
 IsAnswer s extra question returned =
     (HasTemplate (asked extra question) × (returned ≡ answer.Template))

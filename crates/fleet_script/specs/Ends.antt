@@ -1,4 +1,4 @@
--- What holds when a run ends: of a reader that tells what it has left, and of a writer that tells what it holds.
+-- What holds when a run ends: of a reader whose remaining bytes are known, and of a writer whose contents are known.
 -- Source: this project's own.
 use Rattle.std.proofs.Common.{◌≤◌, ◌⊎◌}
 use Rattle.fleet_script.specs.{Prelude.{Appends, AreAll, FailedSince, IsOver, Keeps, length, List, Option, ℕ}, Scripts.{Answers, AnswersPrefix}}

@@ -1,4 +1,4 @@
--- Each place and its text give each other; of a text that is no place, what is wrong with its host is told first.
+-- Each place and its text give each other; for a text that is no place, the refusal of its host comes first.
 use Rattle.std.proofs.Common.{◌++◌, ◌+◌, ◌<◌, ◌==◌, ◌∷◌, ◌≡◌, ◌≢◌, ◌⊎◌}
 use Rattle.load_path.specs.Paths.{text_of}
 use Rattle.load_places.specs.Prelude.{[], add-one, and_parts, ap, append_assoc, are_their_texts, arith, Bool, cases_Bool, cond-false, cond-true, drop, drop-append-add, eqb-true, Err, false, inl, inr, is_err, IsErr, IsPath, IsTrue, length, List, list_all, list_any, nat_lt, nat_tests, None, Ok, Option, or_parts, path_of, PathFault, PathParts, position, position_from, position_from-zero, refl, Result, Some, subst, suc, sym, take, take-append_seam, true, zero, ℕ, ⊎_elim, ◌∙◌}

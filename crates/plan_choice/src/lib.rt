@@ -8,19 +8,14 @@
 //! chosen: it starts, and running units that conflict with it stop.
 //!
 //! - `cases`: the input of a plan.
-//! - `wishes`, `choices`: which weak dependencies are good, and which units are chosen.
-//! - `causes`: why there is no plan.
-//! - `plans`: the plan, `indexed_plan`.
+//! - `case_sets`: which weak dependencies are good, which units are pulled, dropped and chosen, why there is no plan, and
+//!   the plan: `indexed_plan`.
 #![tactic(auto)]
 
 mod answers;
 mod case_sets;
 mod cases;
-mod causes;
-mod choices;
-mod plans;
-mod weak_dependencies;
 
 pub use answers::{IndexedPlan, PlanRefusal};
+pub use case_sets::indexed_plan;
 pub use cases::IndexedCase;
-pub use plans::indexed_plan;

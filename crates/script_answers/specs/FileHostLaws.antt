@@ -1,26 +1,26 @@
--- Laws of a unit's files for hosts: for one at whose places nothing is visible they are told as without a host, and no other
--- host's place changes any of it.
+-- Laws of a unit's files for hosts: for one at whose places nothing is visible they are rendered as without a host, and another
+-- host's places don't change them.
 use Rattle.std.proofs.Common.{◌++◌, ◌↔◌, ◌∷◌, ◌≡◌, ◌≢◌}
 use Rattle.script_answers.specs.Prelude.{[], ap, Choice, codes, Contains, content_at, EntryMap, Err, files_show, first_there, flat_map, HaveTheSameFiles, Host, host_asked, host_view_of, HostFault, hosts_without_places_have_these_files, HostViewMap, later_there, level_for, List, mains_decide, MatchResult, Name, name_of, NameFault, None, Ok, Option, other_hosts_are_not_in_view, Outcome, PlaceParts, refl, Resolution, resolution, Result, same_mains, ShowsNothing, Some, subst, sym, turned, Viewer, ℕ, ◌∙◌}
 use Rattle.script_answers.specs.{Files.{file_bytes, file_lines, IsCat, RefusesName, RendersChoice, RendersFiles, RendersFilesOf}, Hosts.{RefusesHost}}
 use Rattle.std.specs.FinMap as finmap
 use Rattle.fragment_choice.specs.declared.choices.Choice.TheVariants as choice
 
--- For a host at whose places nothing is visible a unit's files are told as they are told without a host.
+-- For a host at whose places nothing is visible a unit's files are rendered as they are rendered without a host.
 abbrev pub HostsWithoutPlacesAreRenderedTheFleetsFiles : Type 0
 HostsWithoutPlacesAreRenderedTheFleetsFiles =
     (s : EntryMap) (host : List ℕ) → ShowsNothing s (Host host) → (asked : Option (List ℕ)) → host_asked asked ≡ Ok (Some host)
     → (word : List ℕ) (outcome : Outcome) → RendersFiles asked word s outcome ↔ RendersFiles None word s outcome
 
--- What stands at another host's place changes nothing of what is told for this host, and what stands at any host's place nothing
--- of what is told without one.
+-- What stands at another host's place changes nothing of what is rendered for this host, and what stands at any host's place
+-- nothing of what is rendered without one.
 abbrev pub OtherHostsChangeNoFiles : Type 0
 OtherHostsChangeNoFiles =
     (s t : EntryMap) (asked : Option (List ℕ)) (host : Viewer) → host_asked asked ≡ Ok host → (place : PlaceParts)
     → level_for host place ≡ None → ((q : PlaceParts) → q ≢ place → finmap.get s q ≡ finmap.get t q)
     → (word : List ℕ) (outcome : Outcome) → RendersFiles asked word s outcome → RendersFiles asked word t outcome
 
--- ---- the same files are told the same
+-- ---- the same files are rendered alike
 
 -- the lines of the files at some places
 abbrev lines_of : HostViewMap → List PlaceParts → List ℕ
@@ -69,7 +69,7 @@ module _ (s t : HostViewMap) (same : HaveTheSameFiles s t) (outcome : Outcome) w
 
 -- ---- the laws
 
--- what is told for a host that is read is told for that host
+-- what is rendered for a host's text is rendered for that host
 module _ (asked : Option (List ℕ)) (host : Viewer) (is : host_asked asked ≡ Ok host)
     (word : List ℕ) (s : EntryMap) (outcome : Outcome) where
   abbrev For : Result Viewer HostFault → Type 0

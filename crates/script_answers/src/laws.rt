@@ -1,9 +1,9 @@
-//! Laws of what is told of a node: the contract of a function that does nothing.
+//! Laws of answers: each question has one, and what a host's places change.
 ghost use Rattle.script_answers.specs.{FileHostLaws.{HostsWithoutPlacesAreRenderedTheFleetsFiles, OtherHostsChangeNoFiles}, CrowdLaws.{CrowdsAreRenderedOnce}, FileLaws.{FilesAreRenderedOnce}, RendersLaws.{QuestionsAreRenderedOnce}};
 
-/// What is told of a node's store is told in one way, or refused in one way. For a host at whose places nothing is visible a
-/// unit's files are told as without a host, and what stands at another host's place changes nothing of them.
-pub fn telling_laws()
+/// A store's answer to a command is rendered in one way, or refused in one way. For a host at whose places nothing is
+/// visible, `cat` renders what it renders without a host. Another host's places don't change it.
+pub fn rendering_laws()
     ensures files { FilesAreRenderedOnce }
     ensures questions { QuestionsAreRenderedOnce }
     ensures crowds { CrowdsAreRenderedOnce }

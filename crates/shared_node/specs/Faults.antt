@@ -97,7 +97,7 @@ AtCause given here (causes.SeatsOut absent) = (0 < absent) × (given ≡ here + 
 AtCause given here (causes.Disagree seat node) = seat ≢ node
 AtCause given here causes.Memory = Unit {0}
 
--- what is shown where a node isn't closed: what was shown; for want of memory that, or all that was accepted
+-- what is shown if a node isn't closed: what was shown; if memory ran out that, or all that was accepted
 abbrev pub ShowsStill : CloseCause → KeeperNow → List HistoryEvent → Type 0
 ShowsStill (causes.SeatsOut absent) old shown = shown ≡ old.shown
 ShowsStill (causes.Disagree seat node) old shown = shown ≡ old.shown

@@ -3,17 +3,12 @@
 //!
 //! Promise: the universe and its graph are exact.
 //!
-//! - `graph`: `Graph`, which borrows a load and its edges.
-//! - `reaches`: reachability and distances.
-//! - `rows`: the adjacency lists.
-//! - `members`: the names of all units.
+//! - `graph`: `Graph`, which borrows a load and its edges: adjacency lists, reachability, distances, and the names of all
+//!   units.
 #![tactic(auto)]
 
-mod adjacency;
 mod graph;
 mod laws;
-mod members;
-mod reaches;
 
 pub use graph::Graph;
 pub use laws::graph_laws;

@@ -4,7 +4,7 @@ use Rattle.setting_rules.specs.declared.kinds.DepKind.TheVariants.{Requires, Wan
 use Rattle.unit_loads.specs.Prelude.{[], After, among_from_contains, ap, AreNames, Before, BindsTo, BoundBy, Choice, ConflictedBy, Conflicts, ConsistsOf, Contains, contains_from_among, DependencyList, DepKind, Err, Folder, for_unit, HostViewMap, inl, inr, is_settable, IsAmong, IsAmong-append_cases, IsAmong-append_left, IsAmong-append_right, IsLinked, IsStrictlySortedBy, IsTrue, kinds, List, map, Name, name_cmp, named_by, names_ascend, names_by, names_stay, Ok, one_list_of_names, OnFailure, OnFailureOf, PartOf, PlaceParts, PropagatesReloadTo, refl, ReloadPropagatedFrom, RequiredBy, Requisite, RequisiteOf, resolution, Result, result_ok, settable, SettingMap, SettingNoteKind, Some, subst, sym, WantedBy, words_for, ℕ, ◌∙◌}
 use Rattle.unit_loads.specs.{AssignedLaws.{words_are_assigned}, declared.{links.LinkNames.{LinkNames}, units.{Status.{Status, TheVariants.{Bad, Loaded, Masked, NotFound}}, Unit.{Unit as LoadedUnit}}}, MemberLaws.{among_filter, among_filter_map, among_map, filter_among, filter_map_among, HasSource, map_among}, NamedUnits.{IsAssigned, IsListed, IsNamed, IsNamedByLink, kind_of}, UnitLaws.{one_dropins}, Units.{AreDropIns, AreLinks, HasAllOf, HasSettings, IsStatus, IsUnit, items_of, linked_by, links_for, list_with, no_names, settings_in}}
 use Rattle.fragment_choice.specs.declared.choices.Choice.TheVariants as choice
-use Rattle.dropins.specs.declared.link_names.Folder.TheVariants as folder
+use Rattle.dropins.specs.declared.folder_lists.Folder.TheVariants as folder
 
 -- A unit has a list for each kind that a unit file may set, in the order of the kinds, whatever its status.
 abbrev pub UnitsListAllKinds : Type 0

@@ -79,8 +79,7 @@ fn append_returned(out: &mut Answer, returned: &Returned) -> Done {
     }
 }
 
-// The text of what workers answered, if there was a node to ask; or of why there is no answer, unless that is want of
-// memory.
+// The text of an answer, if there was a node to ask, or of why there is none, unless memory ran out.
 fn text_of(
     alloc: Global,
     returned: Result<Option<Returned>, AnswerFault>,
@@ -95,12 +94,12 @@ fn text_of(
     Ok(out.bytes)
 }
 
-// Writes a text, or that it is the one before.
+// Writes a text, or that it is the same as the one before.
 fn append_beside(out: &mut Answer, text: &[u8], before: &[u8]) -> Done {
     out.either(text == before, b"the same", text)
 }
 
-// A question, and by how many workers it is answered, each time.
+// A question, and the numbers of workers by which it is answered.
 #[derive(Drop)]
 struct Asking {
     question: Question,
@@ -114,13 +113,13 @@ fn asking_of(words: &mut Words, host: Viewer) -> Result<Asking, LineFault> {
     Ok(Asking { question, counts })
 }
 
-// What a store answers, by one thread.
+// The answer from a store, by one thread.
 fn returned_here(alloc: Global, asked: &Asked, question: &Question) -> Result<Vec<u8>, LineFault> {
     let returned = answer_here(alloc, &asked.store, &asked.names, question)?;
     text_of(alloc, Ok(Some(returned)))
 }
 
-// What a store answers, by so many workers.
+// The answer from a store, by this many workers.
 fn returned_by<R: Threads + Sync>(
     rt: &R,
     alloc: Global,
@@ -133,7 +132,7 @@ fn returned_by<R: Threads + Sync>(
     text_of(alloc, returned.map(Some))
 }
 
-// Writes what a store answers by one thread, and then by each number of workers.
+// Writes the answer from a store by one thread, and then by each number of workers.
 fn append_all<R: Threads + Sync>(rt: &R, out: &mut Answer, asked: &Asked, asking: &Asking) -> Done {
     let here = returned_here(out.alloc, asked, &asking.question)?;
     out.write(&here)?;
@@ -152,8 +151,7 @@ pub fn ask<R: Threads + Sync>(rt: &R, words: &mut Words, host: Viewer, out: &mut
     append_all(rt, out, &asked, &asking)
 }
 
-// What a store answers of names that aren't asked for beside the question, by one worker, where what was loaded for the answer
-// before is refreshed.
+// The answer from a store by one worker, with no names besides the question's; the snapshot of the answer before is refreshed.
 fn returned_again<R: Threads + Sync>(
     rt: &R,
     alloc: Global,
@@ -165,7 +163,7 @@ fn returned_again<R: Threads + Sync>(
     text_of(alloc, returned.map(Some))
 }
 
-// Writes what the store of so many first edits answers, and whether that is what it answers by one thread.
+// Writes the answer from the store of the first `count` edits, and whether it is the one by one thread.
 fn append_again<R: Threads + Sync>(
     rt: &R,
     out: &mut Answer,
@@ -196,7 +194,7 @@ pub fn again<R: Threads + Sync>(rt: &R, words: &mut Words, host: Viewer, out: &m
     Ok(())
 }
 
-// The first node puts edits, and then the second is given all that it lacks, in the exchange of a number.
+// The first node puts edits, and then the second is given all that it lacks, by the exchange with this number.
 fn add_events(events: &mut Vec<Event>, edits: &[Edit], number: usize) -> Done {
     for edit in edits {
         events.push(Event::Put {
@@ -217,7 +215,7 @@ fn add_events(events: &mut Vec<Event>, edits: &[Edit], number: usize) -> Done {
     Ok(())
 }
 
-// What a node of a world of two answers, by so many workers.
+// The answer of a node of a world of two, by this many workers.
 fn returned_at<R: Threads + Sync>(
     rt: &R,
     alloc: Global,
@@ -240,7 +238,7 @@ fn returned_at<R: Threads + Sync>(
     text_of(alloc, returned)
 }
 
-// Writes what the nodes answer by so many workers, and that there is no third.
+// Writes the answers of the nodes by this many workers, and that there is no third node.
 fn append_nodes<R: Threads + Sync>(
     rt: &R,
     out: &mut Answer,
@@ -260,7 +258,7 @@ fn append_nodes<R: Threads + Sync>(
     Ok(())
 }
 
-// Writes what the nodes answer by each number of workers.
+// Writes the answers of the nodes by each number of workers.
 fn append_moment<R: Threads + Sync>(
     rt: &R,
     out: &mut Answer,
@@ -273,7 +271,7 @@ fn append_moment<R: Threads + Sync>(
     Ok(())
 }
 
-// Writes what the nodes answer of all but the last edit, and then of all.
+// Writes the answers of the nodes after all but the last edit, and then after all.
 fn append_moments<R: Threads + Sync>(
     rt: &R,
     out: &mut Answer,
@@ -288,7 +286,7 @@ fn append_moments<R: Threads + Sync>(
     append_moment(rt, out, &events, asking)
 }
 
-/// Answers a question at two nodes of a world that took the same edits, of all but the last edit and then of all.
+/// Answers a question at two nodes of a world that took the same edits: all but the last, and then all.
 pub fn world<R: Threads + Sync>(rt: &R, words: &mut Words, host: Viewer, out: &mut Answer) -> Done {
     let edits = words.edits()?;
     let asking = asking_of(words, host)?;

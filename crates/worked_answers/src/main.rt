@@ -1,5 +1,5 @@
-//! Works what stores answer: loads by one thread and by workers, their graphs, and whole scripts. It reads a call a line
-//! from standard input, and writes each line with its answers below it; then dialogues, of which it says whether they go on as told.
+//! Works what stores answer: loads by one thread and by workers, their graphs, and questions. It reads one call a line from
+//! standard input, and writes each line with its answers below it.
 //!
 //! Promise: memory is refused only where it is.
 //!
@@ -31,36 +31,26 @@
 //! and `\xHH` are read. A line that is refused memory is answered by `memory`. Lines that are empty or begin with `#` are
 //! repeated as they are.
 //!
-//! Behind a form feed stand dialogues, as `dialogues.rt` writes them: commands with the answers that each must have. The
-//! commands of each are run as one script, and the answers compared.
-//!
-//! `stdin` has the calls and the dialogues, and `stdout` what must be written; the gate compares the two.
+//! `stdin` has the calls, and `stdout` what must be written; the gate compares the two.
 #![tactic(auto)]
 
 mod answers;
 mod asking;
-mod dialogues;
 mod edits;
 mod graphs;
 mod refreshing;
 mod rendering;
-mod scripts;
 mod universes;
 
 use std::alloc::AllocError;
 use std::process::ExitCode;
-use worked_lines::{Answer, LineFault, Words, answer_lines, cut_at, work_input};
+use worked_lines::{Answer, LineFault, Words, answer_lines, work_input};
 
 fn main(rt: HostRuntime) -> ExitCode {
     work_input(&rt, |text: &[u8]| -> Result<Vec<u8>, AllocError> {
         let answer = |words: &mut Words, out: &mut Answer| -> Result<(), LineFault> {
             answers::answer(&rt, words, out)
         };
-        let Some((lines, dialogues)) = cut_at(text, b'\x0c') else {
-            return answer_lines(rt.alloc(), text, b"\n  ", answer);
-        };
-        let mut out = answer_lines(rt.alloc(), lines, b"\n  ", answer)?;
-        scripts::work_all(&rt, dialogues, &mut out)?;
-        Ok(out)
+        answer_lines(rt.alloc(), text, b"\n  ", answer)
     })
 }

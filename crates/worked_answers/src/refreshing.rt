@@ -36,7 +36,7 @@ impl LoadedStore {
         Ok(LoadedStore { store, load })
     }
 
-    // The load of another store that is made of this one, where that shows otherwise at just these places.
+    // Refreshes the load for another store, if these are just the places at which that one shows something else.
     fn refreshed(&self, store: &Store, changed: &[Place]) -> Result<Loaded, LoadFault>
         requires load { IsLoad (host_view_of self.now.store self.now.load.host) self.now.load.extra self.now.load }
         requires changed { (p : PlaceParts) → IsAmong p changed.now
@@ -47,7 +47,7 @@ impl LoadedStore {
         Ok(load)
     }
 
-    // What becomes of its load where it is given away for that of the other store.
+    // Refreshes the load in place, and gives it away.
     fn given_away(self, store: &Store, changed: &[Place]) -> Result<Refreshed, LoadFault>
         requires load { IsLoad (host_view_of self.store self.load.host) self.load.extra self.load }
         requires changed { (p : PlaceParts) → IsAmong p changed.now ↔ (visible_at store.now p ≢ visible_at self.store p) }
@@ -64,7 +64,7 @@ pub fn store_of(alloc: Global, edits: &[Edit], count: usize) -> Result<Store, Li
     Ok(Store::from_edits(alloc, &edits[..count])?)
 }
 
-// Writes of how many edits a store is.
+// Writes from how many edits a store is made.
 fn append_count(out: &mut Answer, count: usize) -> Done {
     out.line(format!(in out.alloc; "of {count} edits: ")?.as_bytes())
 }
@@ -75,7 +75,7 @@ fn append_fresh(out: &mut Answer, load: &Loaded) -> Done {
     out.write(b" read")
 }
 
-// Writes why there is no load, unless that is want of memory.
+// Writes why there is no load, unless memory ran out.
 fn append_fault(out: &mut Answer, fault: LoadFault) -> Done {
     match fault {
         LoadFault::Memory => Err(LineFault::Memory(AllocError)),
@@ -83,7 +83,7 @@ fn append_fault(out: &mut Answer, fault: LoadFault) -> Done {
     }
 }
 
-// Writes how a load compares with the one by one thread: with all that it has, and with what it comes to.
+// Compares a load with the one by one thread: what it has, and its edges and plan.
 fn append_beside(out: &mut Answer, load: &Loaded, here: &Loaded) -> Done {
     if !is_same_load(load, here)? {
         return out.write(b", another");
@@ -103,7 +103,7 @@ fn append_compared(out: &mut Answer, load: &Loaded, here: &Result<Loaded, LoadFa
     }
 }
 
-// Writes whether a load that was given away was changed in its place, how many units were read for that, and how what became of it
+// Writes whether a load that was given away was refreshed in place, how many units were read for that, and how the result
 // compares with the load by one thread.
 fn append_given_away(
     out: &mut Answer,
@@ -124,8 +124,8 @@ fn append_given_away(
     }
 }
 
-// Writes where a store shows otherwise than one before it, and how many units are read where its load is made of that one's. It is
-// the one of which the next is made, unless there is none.
+// Writes the places at which a store shows something else than the one before it, and how many units are read when its load
+// is refreshed from that one's. Returns the store with its load, or the one before if there is no load.
 fn append_refreshed(
     out: &mut Answer,
     before: LoadedStore,
@@ -154,7 +154,7 @@ fn append_refreshed(
     }
 }
 
-// Writes what is refreshed for each of several numbers of edits, one after another.
+// Refreshes the load for each of several numbers of edits, one after another.
 fn append_later(out: &mut Answer, first: LoadedStore, edits: &[Edit], counts: &[usize]) -> Done
     requires load { IsLoad (host_view_of first.store first.load.host) first.load.extra first.load }
 {
@@ -167,7 +167,7 @@ fn append_later(out: &mut Answer, first: LoadedStore, edits: &[Edit], counts: &[
     Ok(())
 }
 
-/// Loads the store of so many first edits, and makes of that load the one of each further number of them.
+/// Loads the store of the first edits, as many as the first number says, and refreshes that load for each later number.
 pub fn refresh(words: &mut Words, host: Viewer, out: &mut Answer) -> Done {
     let counts = words.numbers()?;
     let edits = words.edits()?;

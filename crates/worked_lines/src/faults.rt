@@ -8,7 +8,7 @@ use thiserror::Error;
 use unit_name::NameFault;
 
 /// Why a line has no answer.
-#[derive(Debug, Drop, Error)]
+#[derive(Clone, Copy, Debug, Error)]
 pub enum LineFault {
     /// It isn't a call: a word is missing, isn't what the call takes, or is one too many.
     #[error("no such call")]

@@ -1,6 +1,0 @@
-use Rattle.std.proofs.Common.{◌≡◌}
-use Rattle.dropins.proofs.Prelude.{entry_name, filter, is_name, map, take}
-use Rattle.dropins.proofs.link_names.unit_names.Given as goal
-
-abbrev pub invariant-loop-placed : goal.invariant-loop-placed
-invariant-loop-placed l = l.units.items ≡ filter is_name (map entry_name (take l.placed-index l.taken))
