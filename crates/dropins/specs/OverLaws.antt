@@ -1,7 +1,7 @@
 -- Laws of what is taken in the folders of names, or else in those of types.
-use Rattle.std.proofs.Common.{◌<◌, ◌↔◌, ◌≡◌, ◌≢◌, ◌≤◌, ◌⊎◌}
-use Rattle.dropins.specs.Prelude.{[], agree_everywhere, ap, arith, HostViewMap, inl, inr, IsLevel, level_of, List, None, Option, option_and_then, path_cmp, path_cmp-IsAntisymmetric, path_cmp_total, PathParts, refl, slice_get, Some, sym, viewed_at, ℕ, ◌∙◌}
-use Rattle.dropins.specs.{declared.precedence.Search.{Search}, Taken.{as_found, Candidate, dirs_by, IsTaken, IsTakenOver, Owner, Owner.{OfName, OfType}, Precedes, Stands}, WalkLaws.{found_is_taken, none_stands, taken_once}, Walks.{taken}}
+use Rattle.std.proofs.Common.{◌<◌, ◌↔◌, ◌≡◌, ◌≤◌, ◌⊎◌}
+use Rattle.dropins.specs.Prelude.{[], ap, arith, HostViewMap, inl, inr, IsLevel, level_of, List, option_and_then, PathParts, refl, slice_get, Some, sym, viewed_at, ℕ, ◌∙◌}
+use Rattle.dropins.specs.{declared.precedence.Search.{Search}, Taken.{as_found, Candidate, dirs_by, IsTaken, IsTakenOver, Owner, Owner.{OfName, OfType}, Precedes, Stands}, WalkLaws.{taken_once}}
 
 -- There is no candidate for this file name.
 abbrev pub NoneStands : HostViewMap → Search → List (List ℕ) → List ℕ → Type 0
@@ -16,19 +16,9 @@ NamesOrElseTypes = (s : HostViewMap) (x : Search) (ds ts : List (List ℕ)) (c :
 abbrev pub OverOnce : Type 0
 OverOnce = (s : HostViewMap) (x : Search) (ds ts : List (List ℕ)) (c d : Candidate) (p q : PathParts) → IsTakenOver s x ds ts c p → IsTakenOver s x ds ts d q → p.name ≡ q.name → (p ≡ q) × (c ≡ d)
 
--- If a file name has a candidate, one is taken for it.
-abbrev pub SomethingIsTakenOver : Type 0
-SomethingIsTakenOver = (s : HostViewMap) (x : Search) (ds ts : List (List ℕ)) (o : Owner) (d : Candidate) (q : PathParts) (i : ℕ) → Stands s x (dirs_by o ds ts) d q i
-    → (c : Candidate) × (p : PathParts) × (p.name ≡ q.name) × IsTakenOver s x ds ts c p
-
 -- What is taken depends only on what is visible in the folders.
 abbrev pub FoldersDecideOver : Type 0
 FoldersDecideOver = (s t : HostViewMap) (x : Search) (ds ts : List (List ℕ)) → ((o : Owner) (p : PathParts) (i : ℕ) → IsLevel (level_of p) → slice_get (dirs_by o ds ts) i ≡ Some p.folder → viewed_at s p ≡ viewed_at t p)
-    → (c : Candidate) (p : PathParts) → IsTakenOver s x ds ts c p → IsTakenOver t x ds ts c p
-
--- After a file or a mask is removed, the same is taken as if it had never been there.
-abbrev pub RemovalsGiveBackOver : Type 0
-RemovalsGiveBackOver = (s t : HostViewMap) (x : Search) (ds ts : List (List ℕ)) (m : PathParts) → viewed_at s m ≡ None → viewed_at t m ≡ None → ((q : PathParts) → q ≢ m → viewed_at s q ≡ viewed_at t q)
     → (c : Candidate) (p : PathParts) → IsTakenOver s x ds ts c p → IsTakenOver t x ds ts c p
 
 module _ (s : HostViewMap) (x : Search) (ds ts : List (List ℕ)) (c : Candidate) (p : PathParts) where
@@ -93,22 +83,6 @@ over_once s x ds ts c d p q a b n = by (over_is_either s x ds ts c p a) (over_is
     by (inr k) (inl l) = absurd (k.1 d q l.place l.stands (sym n))
     by (inr k) (inr l) = taken_once s x ts c d p q k.0 l.0 n
 
-module _ (s : HostViewMap) (x : Search) (ds ts : List (List ℕ)) (f : List ℕ) where
-  found_over : (o : Option Candidate) → taken s x ds f ≡ o → (u : Option Candidate) → taken s x ts f ≡ u → ((c : Candidate) × (p : PathParts) × (p.name ≡ f) × IsTakenOver s x ds ts c p) ⊎ (NoneStands s x ds f × NoneStands s x ts f)
-  found_over (Some c) e u g = let b = found_is_taken s x ds f c e in inl (c, b.path, b.name_is, over_of_names s x ds ts c b.path b.taken)
-  found_over None e (Some c) g =
-      let b = found_is_taken s x ts f c g in
-      inl (c, b.path, b.name_is, over_of_types s x ds ts c b.path b.taken (λ d q i st n. none_stands s x ds f e d q i st (n ∙ b.name_is)))
-  found_over None e None g = inr (none_stands s x ds f e, none_stands s x ts f g)
-
-pub something_is_taken_over : SomethingIsTakenOver
-something_is_taken_over s x ds ts o d q i st = by o st (found_over s x ds ts q.name (taken s x ds q.name) refl (taken s x ts q.name) refl)
-  where
-    by : (o : Owner) → Stands s x (dirs_by o ds ts) d q i → ((c : Candidate) × (p : PathParts) × (p.name ≡ q.name) × IsTakenOver s x ds ts c p) ⊎ (NoneStands s x ds q.name × NoneStands s x ts q.name) → (c : Candidate) × (p : PathParts) × (p.name ≡ q.name) × IsTakenOver s x ds ts c p
-    by o st (inl h) = h
-    by OfName st (inr h) = absurd (h.0 d q i st refl)
-    by OfType st (inr h) = absurd (h.1 d q i st refl)
-
 -- A candidate in one view is a candidate in another view that shows the same there.
 stands_again : (s t : HostViewMap) (x : Search) (ds : List (List ℕ)) → ((p : PathParts) (i : ℕ) → IsLevel (level_of p) → slice_get ds i ≡ Some p.folder → viewed_at s p ≡ viewed_at t p)
     → (c : Candidate) (p : PathParts) (i : ℕ) → Stands s x ds c p i → Stands t x ds c p i
@@ -125,7 +99,3 @@ folders_decide_over s t x ds ts same c p a = record {
   stands = stands_again s t x (dirs_by a.owner ds ts) (same a.owner) c p a.place a.stands;
   least = λ d q o i st n. a.least d q o i (stands_again t s x (dirs_by o ds ts) (λ r j l f. sym (same o r j l f)) d q i st) n;
 }
-
-pub removals_give_back_over : RemovalsGiveBackOver
-removals_give_back_over s t x ds ts m removed absent same =
-    folders_decide_over s t x ds ts (λ o q i l f. agree_everywhere path_cmp path_cmp_total path_cmp-IsAntisymmetric (viewed_at s) (viewed_at t) m (removed ∙ sym absent) same q)

@@ -1,7 +1,7 @@
 -- Laws of what is taken for a file name.
-use Rattle.std.proofs.Common.{◌<◌, ◌≡◌, ◌≢◌, ◌≤◌, ◌⊎◌}
-use Rattle.dropins.specs.Prelude.{agree_everywhere, ap, arith, HostViewMap, inl, inr, IsLevel, level_of, List, None, Option, option_and_then, path_cmp, path_cmp-IsAntisymmetric, path_cmp_total, PathParts, refl, slice_get, Some, sym, viewed_at, ℕ, ◌∙◌}
-use Rattle.dropins.specs.{declared.precedence.Search.{Search}, Taken.{as_found, Candidate, Candidate.{At, Mask}, IsTaken, Stands, TakenFor}, Walks.{taken}}
+use Rattle.std.proofs.Common.{◌<◌, ◌≡◌, ◌≤◌, ◌⊎◌}
+use Rattle.dropins.specs.Prelude.{ap, arith, HostViewMap, inl, inr, IsLevel, level_of, List, None, Option, option_and_then, PathParts, refl, slice_get, Some, sym, viewed_at, ℕ, ◌∙◌}
+use Rattle.dropins.specs.{declared.precedence.Search.{Search}, Taken.{as_found, Candidate, IsTaken, Stands, TakenFor}, Walks.{taken}}
 use Rattle.dropins.specs.WalkLaws as walk
 
 -- The level decides before the position of the folder: what is taken has at most the level of any candidate for its
@@ -17,18 +17,9 @@ SomethingIsTaken = (s : HostViewMap) (x : Search) (ds : List (List ℕ)) (d : Ca
 abbrev pub TakenOnce : Type 0
 TakenOnce = (s : HostViewMap) (x : Search) (ds : List (List ℕ)) (c d : Candidate) (p q : PathParts) → IsTaken s x ds c p → IsTaken s x ds d q → p.name ≡ q.name → (p ≡ q) × (c ≡ d)
 
--- A mask that is taken hides everything else with its file name.
-abbrev pub MasksHide : Type 0
-MasksHide = (s : HostViewMap) (x : Search) (ds : List (List ℕ)) (p q : PathParts) → IsTaken s x ds Mask p → p.name ≡ q.name → IsTaken s x ds (At q) q → ⊥
-
 -- What is taken depends only on what is visible in the folders.
 abbrev pub FoldersDecide : Type 0
 FoldersDecide = (s t : HostViewMap) (x : Search) (ds : List (List ℕ)) → ((p : PathParts) (i : ℕ) → IsLevel (level_of p) → slice_get ds i ≡ Some p.folder → viewed_at s p ≡ viewed_at t p)
-    → (c : Candidate) (p : PathParts) → IsTaken s x ds c p → IsTaken t x ds c p
-
--- After a file or a mask is removed, the same is taken as if it had never been there.
-abbrev pub RemovalsGiveBack : Type 0
-RemovalsGiveBack = (s t : HostViewMap) (x : Search) (ds : List (List ℕ)) (m : PathParts) → viewed_at s m ≡ None → viewed_at t m ≡ None → ((q : PathParts) → q ≢ m → viewed_at s q ≡ viewed_at t q)
     → (c : Candidate) (p : PathParts) → IsTaken s x ds c p → IsTaken t x ds c p
 
 pub levels_go_first : LevelsGoFirst
@@ -48,9 +39,6 @@ something_is_taken s x ds d q i st = by (taken s x ds q.name) refl
 pub taken_once : TakenOnce
 taken_once s x ds c d p q a b n = walk.taken_once s x ds c d p q a b n
 
-pub masks_hide : MasksHide
-masks_hide s x ds p q a n b = cc ((walk.taken_once s x ds Mask (At q) p q a b n).1)
-
 pub folders_decide : FoldersDecide
 folders_decide s t x ds same c p a = record {
   place = a.place;
@@ -65,6 +53,3 @@ folders_decide s t x ds same c p a = record {
     says = ap (option_and_then (as_found x q)) (same q i st.level_within st.folder_is) ∙ st.says;
   }) n;
 }
-
-pub removals_give_back : RemovalsGiveBack
-removals_give_back s t x ds m removed absent same = folders_decide s t x ds (λ q i l f. agree_everywhere path_cmp path_cmp_total path_cmp-IsAntisymmetric (viewed_at s) (viewed_at t) m (removed ∙ sym absent) same q)

@@ -13,7 +13,7 @@
 //! - `links` and `UnitFolders::links`: the units that the link folders of a unit give; `Folder`: the two kinds of link
 //!   folder.
 //! - `name_dirs` and `type_dirs`: the names of folders with an ending.
-//! - `folder_laws`, `precedence_laws`, `order_laws` and the other laws: what the definitions imply.
+//! - `drop_in_laws` and `folder_laws`: what the definitions imply.
 #![tactic(auto)]
 
 mod dirs;
@@ -23,6 +23,4 @@ mod precedence;
 
 pub use dirs::{name_dirs, type_dirs};
 pub use folder_lists::{Folder, UnitFolders, folders, links, order, places_of};
-pub use laws::{
-    folder_laws, host_laws, order_laws, over_laws, precedence_laws, type_folder_laws, type_laws,
-};
+pub use laws::{drop_in_laws, folder_laws};

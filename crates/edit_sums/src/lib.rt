@@ -7,7 +7,7 @@
 //!
 //! - `Content`: a file, a link or a removal; `ContentFault` says why bytes can't become one.
 //! - `Edit` and `Entry`: a write to a place, and what a store holds at a place; `FlatEdit`: an edit without a host.
-//! - `sums_of_edits`, `winners_of_sums`, `order_of_stores`, `joins_of_stores`, `counters_of_sums`: the laws.
+//! - `sum_laws`, `joins_of_stores`: the laws.
 #![tactic(auto)]
 
 mod contents;
@@ -16,6 +16,4 @@ mod laws;
 
 pub use contents::{Content, ContentFault, FILE_LIMIT, FileBytes, LinkTarget, TARGET_LIMIT};
 pub use entries::{Edit, Entry, FlatEdit};
-pub use laws::{
-    counters_of_sums, joins_of_stores, order_of_stores, sums_of_edits, winners_of_sums,
-};
+pub use laws::{joins_of_stores, sum_laws};

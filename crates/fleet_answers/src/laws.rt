@@ -1,10 +1,9 @@
-//! What is true of all answers: laws, the contract of a function that does nothing.
-ghost use Rattle.fleet_answers.specs.AnswerLaws.{OneAnswer, OtherHostsChangeNothing};
-ghost use Rattle.fleet_answers.specs.{HostLaws.{HostsWithoutPlacesHaveTheFleetsAnswers}, ShownLaws.{SnapshotsStay}};
+//! Laws of answers: the contract of a function that does nothing.
+ghost use Rattle.fleet_answers.specs.{AnswerLaws.{OneAnswer, OtherHostsChangeNothing}, HostLaws.{HostsWithoutPlacesHaveTheFleetsAnswers}, ShownLaws.{SnapshotsStay}};
 
-/// A store and a question have one answer, and what stands at another host's place than the question's changes nothing of
-/// it. For a host at whose places nothing is visible each question has the answer that it has without a host. What is
-/// loaded of a store is what is loaded of each that shows the same.
+/// A store and a question have one answer, and what stands at another host's place than the question's changes nothing of it.
+/// For a host at whose places nothing is visible each question has the answer that it has without a host. What is loaded of
+/// a store is what is loaded of each that shows the same.
 pub fn answer_laws()
     ensures one { OneAnswer }
     ensures others { OtherHostsChangeNothing }

@@ -9,7 +9,5 @@ mod laws;
 mod running;
 mod states;
 
-pub use laws::{
-    counters_never_spent, one_answer, prefixes_of_answers, readings_agree, scripts_are_honest,
-};
+pub use laws::{readings_agree, script_laws};
 pub use running::{ShellFault, run};

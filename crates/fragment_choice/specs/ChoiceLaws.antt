@@ -1,6 +1,6 @@
--- Laws of choices: smaller levels come first, and only what is visible counts.
-use Rattle.std.proofs.Common.{◌<◌, ◌∷◌, ◌≡◌, ◌≢◌, ◌≤◌, ◌⊎◌}
-use Rattle.fragment_choice.specs.Prelude.{[], agree_everywhere, ap, AreForOne, both_say, cond, Content, File, first_at, first_same, Gone, HostViewMap, inl, inr, IsLevel, IsTrue, levels, Link, Name, None, Option, option_and_then, option_or, path_cmp, path_cmp-IsAntisymmetric, path_cmp_total, PathParts, PlaceParts, refl, same_place, Some, sym, template_of, unwrap_or, viewed_at, ℕ, ◌∙◌}
+-- Laws of choices: smaller levels come first, and what is visible at own paths decides.
+use Rattle.std.proofs.Common.{◌<◌, ◌∷◌, ◌≡◌, ◌⊎◌}
+use Rattle.fragment_choice.specs.Prelude.{[], ap, AreForOne, cond, Content, File, first_at, first_same, Gone, HostViewMap, inl, inr, IsLevel, IsTrue, levels, Link, Name, None, Option, option_and_then, option_or, PathParts, PlaceParts, refl, same_place, Some, template_of, unwrap_or, viewed_at, ℕ, ◌∙◌}
 use Rattle.fragment_choice.specs.{Choices.{choice, content_says, is_null, last_component, link_says, own_choice, own_path, own_place, says}, declared.choices.Choice.{Choice, TheVariants.{Masked, NotFound}}}
 
 -- The least level that says anything of `n` under its own name makes the choice.
@@ -10,10 +10,6 @@ LeastLevelChooses = (s : HostViewMap) (n : Name) (r : ℕ) (c : Choice) → IsLe
 -- If the own name says nothing, the least level that says anything of `n` under its template makes the choice.
 abbrev pub TemplatesComeLast : Type 0
 TemplatesComeLast = (s : HostViewMap) (n o : Name) (r : ℕ) (c : Choice) → own_choice s n n ≡ None → template_of n ≡ Some o → IsLevel r → says s n o r ≡ Some c → ((k : ℕ) → k < r → says s n o k ≡ None) → choice s n ≡ c
-
--- A choice that is made at a level is the same in each view that shows the same up to this level.
-abbrev pub GreaterLevelsDontCount : Type 0
-GreaterLevelsDontCount = (s t : HostViewMap) → AreForOne s t → (n : Name) (r : ℕ) (c : Choice) → IsLevel r → says s n n r ≡ Some c → ((k : ℕ) → k ≤ r → viewed_at t (own_path n k) ≡ viewed_at s (own_path n k)) → choice t n ≡ choice s n
 
 -- An empty file, or a link to `/dev/null`.
 abbrev pub IsMask : Content → Type 0
@@ -25,10 +21,6 @@ IsMask (File (b ∷ bs)) = ⊥
 -- A mask hides whatever is at greater levels and at the template's paths.
 abbrev pub MasksHide : Type 0
 MasksHide = (s : HostViewMap) (n : Name) (r : ℕ) (x : Content) → IsLevel r → viewed_at s (own_path n r) ≡ Some x → IsMask x → ((k : ℕ) → k < r → says s n n k ≡ None) → choice s n ≡ Masked
-
--- Views for one host that show the same choose the same.
-abbrev pub OnlyVisibleCounts : Type 0
-OnlyVisibleCounts = (s t : HostViewMap) → AreForOne s t → ((p : PathParts) → viewed_at s p ≡ viewed_at t p) → (n : Name) → choice s n ≡ choice t n
 
 -- The path has one component, which is the name or its template.
 pub record IsOwnPath (n : Name) (p : PathParts) : Type 0 where
@@ -46,10 +38,6 @@ OwnPathsDecide = (s t : HostViewMap) → AreForOne s t → (n : Name) → ((p : 
 abbrev pub OwnPathsCount : Type 0
 OwnPathsCount = (s t : HostViewMap) → AreForOne s t → ((p : PathParts) → p.folder ≡ [] → viewed_at s p ≡ viewed_at t p) → (n : Name) → choice s n ≡ choice t n
 
--- After a removal the choice is that of a view that never had anything at the path.
-abbrev pub RemovalsGiveBack : Type 0
-RemovalsGiveBack = (s t : HostViewMap) → AreForOne s t → (p : PathParts) → viewed_at s p ≡ None → viewed_at t p ≡ None → ((q : PathParts) → q ≢ p → viewed_at s q ≡ viewed_at t q) → (n : Name) → choice s n ≡ choice t n
-
 own_chooses : (s : HostViewMap) (n : Name) (c : Choice) → own_choice s n n ≡ Some c → choice s n ≡ c
 own_chooses s n c own = ap (λ o. unwrap_or (option_or o (option_and_then (own_choice s n) (template_of n))) NotFound) own
 
@@ -65,11 +53,6 @@ templates_come_last s n o r c nothing t h e none =
 -- The same visible content says the same.
 says_same : (s t : HostViewMap) → AreForOne s t → (n o : Name) (k : ℕ) → viewed_at s (own_path o k) ≡ viewed_at t (own_path o k) → says s n o k ≡ says t n o k
 says_same s t one n o k same = (λ i. option_and_then (content_says n o (same_place s t one (own_path o k) i)) (same i))
-
-pub greater_levels_dont_count : GreaterLevelsDontCount
-greater_levels_dont_count s t one n r c h e same =
-    let both = both_say (says s n n) (says t n n) r c h e (λ k l. sym (says_same s t one n n k (sym (same k l)))) in
-    own_chooses t n both.word both.second ∙ sym (own_chooses s n both.word both.first)
 
 mask_says : (n o : Name) (p : PlaceParts) (x : Content) → IsMask x → content_says n o p x ≡ Some Masked
 mask_says n o p Gone m = absurd m
@@ -100,9 +83,3 @@ own_paths_decide s t one n same =
 
 pub own_paths_count : OwnPathsCount
 own_paths_count s t one same n = own_paths_decide s t one n (λ p own. same p own.no_folder)
-
-pub only_visible_counts : OnlyVisibleCounts
-only_visible_counts s t one same n = own_paths_count s t one (λ p _. same p) n
-
-pub removals_give_back : RemovalsGiveBack
-removals_give_back s t one p removed absent same = only_visible_counts s t one (agree_everywhere path_cmp path_cmp_total path_cmp-IsAntisymmetric (viewed_at s) (viewed_at t) p (removed ∙ sym absent) same)

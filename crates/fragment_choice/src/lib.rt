@@ -8,7 +8,7 @@
 //! - `names_of`: all names of a unit.
 //! - `AliasIndex`: an index of a store's aliases, made once, that resolves many names and lists the names of many
 //!   units.
-//! - `choice_laws`, `link_laws`, `alias_laws` and the other laws: what the definitions imply.
+//! - `choice_laws` and `alias_laws`: what the definitions imply.
 #![tactic(auto)]
 
 mod aliases;
@@ -20,9 +20,6 @@ mod resolutions;
 
 pub use aliases::AliasIndex;
 pub use choices::{Cause, Choice, choose};
-pub use laws::{
-    alias_laws, choice_laws, host_laws, likeness_laws, link_case_laws, link_laws, resolution_laws,
-    unit_laws,
-};
+pub use laws::{alias_laws, choice_laws};
 pub use names::names_of;
 pub use resolutions::{Resolution, resolve};

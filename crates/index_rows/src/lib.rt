@@ -10,19 +10,16 @@
 //! - `rows`: adjacency lists, transposed and united.
 //! - `steps`: several kinds of edges, taken together.
 //! - `closures`, `shortest`: what is reached, and at which distance.
-//! - `laws`: what holds over indices holds over names.
 #![tactic(auto)]
 
 mod adjacency;
 mod bits;
 mod closures;
-mod laws;
 mod shortest;
 mod successors;
 
 pub use adjacency::{joined, neighbors, put_in_order, transposed};
 pub use bits::{empty_bits, first_member, least_member, lesser, members_of, non_members, without};
 pub use closures::{closure, reached, reached_inside};
-pub use laws::closures_by_name;
 pub use shortest::distances;
 pub use successors::Successors;

@@ -1,6 +1,6 @@
 -- The edges of each unit, made of its own dependencies and of the reverse of those on it.
 use Rattle.std.proofs.Common.{◌++◌, ◌+◌, ◌<◌, ◌↔◌, ◌∷◌, ◌≡◌, ◌⊎◌}
-use Rattle.inverse_deps.proofs.Prelude.{[], adjacency_named, All, All-contains, All-nil, among_from_contains, among_mapped, ap, AreDependencyAdjacency, AreEdgesFrom, AreIndicesBy, AreLinked, AreLinks, AreLinksOf, AreNames, AreTransposedIn, arith, cases_eq, cases_lt, Contains-get_or, contains_from_among, count_of, Dependency, DependsOn, DepKind, edges_join_units, get_or, get_or-set_other, get_or-set_same, get_or_past, HasKind, in_byte_order, inl, inr, inverse, inverse_inverse, is_sorted, IsAmong, IsAmong-append_left, IsAmong-append_right, IsAmong-push, IsAmong-push_cases, IsEdge, IsLinked, IsTransposed, IsTrue, IsUnitIn, length, length-set, List, load_indexing, LoadMap, map, mapped_from, Name, name_at, name_cmp, NameLoad, names_along, names_ascend, names_either, names_none, names_stay, nat_list_cmp_total, OfAlias, refl, same_at, set, subst, sym, transposed_named, unit_index, ℕ, ◌∙◌}
+use Rattle.inverse_deps.proofs.Prelude.{[], adjacency_named, All, All-contains, All-nil, among_from_contains, among_mapped, ap, AreDependencyAdjacency, AreEdgesFrom, AreIndicesBy, AreLinked, AreLinks, AreLinksOf, AreNames, AreTransposedIn, arith, cases_eq, cases_lt, Contains-get_or, contains_from_among, count_of, Dependency, DependsOn, DepKind, edges_join_units, get_or, get_or-set_other, get_or-set_same, get_or_past, HasKind, in_byte_order, inl, inr, inverse, inverses_are_undone, is_sorted, IsAmong, IsAmong-append_left, IsAmong-append_right, IsAmong-push, IsAmong-push_cases, IsEdge, IsLinked, IsTransposed, IsTrue, IsUnitIn, length, length-set, List, load_indexing, LoadMap, map, mapped_from, Name, name_at, name_cmp, NameLoad, names_along, names_ascend, names_either, names_none, names_stay, nat_list_cmp_total, OfAlias, refl, same_at, set, subst, sym, transposed_named, unit_index, ℕ, ◌∙◌}
 
 -- what holds of each member of a list
 pub all_among : {X : Type 0} (P : X → Type 0) (xs : List X) → ((x : X) → IsAmong x xs → P x) → All P xs
@@ -216,7 +216,7 @@ module _ (load : LoadMap) (sorted : IsTrue (is_sorted name_cmp load.names)) (adj
           inr (record {
             one = f.transposed.dep;
             there = subst (λ i. IsAmong f.transposed.dep (get_or adjacency i [])) neighbors f.transposed.there;
-            kind_is = sym (inverse_inverse f.transposed.dep.kind) ∙ ap inverse (sym f.transposed.kind_is ∙ k.kind_is);
+            kind_is = sym (inverses_are_undone f.transposed.dep.kind) ∙ ap inverse (sym f.transposed.kind_is ∙ k.kind_is);
             index_is = f.transposed.on;
           })
 
@@ -235,7 +235,7 @@ module _ (load : LoadMap) (sorted : IsTrue (is_sorted name_cmp load.names)) (adj
         there = (found.just one).1 (inr (record {
           from = j;
           below = neighbors_within j k;
-          transposed = record { dep = k.one; there = k.there; on = k.index_is; kind_is = sym (ap inverse k.kind_is ∙ inverse_inverse dep); index_is = refl };
+          transposed = record { dep = k.one; there = k.there; on = k.index_is; kind_is = sym (ap inverse k.kind_is ∙ inverses_are_undone dep); index_is = refl };
         }));
         kind_is = refl;
         index_is = refl;

@@ -1,6 +1,6 @@
 -- Laws of edges: each edge has its inverse, edges join units, and a load has one list of its edges.
 use Rattle.std.proofs.Common.{◌↔◌, ◌∷◌, ◌≡◌, ◌⊎◌}
-use Rattle.inverse_deps.specs.Prelude.{[], After, All, All-head, All-tail, All-weaker, ap, Before, BindsTo, BoundBy, ConflictedBy, Conflicts, ConsistsOf, dependencies_are_loaded, dependencies_are_mains, DependencyList, DepKind, HostViewMap, inl, inr, inverse, IsDependency, IsListed, IsLoad, keys_of, List, LoadedUnit, LoadMap, map, Name, name_cmp, nat_list_cmp_total, one_ascending_list, OnFailure, OnFailureOf, PartOf, PropagatesReloadTo, refl, ReloadPropagatedFrom, RequiredBy, Requires, Requisite, RequisiteOf, Some, subst, sym, unit_in, WantedBy, Wants, ◌∙◌}
+use Rattle.inverse_deps.specs.Prelude.{[], All, All-head, All-tail, ap, dependencies_are_mains, DependencyList, DepKind, HostViewMap, inl, inr, inverse, inverses_are_undone, IsDependency, IsLoad, keys_of, List, LoadMap, map, Name, name_cmp, nat_list_cmp_total, one_ascending_list, refl, subst, sym, ◌∙◌}
 use Rattle.inverse_deps.specs.Edges.{AreEdges, AreEdgesFrom, AreEdgesOf, DependsOn, EdgeMap, HaveSameEdges, IsEdge, IsUnitIn, names_in}
 
 -- Each edge has its inverse.
@@ -19,50 +19,19 @@ OneListOfEdges = (load : LoadMap) (a b : EdgeMap) → AreEdges load a → AreEdg
 abbrev pub OneListByKind : Type 0
 OneListByKind = (load : LoadMap) (u : Name) (a b : List DependencyList) → AreEdgesOf load u a → AreEdgesOf load u b → a ≡ b
 
--- These lists are those that all edges have for the name.
-abbrev pub ListsAreOfAllEdges : Type 0
-ListsAreOfAllEdges = (load : LoadMap) (u : Name) (lists : List DependencyList) (edges : EdgeMap) → AreEdgesOf load u lists → AreEdges load edges
-    → All (λ list. list.names ≡ names_in edges list.kind u) lists
-
--- In a load of a store all dependencies of its units are edges.
-abbrev pub DependenciesAreEdges : Type 0
-DependenciesAreEdges = (s : HostViewMap) (extra : List Name) (load : LoadMap) (dep : DepKind) (u v : Name) (unit : LoadedUnit) → IsLoad s extra load
-    → unit_in load u ≡ Some unit → IsListed unit.deps dep v → IsEdge load dep u v
-
 -- And there an edge leads from one unit to another exactly where one names the other in the store, by the kind or by
 -- its inverse.
 abbrev pub EdgesComeFromNames : Type 0
 EdgesComeFromNames = (s : HostViewMap) (extra : List Name) (load : LoadMap) (dep : DepKind) (u v : Name) → IsLoad s extra load
     → IsEdge load dep u v ↔ (IsUnitIn load u × IsUnitIn load v × (IsDependency s u dep v ⊎ IsDependency s v (inverse dep) u))
 
--- the inverse of the inverse is the kind
-pub inverse_inverse : (dep : DepKind) → inverse (inverse dep) ≡ dep
-inverse_inverse Before = refl
-inverse_inverse After = refl
-inverse_inverse Wants = refl
-inverse_inverse WantedBy = refl
-inverse_inverse Requires = refl
-inverse_inverse RequiredBy = refl
-inverse_inverse Requisite = refl
-inverse_inverse RequisiteOf = refl
-inverse_inverse BindsTo = refl
-inverse_inverse BoundBy = refl
-inverse_inverse PartOf = refl
-inverse_inverse ConsistsOf = refl
-inverse_inverse Conflicts = refl
-inverse_inverse ConflictedBy = refl
-inverse_inverse OnFailure = refl
-inverse_inverse OnFailureOf = refl
-inverse_inverse PropagatesReloadTo = refl
-inverse_inverse ReloadPropagatedFrom = refl
-
 turn : (load : LoadMap) (dep : DepKind) (u v : Name) → IsEdge load dep u v → IsEdge load (inverse dep) v u
-turn load dep u v (inl d) = inr (subst (λ k. DependsOn load k u v) (sym (inverse_inverse dep)) d)
+turn load dep u v (inl d) = inr (subst (λ k. DependsOn load k u v) (sym (inverses_are_undone dep)) d)
 turn load dep u v (inr d) = inl d
 
 turn_back : (load : LoadMap) (dep : DepKind) (u v : Name) → IsEdge load (inverse dep) v u → IsEdge load dep u v
 turn_back load dep u v (inl d) = inr d
-turn_back load dep u v (inr d) = inl (subst (λ k. DependsOn load k u v) (inverse_inverse dep) d)
+turn_back load dep u v (inr d) = inl (subst (λ k. DependsOn load k u v) (inverses_are_undone dep) d)
 
 pub inverses_are_one : InversesAreOne
 inverses_are_one load dep u v = (turn load dep u v, turn_back load dep u v)
@@ -106,17 +75,6 @@ module _ (load : LoadMap) (u : Name) where
 
 pub one_list_by_kind : OneListByKind
 one_list_by_kind load u a b p q = one_by_kind load u a b (p.kinds_are ∙ sym q.kinds_are) p.each q.each
-
-pub lists_are_of_all_edges : ListsAreOfAllEdges
-lists_are_of_all_edges load u lists edges p q =
-    let P : DependencyList → Type 0 = λ list. AreEdgesFrom load list.kind u list.names in
-    let Q : DependencyList → Type 0 = λ list. list.names ≡ names_in edges list.kind u in
-    All-weaker P Q (λ list h. one_list_from load list.kind u list.names (names_in edges list.kind u) h (q.lists list.kind u)) lists p.each
-
-pub dependencies_are_edges : DependenciesAreEdges
-dependencies_are_edges s extra load dep u v unit l e h =
-    let there = dependencies_are_loaded s extra load u unit dep v l e h in
-    inl (record { unit = unit; unit_is = e; listed = h; other = (there.unit, there.there) })
 
 module _ (s : HostViewMap) (extra : List Name) (load : LoadMap) (l : IsLoad s extra load) where
   dependency : (dep : DepKind) (u v : Name) → DependsOn load dep u v → IsDependency s u dep v

@@ -1,13 +1,7 @@
 -- Laws of `first_said` (the first answer that a function gives along a list), by index.
 -- Source: this project's own.
-use Rattle.std.proofs.Common.{◌<◌, ◌∷◌, ◌≡◌, ◌≤◌}
+use Rattle.std.proofs.Common.{◌<◌, ◌∷◌, ◌≡◌}
 use Rattle.list_laws.specs.{FirstSaid.{first_said}, Prelude.{[], ap, arith, drop, get_or, length, List, None, Option, option_or, refl, Some, suc, zero, ℕ, ◌∙◌}}
-
--- both options hold the same value
-pub record BothSay {B : Type 0} (o p : Option B) : Type 0 where
-  pub word : B
-  pub first : o ≡ Some word
-  pub second : p ≡ Some word
 
 module _ {A B : Type 0} where
   -- the first answer from an index on: the answer there, or else the first one after it
@@ -27,18 +21,3 @@ module _ {A B : Type 0} where
   place_decides f (x ∷ xs) d zero c h e none = ap (λ o. option_or o (first_said f xs)) e
   place_decides f (x ∷ xs) d (suc i) c h e none =
       ap (λ o. option_or o (first_said f xs)) (none 0 (omega arith)) ∙ place_decides f xs d i c (omega (arith, h)) e (λ k l. none (suc k) (omega (arith, l)))
-
-  -- two functions that agree up to the first index with an answer have the same first answer
-  pub both_decide : (f g : A → Option B) (xs : List A) (d : A) (i : ℕ) (c : B) → i < length xs → f (get_or xs i d) ≡ Some c → ((k : ℕ) → k ≤ i → g (get_or xs k d) ≡ f (get_or xs k d)) → BothSay (first_said f xs) (first_said g xs)
-  both_decide f g [] d i c h e same = absurd (omega (arith, h))
-  both_decide f g (x ∷ xs) d zero c h e same =
-      record { word = c; first = ap (λ o. option_or o (first_said f xs)) e; second = ap (λ o. option_or o (first_said g xs)) (same 0 (omega arith) ∙ e) }
-  both_decide f g (x ∷ xs) d (suc i) c h e same = by (f x) refl (both_decide f g xs d i c (omega (arith, h)) e (λ k l. same (suc k) (omega (arith, l))))
-    where
-      by : (o : Option B) → f x ≡ o → BothSay (first_said f xs) (first_said g xs) → BothSay (option_or (f x) (first_said f xs)) (option_or (g x) (first_said g xs))
-      by (Some w) q more = record { word = w; first = ap (λ o. option_or o (first_said f xs)) q; second = ap (λ o. option_or o (first_said g xs)) (same 0 (omega arith) ∙ q) }
-      by None q more = record {
-        word = more.word;
-        first = ap (λ o. option_or o (first_said f xs)) q ∙ more.first;
-        second = ap (λ o. option_or o (first_said g xs)) (same 0 (omega arith) ∙ q) ∙ more.second;
-      }

@@ -1,5 +1,4 @@
 pub mod Prelude
-pub mod Agreements
 pub mod Cuts
 pub mod Filters
 pub mod FirstSaid

@@ -1,11 +1,7 @@
 -- Laws of levels: lesser ones come first, and which places have the lesser ones.
 use Rattle.std.proofs.Common.{◌+◌, ◌<◌, ◌↔◌, ◌≡◌, ◌≤◌, ◌⊎◌}
-use Rattle.load_places.specs.Prelude.{all_undefined, ap, arith, Bool, both_decide, BothSay, bytes_eq, bytes_eq-Decides, cond, drop, false, first_is, first_said, get_or, inl, inr, IsSome, List, None, none_says, Option, option_or, place_decides, refl, said_from, same_Some, Some, subst, suc, sym, true, zero, ℕ, ◌∙◌}
+use Rattle.load_places.specs.Prelude.{all_undefined, ap, arith, Bool, bytes_eq, bytes_eq-Decides, cond, drop, false, first_is, first_said, get_or, inl, inr, IsSome, List, None, none_says, Option, option_or, place_decides, refl, said_from, same_Some, Some, subst, suc, sym, true, zero, ℕ, ◌∙◌}
 use Rattle.load_places.specs.{declared.places.Scope.{Scope, TheVariants.{Fleet, Host}}, Levels.{first_level, IsLevel, level_for, level_in, levels, Viewer}, Places.{PlaceParts}}
-
--- each level stands at its own place in the list
-abbrev pub LevelsAreNumbered : Type 0
-LevelsAreNumbered = (level other : ℕ) → IsLevel level → get_or levels level other ≡ level
 
 -- the least level that says something decides
 abbrev pub LeastLevelDecides : Type 0 → Type 0
@@ -41,12 +37,8 @@ OwnPlacesGoFirst =
     (host : Viewer) (own fleets : PlaceParts) (name : List ℕ) (a b : ℕ) → own.scope ≡ Host name → fleets.scope ≡ Fleet
     → own.path.rank ≡ fleets.path.rank → level_for host own ≡ Some a → level_for host fleets ≡ Some b → a < b
 
--- what stands in a scope in one directory has one level, whatever its folder and name
-abbrev pub DirectoriesHaveOneLevel : Type 0
-DirectoriesHaveOneLevel = (host : Viewer) (p q : PlaceParts) → p.scope ≡ q.scope → p.path.rank ≡ q.path.rank
-    → level_for host p ≡ level_for host q
-
-pub level_is : LevelsAreNumbered
+-- each level stands at its own place in the list
+pub level_is : (level other : ℕ) → IsLevel level → get_or levels level other ≡ level
 level_is zero other h = refl
 level_is (suc zero) other h = refl
 level_is (suc (suc zero)) other h = refl
@@ -80,13 +72,6 @@ first_at f r c h e none = place_decides f levels 0 r c h (ap f (level_is r 0 h) 
 
 pub least_level_decides : (B : Type 0) → LeastLevelDecides B
 least_level_decides B = first_at
-
--- two that answer the same up to a level that answers, have the same first answer
-pub both_say : {B : Type 0} (f g : ℕ → Option B) (r : ℕ) (c : B) → IsLevel r → f r ≡ Some c → ((k : ℕ) → k ≤ r → g k ≡ f k) → BothSay (first_level f) (first_level g)
-both_say f g r c h e same = both_decide f g levels 0 r c h (ap f (level_is r 0 h) ∙ e) at
-  where
-    at : (k : ℕ) → k ≤ r → g (get_or levels k 0) ≡ f (get_or levels k 0)
-    at k l = let is = level_is k 0 (omega (arith, l, h)) in ap g is ∙ same k l ∙ ap f (sym is)
 
 -- ---- level by level
 
@@ -158,6 +143,3 @@ own_places_go_first host own fleets name a b its fleet same first second =
     by : (host : Viewer) → level_in host (Host name) own.path.rank ≡ Some a → a < b
     by None e = cc (e)
     by (Some looks) e = let is = (own_level looks name own.path.rank a e).1 in omega (arith, is, after, same)
-
-pub directories_have_one_level : DirectoriesHaveOneLevel
-directories_have_one_level host p q scope rank = (λ i. level_in host (scope i) (rank i))

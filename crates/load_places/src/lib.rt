@@ -11,9 +11,7 @@ mod places;
 mod texts;
 
 pub use hosts::{HOST_LIMIT, HostFault, HostName};
-pub use laws::{
-    level_laws, levels_of_places, order_of_places, places_are_their_texts, refusals_of_texts,
-};
+pub use laws::{level_laws, place_laws};
 pub use levels::LEVELS;
 pub use places::{Place, Scope};
 pub use texts::PlaceFault;

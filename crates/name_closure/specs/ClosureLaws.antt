@@ -1,6 +1,6 @@
 -- A closure has its sources, is closed under the edges, and is the least such set; there is one list of it.
 use Rattle.std.proofs.Common.{◌≡◌}
-use Rattle.name_closure.specs.{Chains.{IsChain, IsClosure, IsReached}, Prelude.{IsAmong, IsTotalOrder, List, one_ascending_list, Ordering, suc, zero, ℕ}}
+use Rattle.name_closure.specs.{Chains.{IsChain, IsClosure, IsReached}, Prelude.{IsTotalOrder, List, one_ascending_list, Ordering, suc, zero, ℕ}}
 
 -- the set has the sources, and each node to which an edge leads from one of its members
 pub record IsClosed {N : Type 0} (starts : N → Type 0) (leads : N → N → Type 0) (set : N → Type 0) : Type 0 where
@@ -23,15 +23,6 @@ module _ {N : Type 0} (starts : N → Type 0) (leads : N → N → Type 0) where
   reached_least set c n r = chain_within set c r.steps n r.chain
 
   module _ (order : N → N → Ordering) where
-    pub closure_closed : (nodes : List N) → IsClosure starts leads order nodes → IsClosed starts leads (λ n. IsAmong n nodes)
-    closure_closed nodes c = record {
-      started = λ n s. (c.members n).1 (reached_closed.started n s);
-      stepped = λ n m h l. (c.members m).1 (reached_closed.stepped n m ((c.members n).0 h) l);
-    }
-
-    pub closure_least : (nodes : List N) → IsClosure starts leads order nodes → (set : N → Type 0) → IsClosed starts leads set → (n : N) → IsAmong n nodes → set n
-    closure_least nodes c set d n h = reached_least set d n ((c.members n).0 h)
-
     pub one_closure : IsTotalOrder order → (xs ys : List N) → IsClosure starts leads order xs → IsClosure starts leads order ys → xs ≡ ys
     one_closure total xs ys a b =
         one_ascending_list order total xs ys a.ascending b.ascending

@@ -1,7 +1,6 @@
--- How the reached nodes depend on the sources and the edges: only on which they are. Sources can be united, and reached
--- nodes lead to reached nodes.
-use Rattle.std.proofs.Common.{◌↔◌, ◌⊎◌}
-use Rattle.name_closure.specs.{Chains.{IsChain, IsClosure, IsDistance, IsReached}, ClosureLaws.{reached_closed, reached_least}, Prelude.{inl, inr, List, Ordering, suc, zero, ℕ}}
+-- How the reached nodes depend on the sources and the edges: only on which they are.
+use Rattle.std.proofs.Common.{◌↔◌}
+use Rattle.name_closure.specs.{Chains.{IsChain, IsClosure, IsDistance, IsReached}, Prelude.{List, Ordering, suc, zero, ℕ}}
 
 -- the same nodes are in both sets
 abbrev pub AreSameNodes : {N : Type 0} → (N → Type 0) → (N → Type 0) → Type 0
@@ -10,10 +9,6 @@ AreSameNodes {N} s t = (n : N) → s n ↔ t n
 -- the same edges are in both relations
 abbrev pub AreSameSuccessors : {N : Type 0} → (N → N → Type 0) → (N → N → Type 0) → Type 0
 AreSameSuccessors {N} e f = (n m : N) → e n m ↔ f n m
-
--- the node is in one of the two sets
-abbrev pub IsInEither : {N : Type 0} → (N → Type 0) → (N → Type 0) → N → Type 0
-IsInEither s t n = s n ⊎ t n
 
 module _ {N : Type 0} where
   module _ (s t : N → Type 0) (e f : N → N → Type 0) (sources : (n : N) → s n → t n) (steps : (n m : N) → e n m → f n m) where
@@ -48,27 +43,3 @@ module _ {N : Type 0} where
       ascending = c.ascending;
       members = λ n. (λ h. (same_reached n).0 ((c.members n).0 h), λ r. (c.members n).1 ((same_reached n).1 r));
     }
-
-  module _ (leads : N → N → Type 0) where
-    either_chain : (s t : N → Type 0) (k : ℕ) (n : N) → IsChain (IsInEither s t) leads k n → IsReached s leads n ⊎ IsReached t leads n
-    either_chain s t zero n (inl c) = inl (record { steps = 0; chain = c })
-    either_chain s t zero n (inr c) = inr (record { steps = 0; chain = c })
-    either_chain s t (suc k) n c = elim (either_chain s t k c.0 c.1.0) [
-      | inl r ↦ inl ((reached_closed s leads).stepped c.0 n r c.1.1)
-      | inr r ↦ inr ((reached_closed t leads).stepped c.0 n r c.1.1)
-    ]
-
-    -- what is reached from the union of two source sets is reached from one of them
-    pub sources_unite : (s t : N → Type 0) → AreSameNodes (IsReached (IsInEither s t) leads) (IsInEither (IsReached s leads) (IsReached t leads))
-    sources_unite s t n = (λ r. either_chain s t r.steps n r.chain, from)
-      where
-        from : IsInEither (IsReached s leads) (IsReached t leads) n → IsReached (IsInEither s t) leads n
-        from (inl r) = more_reached s (IsInEither s t) leads leads (λ m h. inl h) (λ m o h. h) n r
-        from (inr r) = more_reached t (IsInEither s t) leads leads (λ m h. inr h) (λ m o h. h) n r
-
-    -- what is reached from reached nodes is reached
-    pub reached_again : (s : N → Type 0) → AreSameNodes (IsReached (IsReached s leads) leads) (IsReached s leads)
-    reached_again s n = (
-      reached_least (IsReached s leads) leads (IsReached s leads) (record { started = λ m r. r; stepped = (reached_closed s leads).stepped }) n,
-      λ r. record { steps = 0; chain = r },
-    )

@@ -10,7 +10,7 @@
 //!   can be spread over threads.
 //! - `loads`: the trait of loaders.
 //! - `names`: the nodes that a round names.
-//! - `laws`: laws of closures and distances.
+//! - `laws`: laws of closures.
 //!
 //! Code over indices, which can keep the nodes that it has found in a bit set, is in the crates that use it.
 #![tactic(auto)]
@@ -22,9 +22,6 @@ mod names;
 mod rounds;
 
 pub use closures::{close_by_rounds, close_loaded};
-pub use laws::{
-    EdgeSet, KnownNodes, NodeSet, closures_of_same_edges, closures_stay, distances_by_lists,
-    distances_of_nodes, least_closed_sets, lists_of_closures, loaded_closures, sources_of_closures,
-};
+pub use laws::{EdgeSet, NodeSet, closure_laws};
 pub use loads::{ClosureFault, Loads, Round, load_each};
 pub use names::others_named;

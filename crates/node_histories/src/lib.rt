@@ -17,6 +17,6 @@ mod published_copy;
 
 pub use book::{Head, History, Law, Name, NodeName};
 pub use events::HistoryEvent;
-pub use laws::{legal_histories, stores_of_histories, worlds_of_histories};
+pub use laws::history_laws;
 pub use prefixes::HistoryPrefix;
 pub use published_copy::PublishedCopy;

@@ -1,9 +1,9 @@
 -- What stays of a load. The universe stays if aliases and visible names stay, no unit names anything outside it, and no
--- unit loses a name but a source. What a name resolves to stays if its unit's footprint shows the same.
+-- unit loses a name but a source.
 -- Source: this project's own.
 use Rattle.std.proofs.Common.{◌↔◌, ◌∷◌, ◌≡◌, ◌⊎◌}
-use Rattle.parallel_load.specs.Prelude.{[], AgreeIn, ap, AreForOne, closure_stays, DependencyList, DepKind, filter, footprint, footprints_decide, HostViewMap, in_byte_order, inl, inr, is_same, IsListed, IsReached, IsUnit, leads_decide_mains, link_targets_show, List, lists_have_what_is_named, LoadedUnit, main, map, Name, name_cmp, not, reached_closed, refl, same_closure, SameLeads, SameWords, subst, sym, ◌∙◌}
-use Rattle.parallel_load.specs.{declared.loaded.NameLoad.{NameLoad, TheVariants.{Alias as OfAlias, Unit as OfUnit}}, Loads.{by_mains, IsNameLoad, list_by_mains}, Universe.{AreUniverse, IsInUniverse, IsSource, IsVisibleName, LeadsTo, Names}}
+use Rattle.parallel_load.specs.Prelude.{[], ap, closure_stays, DependencyList, DepKind, filter, HostViewMap, in_byte_order, inl, inr, is_same, IsListed, IsReached, IsUnit, leads_decide_mains, link_targets_show, List, lists_have_what_is_named, LoadedUnit, main, map, Name, name_cmp, not, reached_closed, refl, same_closure, SameLeads, SameWords, sym, ◌∙◌}
+use Rattle.parallel_load.specs.{Loads.{by_mains, list_by_mains}, Universe.{AreUniverse, IsInUniverse, IsSource, IsVisibleName, LeadsTo, Names}}
 
 -- something is visible at the same names
 abbrev pub SameVisibleNames : HostViewMap → HostViewMap → Type 0
@@ -46,17 +46,6 @@ abbrev pub SameNamesKeepTheUniverse : Type 0
 SameNamesKeepTheUniverse =
     (s t : HostViewMap) (extra names : List Name) → SameLeads s t → SameVisibleNames s t
     → ((n : Name) → IsInUniverse s extra n → main s n ≡ n → KeepsItsNames s t n) → AreUniverse s extra names → AreUniverse t extra names
-
--- the footprint of the name's unit shows the same; for an alias nothing is required
-abbrev pub AgreesAt : HostViewMap → HostViewMap → Name → NameLoad → Type 0
-AgreesAt s t n (OfUnit unit) = AgreeIn s t (footprint n unit.names)
-AgreesAt s t n (OfAlias of) = Unit {0}
-
--- then the name resolves to the same, since main names are the same too
-abbrev pub NameLoadsStay : Type 0
-NameLoadsStay =
-    (s t : HostViewMap) → AreForOne s t → (n : Name) (one : NameLoad) → SameLeads s t → AgreesAt s t n one
-    → IsNameLoad s n one → IsNameLoad t n one
 
 pub words_keep_visible_names : WordsKeepVisibleNames
 words_keep_visible_names s t same n = (
@@ -151,16 +140,3 @@ same_names_keep_the_universe s t extra names leads visible keeps all =
       known = λ m l.
           (reached_closed (IsSource s extra) (LeadsTo s)).stepped n m r (inr (named_there s n m k.before k.is_before ((k.same m).1 l)));
     }
-
--- ---- what a name resolves to
-
-pub name_loads_stay : NameLoadsStay
-name_loads_stay s t one n (OfUnit unit) leads agree p = record {
-  alone = p.alone;
-  is_unit =
-      footprints_decide s t one n p.alone leads
-      (subst (λ (ns : List Name). AgreeIn s t (footprint n ns)) (ap (λ (u : LoadedUnit). u.names) p.by_mains_is) agree) p.is_unit;
-  by_mains_is = p.by_mains_is ∙ by_mains_same s t leads p.alone;
-}
-name_loads_stay s t one n (OfAlias of) leads agree p =
-    record { main_is = sym (leads_decide_mains s t leads n) ∙ p.main_is; other = p.other }

@@ -2,7 +2,7 @@
 -- both.
 -- Source: this project's own.
 use Rattle.std.proofs.Common.{◌%◌, ◌+◌, ◌==◌, ◌∷◌, ◌≡◌, ◌⊎◌}
-use Rattle.parallel_load.specs.Prelude.{[], among_from_contains, ap, Bool, bytes_eq-Decides, cond, Contains, Contains-get_or, EntryMap, false, Fleet, get-scope_of, get-view, Host, host_view_of, inl, inr, is_some, IsAmong, IsLevel, IsSome, level_for, level_is, levels, link_targets, List, Name, None, Option, option_and_then, option_map, Own, own_of, own_path, own_scope, path_after, PathMap, PathParts, PlaceParts, refl, SameWords, scope_of, shown, Some, StartsIn, StoresAgreeIn, subst, sym, true, viewed_at, viewed_place, Viewer, views_decide_link_targets, visible_at, ℕ, ◌∙◌}
+use Rattle.parallel_load.specs.Prelude.{[], among_from_contains, ap, Bool, bytes_eq-Decides, cond, Contains, Contains-get_or, EntryMap, false, Fleet, get-scope_of, get-view, Host, host_view_of, inl, inr, is_some, IsAmong, IsLevel, IsSome, level_for, level_is, levels, link_targets, List, Name, None, Option, option_and_then, option_map, Own, own_of, own_path, own_scope, path_after, PathMap, PathParts, PlaceParts, refl, SameWords, scope_of, shown, Some, subst, sym, true, viewed_at, viewed_place, Viewer, views_decide_link_targets, visible_at, ℕ, ◌∙◌}
 use Rattle.std.specs.FinMap as finmap
 
 -- the stores show the same at every place but these
@@ -15,22 +15,11 @@ WordsStayAt s t host touched =
     (place : PlaceParts) → IsAmong place touched → place.path.folder ≡ [] → IsSome (level_for host place)
     → link_targets (host_view_of s host) place.path.name ≡ link_targets (host_view_of t host) place.path.name
 
--- no place of these that the host sees begins with one of the parts
-abbrev pub NoneStartsIn : Viewer → List PlaceParts → List (List ℕ) → Type 0
-NoneStartsIn host touched parts =
-    (place : PlaceParts) → IsAmong place touched → IsSome (level_for host place) → ¬ StartsIn parts place.path
-
 -- if link targets are the same at the changed places, those of all names are
 abbrev pub TouchedWordsDecide : Type 0
 TouchedWordsDecide =
     (s t : EntryMap) (host : Viewer) (touched : List PlaceParts) → ShowTheSameBut s t touched → WordsStayAt s t host touched
     → SameWords (host_view_of s host) (host_view_of t host)
-
--- if no changed place begins with such a part, both views agree there
-abbrev pub UntouchedAgree : Type 0
-UntouchedAgree =
-    (s t : EntryMap) (host : Viewer) (touched : List PlaceParts) (parts : List (List ℕ)) → ShowTheSameBut s t touched
-    → NoneStartsIn host touched parts → StoresAgreeIn s t host parts
 
 -- ---- the place of a path
 
@@ -121,10 +110,3 @@ module _ (s t : EntryMap) (host : Viewer) (touched : List PlaceParts) (but : Sho
 
 pub touched_words_decide : TouchedWordsDecide
 touched_words_decide s t host touched but stay n = words_stay s t host touched but stay n
-
-pub untouched_agree : UntouchedAgree
-untouched_agree s t host touched parts but none place starts level = by (but place)
-  where
-    by : IsAmong place touched ⊎ (visible_at s place ≡ visible_at t place) → visible_at s place ≡ visible_at t place
-    by (inl among) = absurd (none place among level starts)
-    by (inr same) = same

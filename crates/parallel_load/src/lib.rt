@@ -31,7 +31,7 @@ mod words;
 pub use asked::are_sources;
 pub use faults::LoadFault;
 pub use footprints::footprint;
-pub use laws::{asked_laws, host_laws, load_laws, one_load, stable_load_laws, touched_laws};
+pub use laws::{load_laws, stable_load_laws};
 pub use loaded::{Dependency, Loaded, NameLoad};
 pub use loads::{MOST_NAMES, load_fleet, load_here};
 pub use refreshing::{Refreshed, refresh, refresh_in_place};

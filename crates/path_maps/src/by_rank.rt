@@ -2,10 +2,10 @@
 ghost use Rattle.std.specs.{Prelude.{◌≡◌, ◌∷◌, []}, List.{flat_map}, Ordering.{nat_cmp}};
 ghost use Rattle.std.specs.declared.cmp.Ordering.TheVariants.{Less};
 ghost use Rattle.load_path.specs.Paths.{IsPath};
-ghost use Rattle.path_maps.specs.Cursors.{beside_path, folders_read, IsHeldAt, left_of, names_read};
+ghost use Rattle.path_maps.specs.Cursors.{companion_path, folders_read, IsHeldAt, left_of, names_read};
 ghost use Rattle.path_maps.specs.{Folders.{path_at}, PathMaps.{at_name, bytes_cmp, in_folder, in_rank, listed}, Spread.{AllKeys}, Zipped.{zipped}};
 
-use crate::beside::Beside;
+use crate::companions::Companion;
 use crate::cursors::{Cursor, Nested};
 use crate::entries::PathEntry;
 use crate::levels::{Level, Pair, Pairs, Reading};
@@ -34,7 +34,7 @@ pub struct InFolder<'a, N> {
     others: N,
 }
 
-impl<'a, N: Beside<Bytes>> Reading<Pair<'a, Bytes, Versioned<Content>>> for InFolder<'a, N> {
+impl<'a, N: Companion<Bytes>> Reading<Pair<'a, Bytes, Versioned<Content>>> for InFolder<'a, N> {
     type Read = (PathEntry<'a>, N::Held);
 
     ghost can = { λ s p. IsHeldAt (path_at s.rank s.folder.now p.0) p.1 };
@@ -61,7 +61,7 @@ pub struct InRank<F> {
     others: F,
 }
 
-impl<'a, N: Beside<Bytes>, F: Beside<Bytes, Held = N>> Reading<Pair<'a, Bytes, NameMap>>
+impl<'a, N: Companion<Bytes>, F: Companion<Bytes, Held = N>> Reading<Pair<'a, Bytes, NameMap>>
     for InRank<F> {
     type Read = Names<'a, N>;
 
@@ -83,7 +83,7 @@ pub struct InRanks<R> {
     others: R,
 }
 
-impl<'a, N: Beside<Bytes>, F: Beside<Bytes, Held = N>, R: Beside<u8, Held = F>> Reading<
+impl<'a, N: Companion<Bytes>, F: Companion<Bytes, Held = N>, R: Companion<u8, Held = F>> Reading<
     Pair<'a, u8, FolderMap>,
 > for InRanks<R> {
     type Read = Folders<'a, F>;
@@ -105,7 +105,7 @@ impl<'a, N: Beside<Bytes>, F: Beside<Bytes, Held = N>, R: Beside<u8, Held = F>> 
 
 /// Returns a cursor over the names of a folder with valid paths.
 #[inline(always)]
-pub fn names_of<'a, N: Beside<Bytes>>(
+pub fn names_of<'a, N: Companion<Bytes>>(
     rank: usize,
     folder: &'a Bytes,
     names: &'a NameMap,
@@ -124,13 +124,13 @@ pub fn names_of<'a, N: Beside<Bytes>>(
 }
 
 /// Returns a cursor over the entries of nested maps with valid paths.
-pub fn paths_of<'a, N: Beside<Bytes>, F: Beside<Bytes, Held = N>, R: Beside<u8, Held = F>>(
+pub fn paths_of<'a, N: Companion<Bytes>, F: Companion<Bytes, Held = N>, R: Companion<u8, Held = F>>(
     ranks: &'a RankMap,
     others: R,
 ) -> Paths<'a, N, F, R>
     requires paths { AllKeys IsPath (listed ranks.now) }
     ensures entries { left_of result.inner (left_of result.outer.inner result.outer.outer)
-        ≡ zipped (beside_path (λ r f. N.held (F.held (R.held others r) f))) (listed ranks.now) }
+        ≡ zipped (companion_path (λ r f. N.held (F.held (R.held others r) f))) (listed ranks.now) }
 {
     let left = ranks.pairs();
     Nested {

@@ -3,11 +3,11 @@ ghost use Rattle.std.specs.{Prelude.{◌≡◌, ◌∷◌, [], List}, List.{flat
 ghost use Rattle.load_path.specs.Paths.{IsPath};
 ghost use Rattle.load_places.specs.Places.{PlaceParts, scope_cmp};
 ghost use Rattle.edit_sums.specs.Entries.{Entry};
-ghost use Rattle.path_maps.specs.Cursors.{beside_path, left_of, scope_read};
+ghost use Rattle.path_maps.specs.Cursors.{companion_path, left_of, scope_read};
 ghost use Rattle.path_maps.specs.{Kept.{HasWellFormedPaths}, PathMaps.{listed}, PlaceMaps.{all_listed}, Spread.{AllKeys}, Zipped.{zipped}};
 
-use crate::beside::Beside;
 use crate::by_rank::{Paths, paths_of};
+use crate::companions::Companion;
 use crate::cursors::{Cursor, Nested};
 use crate::levels::{Level, Pair, Pairs, Reading};
 use crate::places::Placed;
@@ -24,12 +24,17 @@ pub type Places<'a, N, F, R, S> = Nested<InScope<'a, N, F, R>, Scopes<'a, S>>;
 
 /// A cursor over the entries of a scope.
 #[derive(Drop)]
-pub struct InScope<'a, N: Beside<Bytes>, F: Beside<Bytes, Held = N>, R: Beside<u8, Held = F>> {
+pub struct InScope<
+    'a,
+    N: Companion<Bytes>,
+    F: Companion<Bytes, Held = N>,
+    R: Companion<u8, Held = F>,
+> {
     scope: &'a Scope,
     entries: Paths<'a, N, F, R>,
 }
 
-impl<'a, N: Beside<Bytes>, F: Beside<Bytes, Held = N>, R: Beside<u8, Held = F>> Model
+impl<'a, N: Companion<Bytes>, F: Companion<Bytes, Held = N>, R: Companion<u8, Held = F>> Model
     for InScope<'a, N, F, R> {
     ghost Value = { List ((PlaceParts × Entry) × N.Held) };
 
@@ -37,7 +42,7 @@ impl<'a, N: Beside<Bytes>, F: Beside<Bytes, Held = N>, R: Beside<u8, Held = F>> 
         (left_of s.entries.inner (left_of s.entries.outer.inner s.entries.outer.outer)) };
 }
 
-impl<'a, N: Beside<Bytes>, F: Beside<Bytes, Held = N>, R: Beside<u8, Held = F>> Cursor
+impl<'a, N: Companion<Bytes>, F: Companion<Bytes, Held = N>, R: Companion<u8, Held = F>> Cursor
     for InScope<'a, N, F, R> {
     type Item = (Placed<'a>, N::Held);
 
@@ -59,10 +64,10 @@ pub struct InScopes<S> {
 
 impl<
     'a,
-    N: Beside<Bytes>,
-    F: Beside<Bytes, Held = N>,
-    R: Beside<u8, Held = F>,
-    S: Beside<Scope, Held = R>,
+    N: Companion<Bytes>,
+    F: Companion<Bytes, Held = N>,
+    R: Companion<u8, Held = F>,
+    S: Companion<Scope, Held = R>,
 > Reading<Pair<'a, Scope, RankMap>> for InScopes<S> {
     type Read = InScope<'a, N, F, R>;
 
@@ -71,7 +76,7 @@ impl<
     ghost before = { λ p q. scope_cmp p.0 q.0 ≡ Less };
 
     ghost part = { λ s p. scope_read p.0
-        (zipped (beside_path (λ r f. N.held (F.held (R.held (S.held s.others p.0) r) f))) (listed p.1)) ∷ [] };
+        (zipped (companion_path (λ r f. N.held (F.held (R.held (S.held s.others p.0) r) f))) (listed p.1)) ∷ [] };
 
     #[inline(always)]
     fn read(&mut self, item: Pair<'a, Scope, RankMap>) -> InScope<'a, N, F, R> {
@@ -85,10 +90,10 @@ impl<
 /// Returns a cursor over the entries of nested maps with valid paths.
 pub fn places_of<
     'a,
-    N: Beside<Bytes>,
-    F: Beside<Bytes, Held = N>,
-    R: Beside<u8, Held = F>,
-    S: Beside<Scope, Held = R>,
+    N: Companion<Bytes>,
+    F: Companion<Bytes, Held = N>,
+    R: Companion<u8, Held = F>,
+    S: Companion<Scope, Held = R>,
 >(scopes: &'a ScopeMap, others: S) -> Places<'a, N, F, R, S>
     requires paths { HasWellFormedPaths scopes.now }
     ensures entries { left_of result.inner result.outer

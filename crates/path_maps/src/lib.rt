@@ -9,13 +9,13 @@
 //! - `Zipped`: a store's entries in place order, each with what another store holds at its place.
 //! - `HostView`, `HostViewEntries` and `HostViewEntry`: what a host sees of a store, or what is seen without a host, by level,
 //!   folder and name.
-//! - `host_view_laws` and `difference_laws`: the laws of what a host sees, and of the places where two stores differ.
+//! - `host_view_laws`: the laws of what a host sees.
 #![tactic(auto)]
 
-mod beside;
 mod by_rank;
 mod by_scope;
 mod changes;
+mod companions;
 mod counts;
 mod cursors;
 mod differences;
@@ -31,7 +31,7 @@ mod stores;
 mod together;
 mod view;
 
-pub use laws::{difference_laws, host_view_laws};
+pub use laws::host_view_laws;
 pub use places::{Entries, Placed};
 pub use places_zipped::Zipped;
 pub use stores::{FolderMap, NameMap, RankMap, ScopeMap, Store};

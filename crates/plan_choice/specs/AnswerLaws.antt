@@ -1,7 +1,7 @@
 -- A request has at most one answer; and what a plan promises.
 use Rattle.std.proofs.Common.{◌++◌, ◌<◌, ◌∷◌, ◌≡◌, ◌≤◌}
 use Rattle.plan_choice.specs.Prelude.{ap, arith, Bool, cycle_stuck, false, inl, IsAmong, IsAntisymmetric, IsLeast, IsTotalOrder, IsTrue, List, one_closure, one_cycle, one_least, one_start_list, Ordering, refl, subst, sym, true, ℕ, ◌∙◌}
-use Rattle.plan_choice.specs.{Answers.{AreNeededConflicts, IsClearBelow, IsFirstPair, IsPlan, IsRefusal, IsUnloadedNeed, LacksRequisite, rank, Refusal, Refusal.{conflict, cycle, manual_start, need_fault, requisite, target_fault}, Stands, WaitsForever}, Case.{Case}, SetLaws.{chosen_closed, chosen_loaded, chosen_peace, chosen_requisites, SparesItself}, Sets.{AreInConflict, IsChosen, IsStoppedByConflict, Precedes, Starts, TakesAlong}}
+use Rattle.plan_choice.specs.{Answers.{AreNeededConflicts, conflict, cycle, IsClearBelow, IsFirstPair, IsPlan, IsRefusal, IsUnloadedNeed, LacksRequisite, manual_start, need_fault, rank, Refusal, requisite, Stands, target_fault, WaitsForever}, Case.{Case}, SetLaws.{chosen_closed, chosen_loaded, chosen_peace, chosen_requisites, SparesItself}, Sets.{AreInConflict, IsChosen, IsStoppedByConflict, Precedes, Starts, TakesAlong}}
 
 -- What a plan chooses is closed under need and loaded, its requisites are running, and no two chosen units conflict.
 -- Each unit that starts comes after all started units before it.

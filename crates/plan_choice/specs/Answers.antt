@@ -3,22 +3,9 @@
 use Rattle.std.proofs.Common.{◌<◌, ◌≡◌}
 use Rattle.plan_choice.specs.Prelude.{false, IsAmong, IsClosure, IsCycle, IsLeast, IsStartList, IsStuck, IsTrue, List, Ordering, ℕ}
 use Rattle.plan_choice.specs.{Case.{Case}, Sets.{AreInConflict, IsNeeded, IsStoppedByConflict, Precedes, Starts, TakesAlong}}
+pub use Rattle.plan_choice.specs.declared.answers.PlanRefusal.{PlanRefusal as Refusal, TheVariants.{Conflict as conflict, Cycle as cycle, ManualStart as manual_start, Need as need_fault, Requisite as requisite, Target as target_fault}}
 
--- Why there is no plan, in the order in which the causes are tested.
-pub data Refusal (N : Type 0) : Type 0 where
-  -- the target isn't loaded
-  target_fault : N → Refusal N
-  -- a needed unit isn't loaded
-  need_fault : N → Refusal N
-  -- the target refuses to be started by hand
-  manual_start : Refusal N
-  -- a needed unit has a requisite that isn't running
-  requisite : N → N → Refusal N
-  -- two needed units conflict
-  conflict : N → N → Refusal N
-  -- units that are to start wait for each other
-  cycle : List N → Refusal N
-
+-- The order in which the causes are tested.
 abbrev pub rank : {N : Type 0} → Refusal N → ℕ
 rank (target_fault u) = 1
 rank (need_fault u) = 2

@@ -5,7 +5,7 @@ pub mod Answers
 pub mod SetLaws
 pub mod AnswerLaws
 pub mod IndexedCases
-pub mod IndexedRefusals
+pub mod IndexedAnswers
 pub mod BitSets
 pub mod Soundness
 pub mod Losing

@@ -1,7 +1,7 @@
 -- A case over indexed units, and the same case over their names.
 -- Source: this project's own.
 use Rattle.std.proofs.Common.{◌<◌, ◌≡◌}
-use Rattle.plan_choice.specs.{Answers.{Refusal, Refusal.{conflict, cycle, manual_start, need_fault, requisite, target_fault}}, Case.{Case}, Prelude.{AreNamedSuccessors, AreNames, IsTrue, map, Named, ℕ}}
+use Rattle.plan_choice.specs.{Answers.{conflict, cycle, manual_start, need_fault, Refusal, requisite, target_fault}, Case.{Case}, Prelude.{AreNamedSuccessors, AreNames, IsTrue, map, Named, ℕ}}
 
 -- Only the named units with an index are loaded or running, and the names in a list of a named unit are those of the
 -- indices in its list.

@@ -1,7 +1,7 @@
 -- Plans and refusals are carried from indices to names.
 use Rattle.std.proofs.Common.{◌<◌, ◌↔◌, ◌∷◌, ◌≡◌, ◌⊎◌}
 use Rattle.plan_choice.specs.Prelude.{[], ap, AreNamedSuccessors, AreNames, Bool, both_named, closure_named, cycle_named, false, index_of, inl, inr, IsAmong, IsIndexing, IsReached, IsTotalOrder, IsTrue, least_named, Less, List, Listed, listed_names, map, Named, names_compare, nat_cmp, Ordering, reached_named, refl, start_list_named, stuck_named, subst, sym, true, ℕ, ◌∙◌}
-use Rattle.plan_choice.specs.{Answers.{AreNeededConflicts, IsClearBelow, IsFirstPair, IsPlan, IsRefusal, IsUnloadedNeed, LacksRequisite, rank, Refusal, Refusal.{conflict, cycle, manual_start, need_fault, requisite, target_fault}, Stands, WaitsForever}, Case.{Case}, NamedCases.{IsNamedCase, named_refusal}, SetLaws.{needs_itself}, Sets.{AreInConflict, IsChosen, IsDropped, IsExtra, IsGood, IsNeeded, IsOutside, IsPulled, IsStoppedByConflict, Keeps, Needs, Precedes, Pulls, Starts, TakesAlong}}
+use Rattle.plan_choice.specs.{Answers.{AreNeededConflicts, conflict, cycle, IsClearBelow, IsFirstPair, IsPlan, IsRefusal, IsUnloadedNeed, LacksRequisite, manual_start, need_fault, rank, Refusal, requisite, Stands, target_fault, WaitsForever}, Case.{Case}, NamedCases.{IsNamedCase, named_refusal}, SetLaws.{needs_itself}, Sets.{AreInConflict, IsChosen, IsDropped, IsExtra, IsGood, IsNeeded, IsOutside, IsPulled, IsStoppedByConflict, Keeps, Needs, Precedes, Pulls, Starts, TakesAlong}}
 
 -- sets with the same members
 same_names : {N : Type 0} (count : ℕ) (name : ℕ → N) (P R : ℕ → Type 0) (Q S : N → Type 0) → AreNames count name P Q → ((i : ℕ) → P i ↔ R i) → ((u : N) → Q u ↔ S u) → AreNames count name R S

@@ -1,4 +1,6 @@
-//! What planning over indexed units returns.
+//! What planning returns.
+
+use plain_values::Items;
 
 /// The units that stop, in ascending order, and then the units that start, in their start order.
 #[derive(Debug, Drop)]
@@ -7,19 +9,19 @@ pub struct IndexedPlan {
     pub starts: Vec<usize>,
 }
 
-/// Why there is no plan, in the order in which the causes are tested.
+/// Why there is no plan, by indices or by names of units, in the order in which the causes are tested.
 #[derive(Debug, Drop)]
-pub enum IndexedRefusal {
+pub enum PlanRefusal<N: Drop> {
     /// The target isn't loaded.
-    Target(usize),
+    Target(N),
     /// The least needed unit that isn't loaded.
-    Need(usize),
+    Need(N),
     /// The target refuses to be started by hand.
     ManualStart,
     /// The least needed unit with a requisite that isn't running, and the least such requisite.
-    Requisite(usize, usize),
+    Requisite(N, N),
     /// The least needed unit that conflicts with a needed one, and the least of these.
-    Conflict(usize, usize),
+    Conflict(N, N),
     /// Units that are to start and wait for each other, from the least on, each before the next.
-    Cycle(Vec<usize>),
+    Cycle(Items<N>),
 }

@@ -4,14 +4,15 @@ ghost use Rattle.std.specs.{Ordering.{nat_cmp}, Prelude.{All, IfErr, IfOk, IsTru
 ghost use Rattle.list_laws.specs.Members.{IsAmong};
 ghost use Rattle.name_closure.specs.Chains.{IsClosure};
 ghost use Rattle.index_rows.specs.{Adjacency.{IsMember}, Successors.{AreSuccessorsOf, successors_from}};
-ghost use Rattle.plan_choice.specs.{Answers.{IsClearBelow, IsFirstPair, IsPlan, IsRefusal}, BitSets.{AreBitsOf, ArePairsOf, IsListOf}, IndexedCases.{case_of, count_of}, IndexedRefusals.{IsAnswer, refusal_of}, Losing.{IsLoser, SetsBits}, Sets.{AreInConflict, IsChosen, IsDropped, IsExtra, IsGood, IsPulled, IsStoppedByConflict, Starts, TakesAlong}, Soundness.{IsSound}};
+ghost use Rattle.plan_choice.specs.{Answers.{IsClearBelow, IsFirstPair, IsPlan, IsRefusal}, BitSets.{AreBitsOf, ArePairsOf, IsListOf}, IndexedCases.{case_of, count_of}, IndexedAnswers.{IsAnswer}, Losing.{IsLoser, SetsBits}, Sets.{AreInConflict, IsChosen, IsDropped, IsExtra, IsGood, IsPulled, IsStoppedByConflict, Starts, TakesAlong}, Soundness.{IsSound}};
 
-use crate::answers::{IndexedPlan, IndexedRefusal};
+use crate::answers::{IndexedPlan, PlanRefusal};
 use crate::cases::IndexedCase;
 use index_rows::{
     Successors, empty_bits, first_member, members_of, neighbors, non_members, reached,
     reached_inside, without,
 };
+use plain_values::Items;
 use start_order::start_order;
 use std::alloc::{AllocError, Global};
 use std::marker::Model;
@@ -165,27 +166,27 @@ fn first_pair(sources: &[bool], successors: &Successors, bits: &[bool]) -> Optio
 
 impl<'c, 'a> CaseSets<'c, 'a> {
     // The first cause that holds among those that are tested before the start order.
-    pub fn refusal(&self, alloc: Global) -> Result<Option<IndexedRefusal>, AllocError>
+    pub fn refusal(&self, alloc: Global) -> Result<Option<PlanRefusal<usize>>, AllocError>
         ensures { IfOk result (λ answer. MatchOption answer (IsClearBelow nat_cmp (case_of self.now) 6)
-            (λ refusal. IsRefusal nat_cmp (case_of self.now) (refusal_of refusal))) }
+            (IsRefusal nat_cmp (case_of self.now))) }
     {
         let case = self.case;
         if !case.loaded[case.target] {
-            return Ok(Some(IndexedRefusal::Target(case.target)));
+            return Ok(Some(PlanRefusal::Target(case.target)));
         }
         let unloaded = without(alloc, &self.needed, &case.loaded)?;
         if let Some(unit) = first_member(&unloaded) {
-            return Ok(Some(IndexedRefusal::Need(unit)));
+            return Ok(Some(PlanRefusal::Need(unit)));
         }
         if case.refuses_manual_start[case.target] {
-            return Ok(Some(IndexedRefusal::ManualStart));
+            return Ok(Some(PlanRefusal::ManualStart));
         }
         if let Some((unit, requisite)) = first_pair(&self.needed, &case.requisites, &self.idle) {
-            return Ok(Some(IndexedRefusal::Requisite(unit, requisite)));
+            return Ok(Some(PlanRefusal::Requisite(unit, requisite)));
         }
         match first_pair(&self.needed, &self.conflicting, &self.needed) {
             None => Ok(None),
-            Some((unit, conflicting_unit)) => Ok(Some(IndexedRefusal::Conflict(
+            Some((unit, conflicting_unit)) => Ok(Some(PlanRefusal::Conflict(
                 unit,
                 conflicting_unit,
             ))),
@@ -278,7 +279,7 @@ impl<'c, 'a> CaseSets<'c, 'a> {
     }
 
     // The plan if nothing is wrong with what the target needs, or the cycle among the units that are to start.
-    fn plan(&self, alloc: Global) -> Result<Result<IndexedPlan, IndexedRefusal>, AllocError>
+    fn plan(&self, alloc: Global) -> Result<Result<IndexedPlan, PlanRefusal<usize>>, AllocError>
         requires { IsClearBelow nat_cmp (case_of self.now) 6 }
         ensures { IfOk result (IsAnswer (case_of self.now)) }
     {
@@ -286,7 +287,7 @@ impl<'c, 'a> CaseSets<'c, 'a> {
         let chosen = self.chosen(alloc)?;
         let starting = without(alloc, &chosen, &case.running)?;
         match start_order(alloc, &starting, case.predecessors, case.successors)? {
-            Err(cycle) => Ok(Err(IndexedRefusal::Cycle(cycle))),
+            Err(cycle) => Ok(Err(PlanRefusal::Cycle(Items::from_vec(cycle)))),
             Ok(starts) => {
                 let stops = self.stops(alloc, &chosen)?;
                 Ok(Ok(IndexedPlan { stops, starts }))
@@ -302,13 +303,12 @@ impl<'c, 'a> CaseSets<'c, 'a> {
 pub fn indexed_plan(
     alloc: Global,
     case: &IndexedCase,
-) -> Result<Result<IndexedPlan, IndexedRefusal>, AllocError>
+) -> Result<Result<IndexedPlan, PlanRefusal<usize>>, AllocError>
     ensures plan { IfOk result (λ answer. IfOk answer (λ plan. IsPlan nat_cmp (case_of case.now) plan.stops.items
         plan.starts.items)) }
     ensures all { IfOk result (λ answer. IfOk answer (λ plan. (u : ℕ) → Starts nat_cmp (case_of case.now) u
         → IsAmong u plan.starts.items)) }
-    ensures refusal { IfOk result (λ answer. IfErr answer (λ refusal. IsRefusal nat_cmp (case_of case.now)
-        (refusal_of refusal))) }
+    ensures refusal { IfOk result (λ answer. IfErr answer (IsRefusal nat_cmp (case_of case.now))) }
 {
     let sets = CaseSets::of(alloc, case)?;
     match sets.refusal(alloc)? {

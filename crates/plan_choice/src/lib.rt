@@ -15,9 +15,7 @@
 mod answers;
 mod case_sets;
 mod cases;
-mod laws;
 
-pub use answers::{IndexedPlan, IndexedRefusal};
+pub use answers::{IndexedPlan, PlanRefusal};
 pub use case_sets::indexed_plan;
 pub use cases::IndexedCase;
-pub use laws::{plans_are_one, plans_by_name, plans_keep_promises};

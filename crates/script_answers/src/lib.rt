@@ -7,7 +7,7 @@
 //! - `unit_lines`, `pulled_lines`, `plan_lines`, `files`: the text of each kind of answer.
 //! - `answers`, `names`, `refusals`: single lines, names and refusals.
 //! - `crews`, `crowding`: the number of workers, and crowds.
-//! - `laws`: each question has one answer.
+//! - `rendering_laws`: each question has one answer.
 #![tactic(auto)]
 
 mod answers;
@@ -27,6 +27,6 @@ pub use answers::{list_files, merge_done, part_done, put_done, refused};
 pub use asking::render_inquiry;
 pub use crowding::render_crowd;
 pub use files::render_files;
-pub use laws::{host_laws, one_answer};
+pub use laws::rendering_laws;
 pub use requests::Inquiry;
 pub use worker_counts::WorkerCount;

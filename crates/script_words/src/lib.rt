@@ -15,7 +15,7 @@ mod numbers;
 mod text;
 mod words;
 
-pub use laws::{lines_read_back, numbers_read_back, text_reads_back, words_read_back};
+pub use laws::script_laws;
 pub use lines::{cut_line, is_passed_over};
 pub use names::is_name;
 pub use numbers::parse_number;

@@ -191,20 +191,3 @@ valid_with_node world name writer valid free = record {
         by (inl a) (inr b) = absurd (not_taken world.nodes writer j free a (sym (writer_before world.nodes m j a) ∙ same ∙ ap (writer_at (world.nodes ++ m ∷ [])) b ∙ writer_last world.nodes m))
         by (inr a) (inl b) = absurd (not_taken world.nodes writer k free b (sym (writer_before world.nodes m k b) ∙ sym same ∙ ap (writer_at (world.nodes ++ m ∷ [])) a ∙ writer_last world.nodes m))
         by (inr a) (inr b) = a ∙ sym b
-
--- The same, as laws.
-
-abbrev pub BlankIsValid : Type 0
-BlankIsValid = IsValid blank
-
-abbrev pub EditsStayValid : Type 0
-EditsStayValid = (world : ScriptWorld) (i : ℕ) (place : PlaceParts) (content : Content) → IsValid world → i < length world.nodes → IsValid (happened world (Put i (next_edit world i place content)))
-
-abbrev pub AnswersStayValid : Type 0
-AnswersStayValid = (world : ScriptWorld) (from to : ℕ) (places : Option (List PlaceParts)) → IsValid world → from < length world.nodes → to < length world.nodes → IsValid (answered world from to places)
-
-abbrev pub GiftsStayValid : Type 0
-GiftsStayValid = (world : ScriptWorld) (p k : ℕ) → IsValid world → k < length world.nodes → IsValid (happened world (Give p k))
-
-abbrev pub NewNodesStayValid : Type 0
-NewNodesStayValid = (world : ScriptWorld) (name : List ℕ) (writer : ℕ) → IsValid world → has_writer world.nodes writer ≡ false → IsValid (with_node world name writer)

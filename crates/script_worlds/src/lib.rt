@@ -4,9 +4,4 @@
 //! Promise: convergence.
 //!
 //! The definitions are in `specs/`: the world and its steps, valid worlds, and bounds of their counters.
-//! `valid_worlds` is the law.
 #![tactic(auto)]
-
-mod laws;
-
-pub use laws::valid_worlds;

@@ -4,8 +4,8 @@
 //! Promise: names and files are read exactly.
 //!
 //! The crate doesn't know what a section or a key means. `read` takes bytes, returns `Sections` with an `Assignment` or
-//! a `Note` for each line that has one, and fails only if memory runs out. `reading_laws` and `writing_laws` say how
-//! comments, blank lines and joined lines are read, and that written sections are read back.
+//! a `Note` for each line that has one, and fails only if memory runs out. `file_laws` say how comments,
+//! blank lines and joined lines are read, and that written sections are read back.
 #![tactic(auto)]
 
 mod assignments;
@@ -18,7 +18,7 @@ mod reader;
 mod sections;
 
 pub use assignments::{Assignment, Note, NoteKind};
-pub use laws::{reading_laws, writing_laws};
+pub use laws::file_laws;
 pub use plain_values::Bytes;
 pub use reader::read;
 pub use sections::Sections;

@@ -34,10 +34,7 @@ pub use dependency_lists::{Dependencies, DependencyList, in_byte_order};
 pub use expansions::values;
 pub use keys::SettingKey;
 pub use kinds::DepKind;
-pub use laws::{
-    dependency_laws, family_laws, join_laws, key_laws, kind_laws, reset_laws, switch_laws,
-    template_laws,
-};
+pub use laws::setting_laws;
 pub use maps::SettingMap;
 pub use named_units::dependencies;
 pub use names::for_unit;

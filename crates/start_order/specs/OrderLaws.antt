@@ -24,10 +24,6 @@ module _ {N : Type 0} (chosen : N → Type 0) (before : N → N → Type 0) wher
   pub can_start_along : (s t : N → Type 0) → ((v : N) → s v → t v) → ((v : N) → t v → s v) → (u : N) → CanStart chosen before s u → CanStart chosen before t u
   can_start_along s t to from u f = record { is_chosen = f.is_chosen; waiting = λ m. f.waiting (from u m); ready = λ v c b. to v (f.ready v c b) }
 
-  -- each stuck node has a stuck node before it
-  pub stuck_blocked : (u : N) → IsStuck chosen before u → (v : N) × (IsStuck chosen before v × before v u)
-  stuck_blocked u s = let b = s.tied.blocked u s.member in (b.0, (record { knot = s.knot; tied = s.tied; member = b.1.0 }, b.1.1))
-
   pub stuck_chosen : (u : N) → IsStuck chosen before u → chosen u
   stuck_chosen u s = s.tied.all_chosen u s.member
 

@@ -17,5 +17,5 @@ mod free;
 mod laws;
 mod orders;
 
-pub use laws::{start_orders_are_one, start_orders_by_name, stuck_nodes};
+pub use laws::start_order_laws;
 pub use orders::start_order;

@@ -1,10 +1,9 @@
-//! Laws of plans: each is the contract of a function that does nothing.
+//! Laws of plans: the contract of a function that does nothing.
 ghost use Rattle.start_plan.specs.PlanLaws.{OneCase, OnePlan, OneRefusal, PlanOrRefusal, PlansKeepPromises};
 
-/// A request has one plan or one refusal, and not both, unless memory runs out. The load and the request alone
-/// determine which. In a load of a store, the units that a plan chooses include the target and all that they need. They
-/// are all loaded, their requisites are running and they don't conflict; and each unit starts after all started units
-/// that are to start before it.
+/// A load and a request determine one plan or one refusal, and not both, unless memory runs out. In a load of a store the
+/// units that a plan chooses include the target and all that they need. They are all loaded, their requisites are running
+/// and they don't conflict; and each unit starts after all started units that are to start before it.
 pub fn plan_laws()
     ensures plan { OnePlan }
     ensures refusal { OneRefusal }

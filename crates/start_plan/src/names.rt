@@ -1,7 +1,6 @@
 //! A plan's indices are turned into names.
 ghost use Rattle.std.specs.Prelude.{◌≡◌, ◌<◌, ℕ, Some, All, IfOk, false, map};
 ghost use Rattle.parallel_load.specs.Loads.{unit_in};
-ghost use Rattle.plan_choice.specs.IndexedRefusals.{refusal_of};
 ghost use Rattle.inverse_deps.specs.{Edges.{IsUnitIn}, Indices.{count_of, name_at}};
 ghost use Rattle.start_plan.specs.{Requests.{is_loaded}, ReturnedRefusals.{IsFaultOf, IsReturnedBy, IsReturnable}};
 
@@ -9,7 +8,7 @@ use crate::requests::{Plan, Refusal};
 use inverse_deps::names_at;
 use parallel_load::{Loaded, NameLoad, Status};
 use plain_values::Items;
-use plan_choice::{IndexedPlan, IndexedRefusal};
+use plan_choice::{IndexedPlan, PlanRefusal};
 use std::alloc::{AllocError, Global};
 use unit_name::UnitName;
 
@@ -33,25 +32,27 @@ pub(crate) fn named_plan(
 pub(crate) fn named_refusal(
     alloc: Global,
     loaded: &Loaded,
-    refusal: &IndexedRefusal,
+    refusal: &PlanRefusal<usize>,
 ) -> Result<Refusal, AllocError>
-    requires indices { IsReturnable loaded.now (refusal_of refusal.now) }
-    ensures returned { IfOk result (IsReturnedBy loaded.now (refusal_of refusal.now)) }
+    requires indices { IsReturnable loaded.now refusal.now }
+    ensures returned { IfOk result (IsReturnedBy loaded.now refusal.now) }
 {
     match refusal {
-        IndexedRefusal::Target(unit) => Ok(fault(loaded, *unit)?),
-        IndexedRefusal::Need(unit) => Ok(fault(loaded, *unit)?),
-        IndexedRefusal::ManualStart => Ok(Refusal::ManualStart),
-        IndexedRefusal::Requisite(unit, needs) => Ok(Refusal::Requisite(
+        PlanRefusal::Target(unit) => Ok(fault(loaded, *unit)?),
+        PlanRefusal::Need(unit) => Ok(fault(loaded, *unit)?),
+        PlanRefusal::ManualStart => Ok(Refusal::ManualStart),
+        PlanRefusal::Requisite(unit, needs) => Ok(Refusal::Requisite(
             name_of(loaded, *unit)?,
             name_of(loaded, *needs)?,
         )),
-        IndexedRefusal::Conflict(unit, conflicting_unit) => Ok(Refusal::Conflict(
+        PlanRefusal::Conflict(unit, conflicting_unit) => Ok(Refusal::Conflict(
             name_of(loaded, *unit)?,
             name_of(loaded, *conflicting_unit)?,
         )),
-        IndexedRefusal::Cycle(units) => Ok(Refusal::Cycle(Items::from_vec(names_at(
-            alloc, loaded, units,
+        PlanRefusal::Cycle(units) => Ok(Refusal::Cycle(Items::from_vec(names_at(
+            alloc,
+            loaded,
+            units.as_slice(),
         )?))),
     }
 }

@@ -2,7 +2,6 @@
 ghost use Rattle.std.specs.Prelude.{◌≡◌, IfOk, IfErr};
 ghost use Rattle.index_rows.specs.Indexing.{IsIndexing};
 ghost use Rattle.unit_name.specs.Names.{name_cmp};
-ghost use Rattle.plan_choice.specs.IndexedRefusals.{refusal_of};
 ghost use Rattle.inverse_deps.specs.Indices.{count_of, name_at};
 ghost use Rattle.start_plan.specs.{Indexed.{IsIndexedPlan, IsIndexedRefusal}, Outcomes.{IsPlanned, IsRefusalOf}};
 ghost use Rattle.start_plan.specs.Requests.{AsksTemplate, IsOfGraph};
@@ -11,7 +10,7 @@ use crate::cases::case_of;
 use crate::checks::asks_template;
 use crate::names::{named_plan, named_refusal};
 use crate::requests::{Plan, Refusal, Request};
-use plan_choice::{IndexedPlan, IndexedRefusal, indexed_plan};
+use plan_choice::{IndexedPlan, PlanRefusal, indexed_plan};
 use std::alloc::{AllocError, Global};
 use unit_graph::Graph;
 
@@ -20,14 +19,13 @@ fn indexed_answer(
     alloc: Global,
     graph: &Graph,
     request: &Request,
-) -> Result<Result<IndexedPlan, IndexedRefusal>, AllocError>
+) -> Result<Result<IndexedPlan, PlanRefusal<usize>>, AllocError>
     requires names { IsOfGraph graph.now.load request.now }
     requires whole { ¬ AsksTemplate request.now }
     ensures order { IfOk result (λ _. IsIndexing (count_of graph.now.load) (name_at graph.now.load) name_cmp) }
     ensures plan { IfOk result (λ answer. IfOk answer (λ plan. IsIndexedPlan graph.now.load graph.now.edges request.now
         plan.stops.items plan.starts.items)) }
-    ensures refusal { IfOk result (λ answer. IfErr answer (λ refusal. IsIndexedRefusal graph.now.load graph.now.edges
-        request.now (refusal_of refusal))) }
+    ensures refusal { IfOk result (λ answer. IfErr answer (IsIndexedRefusal graph.now.load graph.now.edges request.now)) }
 {
     let case = case_of(alloc, graph, request)?;
     indexed_plan(alloc, &case)

@@ -1,7 +1,7 @@
 -- At which paths a view can affect a unit, and which paths are elsewhere. Paths have a level in place of their rank.
 -- Source: systemd.unit(5), "Description" and "Unit File Load Path".
-use Rattle.std.proofs.Common.{◌++◌, ◌≡◌, ◌≢◌, ◌⊎◌}
-use Rattle.unit_loads.specs.Prelude.{[], dirs_with, ending, folders, HostViewMap, IsAmong, List, Name, name_dirs, PathParts, Requires, type_dirs, viewed_at, Wants, ℕ}
+use Rattle.std.proofs.Common.{◌++◌, ◌≡◌, ◌⊎◌}
+use Rattle.unit_loads.specs.Prelude.{[], dirs_with, ending, folders, IsAmong, List, Name, name_dirs, PathParts, Requires, type_dirs, Wants, ℕ}
 
 -- the folders of a unit with these names, with their endings: those of drop-ins, also of their type's, and those of
 -- links
@@ -11,13 +11,3 @@ unit_folders names = name_dirs (folders names) ++ (type_dirs (folders names) ++ 
 -- the path has one component, or it is in one of these folders
 abbrev pub IsNear : List Name → PathParts → Type 0
 IsNear names p = (p.folder ≡ []) ⊎ IsAmong p.folder (unit_folders names)
-
--- The path is in a folder that isn't a folder of a unit with these names: a drop-in of another name or type, or another
--- unit's link.
-pub record IsElsewhere (names : List Name) (p : PathParts) : Type 0 where
-  pub in_folder : p.folder ≢ []
-  pub of_others : ¬ IsAmong p.folder (unit_folders names)
-
--- two views show the same at each path but this one
-abbrev pub AgreeButAt : HostViewMap → HostViewMap → PathParts → Type 0
-AgreeButAt s t m = (p : PathParts) → p ≢ m → viewed_at s p ≡ viewed_at t p

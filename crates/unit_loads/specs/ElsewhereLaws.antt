@@ -1,17 +1,13 @@
 -- What is shown elsewhere affects no unit.
-use Rattle.std.proofs.Common.{◌++◌, ◌↔◌, ◌∷◌, ◌≡◌, ◌≢◌, ◌⊎◌}
+use Rattle.std.proofs.Common.{◌++◌, ◌↔◌, ◌∷◌, ◌≡◌, ◌⊎◌}
 use Rattle.unit_loads.specs.Prelude.{[], ap, AreForOne, assignments_of, At, Candidate, Choice, choices_decide, Contains, Content, content_at, content_viewed, dirs_by, dirs_with, drop_in_paths_are_files, DropIns, ending, File, first_or_later, first_there, Folder, folders, folders_decide, folders_decide_over, fragments_are_in_view, HostViewMap, inl, inr, IsAmong, IsAmong-append_left, IsAmong-append_right, IsDropIn, IsDropInAt, IsLinked, IsOwnFile, IsTaken, later_there, Links, List, main, mains_decide, map, Name, name_dirs, notes_of, OfName, OfType, own_paths_count, Owner, PathParts, PlaceParts, refl, refuses, Requires, Resolution, resolution, rows_of, same_place, same_Some, Search, settings_of, slice_get, Some, subst, suc, sym, type_dirs, viewed_at, viewed_place, Wants, zero, ℕ, ◌∙◌}
-use Rattle.unit_loads.specs.{declared.units.{Status.{Status, TheVariants.{Bad, Loaded, Masked, NotFound}}, Unit.{Unit as LoadedUnit}}, Elsewhere.{AgreeButAt, IsElsewhere, IsNear, unit_folders}, Units.{AreDropIns, AreLinks, file_bytes, file_notes, HasAllOf, HasSettings, IsStatus, IsUnit, items_of, lists_with, setting_notes}}
+use Rattle.unit_loads.specs.{declared.units.{Status.{Status, TheVariants.{Bad, Loaded, Masked, NotFound}}, Unit.{Unit as LoadedUnit}}, Elsewhere.{IsNear, unit_folders}, Units.{AreDropIns, AreLinks, file_bytes, file_notes, HasAllOf, HasSettings, IsStatus, IsUnit, items_of, lists_with, setting_notes}}
 use Rattle.fragment_choice.specs.declared.choices.Choice.TheVariants as choice
 use Rattle.unit_loads.specs.declared.units.UnitNote.TheVariants as note
 
 -- Views for one host that show the same at paths of one component and in a unit's folders have the same unit.
 abbrev pub NearPathsDecide : Type 0
 NearPathsDecide = (s t : HostViewMap) → AreForOne s t → (name : Name) (unit : LoadedUnit) → ((p : PathParts) → IsNear unit.names p → viewed_at s p ≡ viewed_at t p) → IsUnit s name unit → IsUnit t name unit
-
--- A visible edit elsewhere leaves a unit unchanged.
-abbrev pub ElsewhereChangesNothing : Type 0
-ElsewhereChangesNothing = (s t : HostViewMap) → AreForOne s t → (name : Name) (unit : LoadedUnit) (m : PathParts) → IsElsewhere unit.names m → AgreeButAt s t m → IsUnit s name unit → IsUnit t name unit
 
 -- the element at a position of a list is a member of it
 placed_among : (ds : List (List ℕ)) (i : ℕ) (d : List ℕ) → slice_get ds i ≡ Some d → IsAmong d ds
@@ -177,11 +173,3 @@ near_paths_decide s t one name unit near u =
           (fragments_are_in_view s name fragment (chosen (resolution s name).choice unit.status fragment u.status_is e)))
           u.has;
     }
-
--- what is near isn't elsewhere
-near_differs : (names : List Name) (m p : PathParts) → IsElsewhere names m → IsNear names p → p ≢ m
-near_differs names m p e (inl own) same = e.in_folder (ap (λ (q : PathParts). q.folder) (sym same) ∙ own)
-near_differs names m p e (inr among) same = e.of_others (subst (λ (q : PathParts). IsAmong q.folder (unit_folders names)) same among)
-
-pub elsewhere_changes_nothing : ElsewhereChangesNothing
-elsewhere_changes_nothing s t one name unit m e agree u = near_paths_decide s t one name unit (λ p n. agree p (near_differs unit.names m p e n)) u

@@ -20,6 +20,6 @@ mod links;
 mod loads;
 mod units;
 
-pub use laws::{elsewhere_laws, footprint_laws, host_laws, named_unit_laws, one_type, one_unit};
+pub use laws::unit_laws;
 pub use loads::{load_named, load_one, load_resolved, load_unit};
 pub use units::{Status, Unit, UnitNote};

@@ -7,7 +7,7 @@
 //!   aren't a name.
 //! - `escape` and `unescape`: bytes to escaped text and back.
 //! - `expand`: replaces specifiers such as `%n` and `%i` in a value.
-//! - `name_laws`, `template_laws`, `escape_laws`, `specifier_laws`: the laws.
+//! - `name_laws`: the laws.
 #![tactic(auto)]
 
 mod escapes;
@@ -19,6 +19,6 @@ mod specifiers;
 
 pub use escapes::{escape, unescape};
 pub use kinds::Kind;
-pub use laws::{escape_laws, name_laws, specifier_laws, template_laws};
+pub use laws::name_laws;
 pub use names::{NameFault, Shape, UnitName};
 pub use specifiers::{ExpandFault, expand};

@@ -9,11 +9,11 @@
 //! is a delta that was cut for an ask (anti-entropy). What a node took is its delivered set.
 //!
 //! - `Event` and `Places`: what happens in a world.
-//! - `converges`, `whole_answers`, `took_by_events`: the laws.
+//! - `converges`: the laws.
 #![tactic(auto)]
 
 mod events;
 mod laws;
 
 pub use events::{Event, Places};
-pub use laws::{converges, took_by_events, whole_answers};
+pub use laws::converges;

@@ -1,29 +1,5 @@
-use Rattle.dropins.proofs.Prelude.{cuts_are_dashed_prefixes, folders_are_names, folders_join, folders_of_each, folders_of_instances, folders_of_other_names, folders_stand_once, longer_cuts_come_first, one_folder}
+use Rattle.dropins.proofs.Prelude.{cuts_are_dashed_prefixes, folders_are_names, folders_join, folders_keep_types, folders_of_each, folders_of_instances, folders_of_other_names, folders_stand_once, longer_cuts_come_first, no_name_has_a_types_folder, one_folder, one_type, types_are_kinds, words_are_no_names}
 use Rattle.dropins.proofs.laws.folder_laws.Goals as goal
 
-pub returns-clause-one : goal.returns-clause-one
-returns-clause-one c = one_folder
-
-pub returns-clause-instances : goal.returns-clause-instances
-returns-clause-instances c = folders_of_instances
-
-pub returns-clause-others : goal.returns-clause-others
-returns-clause-others c = folders_of_other_names
-
-pub returns-clause-each : goal.returns-clause-each
-returns-clause-each c = folders_of_each
-
-pub returns-clause-joined : goal.returns-clause-joined
-returns-clause-joined c = folders_join
-
-pub returns-clause-names : goal.returns-clause-names
-returns-clause-names c = folders_are_names
-
-pub returns-clause-once : goal.returns-clause-once
-returns-clause-once c = folders_stand_once
-
-pub returns-clause-cuts : goal.returns-clause-cuts
-returns-clause-cuts c = cuts_are_dashed_prefixes
-
-pub returns-clause-longer : goal.returns-clause-longer
-returns-clause-longer c = longer_cuts_come_first
+pub returns : goal.returns
+returns c = record { one = one_folder; instances = folders_of_instances; others = folders_of_other_names; each = folders_of_each; joined = folders_join; names = folders_are_names; once = folders_stand_once; cuts = cuts_are_dashed_prefixes; longer = longer_cuts_come_first; kinds = types_are_kinds; one_type = one_type; types = folders_keep_types; words = words_are_no_names; apart = no_name_has_a_types_folder }

@@ -1,14 +1,5 @@
-use Rattle.world_law.proofs.{Theorem.{each_store_is_its_sum, each_store_is_least, same_took_same_store}, TookLemmas.{holds_the_sum}}
+use Rattle.world_law.proofs.{Prelude.{whole_answer}, Theorem.{each_store_is_its_sum, each_store_is_least, same_took_same_store}, TookLemmas.{holds_the_sum, took_by_events}}
 use Rattle.world_law.proofs.laws.converges.Goals as goal
 
-pub returns-clause-sums : goal.returns-clause-sums
-returns-clause-sums c = each_store_is_its_sum
-
-pub returns-clause-same : goal.returns-clause-same
-returns-clause-same c = same_took_same_store
-
-pub returns-clause-by_events : goal.returns-clause-by_events
-returns-clause-by_events c = holds_the_sum
-
-pub returns-clause-least : goal.returns-clause-least
-returns-clause-least c = each_store_is_least
+pub returns : goal.returns
+returns c = record { sums = each_store_is_its_sum; least = each_store_is_least; by_events = holds_the_sum; same = same_took_same_store; took = took_by_events; whole = whole_answer }

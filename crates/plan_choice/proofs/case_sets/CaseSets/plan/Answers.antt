@@ -15,7 +15,7 @@ returns-in-Err c =
       plan = tt;
       all = tt;
       refusal = record {
-        stands = cycle_same (IsMember starting) (Starts nat_cmp (case_of case)) (Precedes case.predecessors.now) same c.in-Err.cycle.items here;
+        stands = rw c.from_vec.ensures.elements (cycle_same (IsMember starting) (Starts nat_cmp (case_of case)) (Precedes case.predecessors.now) same c.in-Err.cycle.items here);
         clear = c.requires;
       };
     }
