@@ -3,7 +3,7 @@ use Rattle.std.proofs.Common.{◌++◌, ◌+◌, ◌<◌, ◌==◌, ◌∷◌, �
 use Rattle.world_law.specs.declared.events.Event.TheVariants.{Put}
 use Rattle.fleet_script.proofs.Prelude.{[], ap, AtNode, AtPlace, AtPlaces, bad_text, BadLink, BadText, Bool, bytes_eq, codes, Component, cond, Content, Depth, Directory, Edit, EditFault, EntryMap, eq-eqb, eqb-true, Equal, Equal-is, Err, false, Fault, fault_of_edit, fault_of_place, FileTooLarge, get_or, Gives, Global, Goes, Gone, happened, has_writer, HasNoNode, HasNoSite, held, high_of, Holds, HostName, inl, inr, is_eq, is_eq-slice_cmp, is_some, IsErrOf, IsFileOf, IsLinkTo, IsNodeNamed, IsNoFile, IsNoLink, IsPlaceFault, IsRead, IsSaid, IsSite, IsSome, Keeps, length, LineRefusal, List, MatchBool, MatchOption, MatchResult, Memory, Names, nat_cmp, nat_cmp-IsAntisymmetric, nat_cmp_is, ne_eqb, next_edit, next_version, NodeTaken, None, Nothing, Ok, ok_line, Option, Outcome, place_of, PlaceFault, PlaceParts, places_of, Reads, refl, Refused, Refuses, RefusesPlace, Replicated, Result, ScriptWorld, set, slice_cmp, slice_get, Some, subst, sum_of, sym, too_large, true, true≢false, UnknownNode, Vec, Version, VersionsSpent, visible_at, with_edit, with_new_node, with_put, WithFile, without_memory, WithTarget, WithText, WriterTaken, Writes, ℕ, ◌∙◌}
 use Rattle.fleet_script.proofs.Nodes.{holds_node, holds_put, set_same}
-use Rattle.load_places.specs.declared.texts.PlaceFault.TheVariants as place
+use Rattle.load_places.specs.declared.places.PlaceFault.TheVariants as place
 use Rattle.replica_store.specs.declared.replicas.EditFault.TheVariants as edit
 
 -- steps, which constrain the outcome and the new world

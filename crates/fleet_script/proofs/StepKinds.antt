@@ -4,7 +4,7 @@ use Rattle.std.proofs.Common.{◌++◌, ◌+◌, ◌-◌, ◌<◌, ◌==◌, ◌
 use Rattle.fleet_script.proofs.Prelude.{ap, arith, AtNode, AtPiece, AtPlace, AtPlaces, BadLink, BadText, Bool, Cat, changed_line, changed_places, codes, Command, Component, Content, Crowd, crowds_are_rendered_once, crowds_spend_nothing, cut, Depth, digest_of, Directory, Does, entries_line, EntryMap, Err, false, Files, files_are_rendered_once, files_spend_nothing, FileTooLarge, Gives, happened, has_writer, held, high_of, HostName, if_any, inl, inr, is_file, is_spent, is_target, IsPutUpTo, IsRead, IsValid, IsWorkerCount, length, LineRefusal, Link, List, ListUnits, map, MatchBool, MatchOption, MatchResult, Member, Merge, merged, merged_all, named_within, next_edit, Node, node_named, NodeTaken, None, Nothing, NoWorkerCount, numbers_from, Ok, ok_line, Option, Outcome, Part, parted, piece_named, place_of, PlaceFault, PlaceParts, places_of, Plan, plan_asked, pulled_asked, Put, put_next, put_same, puts, puts_merged_all, puts_with_node, questions_are_rendered_once, questions_spend_nothing, Reads, refl, Refuses, RefusesPlace, Remove, RendersCrowd, RendersFiles, RendersList, RendersPlaces, RendersPlan, RendersUnit, Result, Same, ScriptWorld, Send, Show, Some, spells_one, subst, suc, Sweep, swept, sym, true, true≢false, unit_asked, UnknownNode, UnknownPiece, valid_answered, valid_given, valid_merged, valid_put, valid_with_node, VersionsSpent, visible_at, with_node, WithFile, WithTarget, WithText, Workers, WriterTaken, Writes, zero, ℕ, ◌∙◌}
 use Rattle.fleet_script.proofs.Between.{merged_all-append, merged_nodes}
 use Rattle.std.specs.FinMap as finmap
-use Rattle.load_places.specs.declared.texts.PlaceFault.TheVariants as place
+use Rattle.load_places.specs.declared.places.PlaceFault.TheVariants as place
 use Rattle.edit_sums.specs.declared.contents.Content.TheVariants as content
 use Rattle.world_law.specs.declared.events.Event.TheVariants as event
 

@@ -3,7 +3,7 @@
 use Rattle.std.proofs.Common.{◌==◌, ◌∷◌, ◌≡◌, ◌≢◌, ◌⊎◌}
 use Rattle.fleet_script.specs.Prelude.{[], BadLink, BadText, changed_line, changed_places, codes, Command, Component, Content, cut, Depth, digest_of, Directory, entries_line, EntryMap, Err, File, files_text, FileTooLarge, Gone, happened, has_writer, held, high_of, HostName, is_file, is_target, IsBadText, IsWorkerCount, length, LineRefusal, Link, List, MatchBool, MatchOption, MatchResult, merged, next_edit, node_named, NodeTaken, None, Nothing, Ok, ok_line, Option, Outcome, parted, piece_named, place_of, PlaceFault, PlaceParts, places_of, RendersCrowd, RendersFiles, RendersList, RendersPlan, RendersUnit, ScriptWorld, Some, Spells, swept, UnknownNode, UnknownPiece, VersionsSpent, visible_at, with_node, Workers, WriterTaken, ℕ}
 use Rattle.std.specs.FinMap as finmap
-use Rattle.load_places.specs.declared.texts.PlaceFault.TheVariants as place
+use Rattle.load_places.specs.declared.places.PlaceFault.TheVariants as place
 use Rattle.world_law.specs.declared.events.Event.TheVariants as event
 use Rattle.script_commands.specs.declared.commands.Command.TheVariants as command
 

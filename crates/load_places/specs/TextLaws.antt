@@ -2,7 +2,7 @@
 use Rattle.std.proofs.Common.{◌++◌, ◌+◌, ◌<◌, ◌==◌, ◌∷◌, ◌≡◌, ◌≢◌, ◌⊎◌}
 use Rattle.load_path.specs.Paths.{text_of}
 use Rattle.load_places.specs.Prelude.{[], add-one, and_parts, ap, append_assoc, are_their_texts, arith, Bool, cases_Bool, cond-false, cond-true, drop, drop-append-add, eqb-true, Err, false, inl, inr, is_err, IsErr, IsPath, IsTrue, length, List, list_all, list_any, nat_lt, nat_tests, None, Ok, Option, or_parts, path_of, PathFault, PathParts, position, position_from, position_from-zero, refl, Result, Some, subst, suc, sym, take, take-append_seam, true, zero, ℕ, ⊎_elim, ◌∙◌}
-use Rattle.load_places.specs.{declared.{places.Scope.{Scope, TheVariants.{Fleet, Host}}, texts.PlaceFault.TheVariants.{HostName}}, Hosts.{host_of, is_host, is_host_byte}, Places.{PlaceParts}, Texts.{AreTheirTexts, fault_of_path, host_end, in_scope_of, is_colon, IsScope, of_host, place_cut, place_of, place_text}}
+use Rattle.load_places.specs.{declared.places.{PlaceFault.TheVariants.{HostName}, Scope.{Scope, TheVariants.{Fleet, Host}}}, Hosts.{host_of, is_host, is_host_byte}, Places.{PlaceParts}, Texts.{AreTheirTexts, fault_of_path, host_end, in_scope_of, is_colon, IsScope, of_host, place_cut, place_of, place_text}}
 
 -- what stands before the first colon of a text that doesn't begin with a slash
 pub record IsBeforeColon (prefix : List ℕ) : Type 0 where

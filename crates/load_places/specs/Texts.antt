@@ -2,7 +2,7 @@
 -- Source: this project's own.
 use Rattle.std.proofs.Common.{if◌then◌else◌, ◌++◌, ◌+◌, ◌==◌, ◌∷◌, ◌≡◌}
 use Rattle.load_places.specs.Prelude.{[], Bool, drop, Err, IsPath, IsTrue, List, None, Ok, Option, path_of, PathFault, PathParts, position, Result, Some, take, text_of, ℕ}
-use Rattle.load_places.specs.{declared.{hosts.HostFault.{HostFault}, places.Scope.{Scope, TheVariants.{Fleet, Host}}, texts.PlaceFault.{PlaceFault, TheVariants.{Component, Depth, Directory, HostName, Memory}}}, Hosts.{host_of, is_host}, Places.{PlaceParts}}
+use Rattle.load_places.specs.{declared.{hosts.HostFault.{HostFault}, places.{PlaceFault.{PlaceFault, TheVariants.{Component, Depth, Directory, HostName, Memory}}, Scope.{Scope, TheVariants.{Fleet, Host}}}}, Hosts.{host_of, is_host}, Places.{PlaceParts}}
 use Rattle.load_path.specs.declared.paths.PathFault.TheVariants as path
 use Rattle.load_places.specs.declared.hosts.HostFault.TheVariants as host
 

@@ -8,10 +8,8 @@ mod hosts;
 mod laws;
 mod levels;
 mod places;
-mod texts;
 
 pub use hosts::{HOST_LIMIT, HostFault, HostName};
 pub use laws::{level_laws, place_laws};
 pub use levels::LEVELS;
-pub use places::{Place, Scope};
-pub use texts::PlaceFault;
+pub use places::{Place, PlaceFault, Scope};

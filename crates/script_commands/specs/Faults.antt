@@ -4,7 +4,7 @@ use Rattle.script_commands.specs.Prelude.{ContentFault, EditFault, HostFault, Na
 use Rattle.script_commands.specs.declared.commands.{Fault.{Fault, TheVariants.{Memory, Refused}}, LineRefusal.TheVariants.{BadByte, BadLink, Component, Depth, Directory, EmptyPrefix, FileTooLarge, HostName, Kind, Length, Nothing, VersionsSpent}}
 use Rattle.edit_sums.specs.declared.contents.ContentFault.TheVariants as content
 use Rattle.load_places.specs.declared.hosts.HostFault.TheVariants as host
-use Rattle.load_places.specs.declared.texts.PlaceFault.TheVariants as place
+use Rattle.load_places.specs.declared.places.PlaceFault.TheVariants as place
 use Rattle.replica_store.specs.declared.replicas.EditFault.TheVariants as edit
 use Rattle.unit_name.specs.declared.names.NameFault.TheVariants as name
 
