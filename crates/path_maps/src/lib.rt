@@ -13,8 +13,6 @@
 #![tactic(auto)]
 
 mod beside;
-mod by_rank;
-mod by_scope;
 mod changes;
 mod counts;
 mod cursors;
@@ -25,6 +23,7 @@ mod laws;
 mod levels;
 mod look_ups;
 mod meets;
+mod nested;
 mod places;
 mod places_zipped;
 mod stores;

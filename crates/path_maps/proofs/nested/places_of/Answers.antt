@@ -1,5 +1,5 @@
 use Rattle.path_maps.proofs.{Prelude.{AllKeys, ap, flat_map, IsPath, List, listed, Scope, scope_cmp, ScopeMap, scopes_read, ℕ, ◌∙◌}, Readings.{map_readable, scopes_zipped}}
-use Rattle.path_maps.proofs.by_scope.places_of.Goals as goal
+use Rattle.path_maps.proofs.nested.places_of.Goals as goal
 
 pub new-requires : goal.new-requires
 new-requires g c =

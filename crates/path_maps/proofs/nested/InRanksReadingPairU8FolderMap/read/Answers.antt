@@ -1,6 +1,6 @@
 use Rattle.std.proofs.Common.{◌∷◌}
 use Rattle.path_maps.proofs.{Prelude.{[], AllKeys, ap, bytes_cmp, FolderMap, folders_read, in_folder, in_rank, IsPath, subst, sym, ℕ, ◌∙◌}, Readings.{map_readable, part_keys}}
-use Rattle.path_maps.proofs.by_rank.InRanksReadingPairU8FolderMap.read.Goals as goal
+use Rattle.path_maps.proofs.nested.InRanksReadingPairU8FolderMap.read.Goals as goal
 
 pub new-requires : goal.new-requires
 new-requires g c =

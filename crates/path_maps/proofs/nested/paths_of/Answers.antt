@@ -1,5 +1,5 @@
 use Rattle.path_maps.proofs.{Prelude.{AllKeys, ap, flat_map, in_rank, IsPath, List, nat_cmp, RankMap, ranks_read, ℕ, ◌∙◌}, Readings.{map_readable, part_keys, ranks_zipped}}
-use Rattle.path_maps.proofs.by_rank.paths_of.Goals as goal
+use Rattle.path_maps.proofs.nested.paths_of.Goals as goal
 
 pub new-requires : goal.new-requires
 new-requires g c =
