@@ -12,7 +12,6 @@
 //! - `host_view_laws` and `difference_laws`: the laws of what a host sees, and of the places where two stores differ.
 #![tactic(auto)]
 
-mod beside;
 mod changes;
 mod counts;
 mod cursors;
@@ -24,6 +23,7 @@ mod levels;
 mod look_ups;
 mod meets;
 mod nested;
+mod others;
 mod places;
 mod places_zipped;
 mod stores;

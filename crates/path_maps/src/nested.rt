@@ -4,14 +4,14 @@ ghost use Rattle.std.specs.declared.cmp.Ordering.TheVariants.{Less};
 ghost use Rattle.load_path.specs.Paths.{IsPath};
 ghost use Rattle.load_places.specs.Places.{PlaceParts, scope_cmp};
 ghost use Rattle.edit_sums.specs.Entries.{Entry};
-ghost use Rattle.path_maps.specs.Cursors.{beside_path, folders_read, IsHeldAt, left_of, names_read, scope_read};
+ghost use Rattle.path_maps.specs.Cursors.{held_at_path, folders_read, IsHeldAt, left_of, names_read, scope_read};
 ghost use Rattle.path_maps.specs.PathMaps.{at_name, bytes_cmp, in_folder, in_rank, listed};
 ghost use Rattle.path_maps.specs.{Folders.{path_at}, Kept.{HasWellFormedPaths}, PlaceMaps.{all_listed}, Spread.{AllKeys}, Zipped.{zipped}};
 
-use crate::beside::Beside;
 use crate::cursors::{Cursor, Nested};
 use crate::entries::PathEntry;
 use crate::levels::{Level, Pair, Pairs, Reading};
+use crate::others::OtherMap;
 use crate::places::Placed;
 use crate::stores::{FolderMap, NameMap, RankMap, ScopeMap};
 use edit_sums::Content;
@@ -40,7 +40,7 @@ pub struct InFolder<'a, N> {
     others: N,
 }
 
-impl<'a, N: Beside<Bytes>> Reading<Pair<'a, Bytes, Versioned<Content>>> for InFolder<'a, N> {
+impl<'a, N: OtherMap<Bytes>> Reading<Pair<'a, Bytes, Versioned<Content>>> for InFolder<'a, N> {
     type Read = (PathEntry<'a>, N::Held);
 
     ghost can = { λ s p. IsHeldAt (path_at s.rank s.folder.now p.0) p.1 };
@@ -67,7 +67,7 @@ pub struct InRank<F> {
     others: F,
 }
 
-impl<'a, N: Beside<Bytes>, F: Beside<Bytes, Held = N>> Reading<Pair<'a, Bytes, NameMap>>
+impl<'a, N: OtherMap<Bytes>, F: OtherMap<Bytes, Held = N>> Reading<Pair<'a, Bytes, NameMap>>
     for InRank<F> {
     type Read = Names<'a, N>;
 
@@ -89,7 +89,7 @@ pub struct InRanks<R> {
     others: R,
 }
 
-impl<'a, N: Beside<Bytes>, F: Beside<Bytes, Held = N>, R: Beside<u8, Held = F>> Reading<
+impl<'a, N: OtherMap<Bytes>, F: OtherMap<Bytes, Held = N>, R: OtherMap<u8, Held = F>> Reading<
     Pair<'a, u8, FolderMap>,
 > for InRanks<R> {
     type Read = Folders<'a, F>;
@@ -111,7 +111,7 @@ impl<'a, N: Beside<Bytes>, F: Beside<Bytes, Held = N>, R: Beside<u8, Held = F>> 
 
 /// Returns a cursor over the names of a folder with valid paths.
 #[inline(always)]
-pub fn names_of<'a, N: Beside<Bytes>>(
+pub fn names_of<'a, N: OtherMap<Bytes>>(
     rank: usize,
     folder: &'a Bytes,
     names: &'a NameMap,
@@ -130,13 +130,13 @@ pub fn names_of<'a, N: Beside<Bytes>>(
 }
 
 /// Returns a cursor over the entries of nested maps with valid paths.
-pub fn paths_of<'a, N: Beside<Bytes>, F: Beside<Bytes, Held = N>, R: Beside<u8, Held = F>>(
+pub fn paths_of<'a, N: OtherMap<Bytes>, F: OtherMap<Bytes, Held = N>, R: OtherMap<u8, Held = F>>(
     ranks: &'a RankMap,
     others: R,
 ) -> Paths<'a, N, F, R>
     requires paths { AllKeys IsPath (listed ranks.now) }
     ensures entries { left_of result.inner (left_of result.outer.inner result.outer.outer)
-        ≡ zipped (beside_path (λ r f. N.held (F.held (R.held others r) f))) (listed ranks.now) }
+        ≡ zipped (held_at_path (λ r f. N.held (F.held (R.held others r) f))) (listed ranks.now) }
 {
     let left = ranks.pairs();
     Nested {
@@ -156,12 +156,17 @@ pub type Places<'a, N, F, R, S> = Nested<InScope<'a, N, F, R>, Scopes<'a, S>>;
 
 /// A cursor over the entries of a scope.
 #[derive(Drop)]
-pub struct InScope<'a, N: Beside<Bytes>, F: Beside<Bytes, Held = N>, R: Beside<u8, Held = F>> {
+pub struct InScope<
+    'a,
+    N: OtherMap<Bytes>,
+    F: OtherMap<Bytes, Held = N>,
+    R: OtherMap<u8, Held = F>,
+> {
     scope: &'a Scope,
     entries: Paths<'a, N, F, R>,
 }
 
-impl<'a, N: Beside<Bytes>, F: Beside<Bytes, Held = N>, R: Beside<u8, Held = F>> Model
+impl<'a, N: OtherMap<Bytes>, F: OtherMap<Bytes, Held = N>, R: OtherMap<u8, Held = F>> Model
     for InScope<'a, N, F, R> {
     ghost Value = { List ((PlaceParts × Entry) × N.Held) };
 
@@ -169,7 +174,7 @@ impl<'a, N: Beside<Bytes>, F: Beside<Bytes, Held = N>, R: Beside<u8, Held = F>> 
         (left_of s.entries.inner (left_of s.entries.outer.inner s.entries.outer.outer)) };
 }
 
-impl<'a, N: Beside<Bytes>, F: Beside<Bytes, Held = N>, R: Beside<u8, Held = F>> Cursor
+impl<'a, N: OtherMap<Bytes>, F: OtherMap<Bytes, Held = N>, R: OtherMap<u8, Held = F>> Cursor
     for InScope<'a, N, F, R> {
     type Item = (Placed<'a>, N::Held);
 
@@ -191,10 +196,10 @@ pub struct InScopes<S> {
 
 impl<
     'a,
-    N: Beside<Bytes>,
-    F: Beside<Bytes, Held = N>,
-    R: Beside<u8, Held = F>,
-    S: Beside<Scope, Held = R>,
+    N: OtherMap<Bytes>,
+    F: OtherMap<Bytes, Held = N>,
+    R: OtherMap<u8, Held = F>,
+    S: OtherMap<Scope, Held = R>,
 > Reading<Pair<'a, Scope, RankMap>> for InScopes<S> {
     type Read = InScope<'a, N, F, R>;
 
@@ -203,7 +208,7 @@ impl<
     ghost before = { λ p q. scope_cmp p.0 q.0 ≡ Less };
 
     ghost part = { λ s p. scope_read p.0
-        (zipped (beside_path (λ r f. N.held (F.held (R.held (S.held s.others p.0) r) f))) (listed p.1)) ∷ [] };
+        (zipped (held_at_path (λ r f. N.held (F.held (R.held (S.held s.others p.0) r) f))) (listed p.1)) ∷ [] };
 
     #[inline(always)]
     fn read(&mut self, item: Pair<'a, Scope, RankMap>) -> InScope<'a, N, F, R> {
@@ -217,10 +222,10 @@ impl<
 /// Returns a cursor over the entries of nested maps with valid paths.
 pub fn places_of<
     'a,
-    N: Beside<Bytes>,
-    F: Beside<Bytes, Held = N>,
-    R: Beside<u8, Held = F>,
-    S: Beside<Scope, Held = R>,
+    N: OtherMap<Bytes>,
+    F: OtherMap<Bytes, Held = N>,
+    R: OtherMap<u8, Held = F>,
+    S: OtherMap<Scope, Held = R>,
 >(scopes: &'a ScopeMap, others: S) -> Places<'a, N, F, R, S>
     requires paths { HasWellFormedPaths scopes.now }
     ensures entries { left_of result.inner result.outer

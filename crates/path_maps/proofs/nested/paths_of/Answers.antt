@@ -8,7 +8,7 @@ new-requires g c =
 pub returns : goal.returns
 returns g c = record {
   entries =
-      let held : ℕ → List ℕ → List ℕ → g.row.N-Held.Denot = λ r f. g.N.Beside.held (g.F.Beside.held (g.R.Beside.held c.args.others r) f) in
+      let held : ℕ → List ℕ → List ℕ → g.row.N-Held.Denot = λ r f. g.N.OtherMap.held (g.F.OtherMap.held (g.R.OtherMap.held c.args.others r) f) in
       ap (λ l. flat_map (λ xs. xs) (flat_map (λ xs. xs) l)) c.new.ensures.left
       ∙ ap (λ (rs : RankMap). flat_map (λ xs. xs) (flat_map (λ xs. xs) (ranks_read held rs))) c.pairs-left.ensures.pairs
       ∙ ranks_zipped held c.args.ranks.now;

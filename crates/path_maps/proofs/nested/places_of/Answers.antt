@@ -8,7 +8,7 @@ new-requires g c =
 pub returns : goal.returns
 returns g c = record {
   entries =
-      let held : Scope → ℕ → List ℕ → List ℕ → g.row.N-Held.Denot = λ s r f. g.N.Beside.held (g.F.Beside.held (g.R.Beside.held (g.S.Beside.held c.args.others s) r) f) in
+      let held : Scope → ℕ → List ℕ → List ℕ → g.row.N-Held.Denot = λ s r f. g.N.OtherMap.held (g.F.OtherMap.held (g.R.OtherMap.held (g.S.OtherMap.held c.args.others s) r) f) in
       ap (flat_map (λ xs. xs)) c.new.ensures.left
       ∙ ap (λ (ss : ScopeMap). flat_map (λ xs. xs) (scopes_read held ss)) c.pairs-left.ensures.pairs
       ∙ scopes_zipped held c.args.scopes.now;

@@ -10,6 +10,6 @@ new-requires g c =
 
 pub returns-clause-part : goal.returns-clause-part
 returns-clause-part g c =
-    ap (λ (p : ℕ × FolderMap). folders_read (λ f. g.N.Beside.held (g.F.Beside.held (g.R.Beside.held c.args.self.now.others p.0) f)) p.0 p.1 ∷ []) (sym c.item.view_is)
-    ∙ (λ i. folders_read (λ f. g.N.Beside.held (g.F.Beside.held (sym c.meet-others.ensures.held i) f)) c.item.inside.key.now (sym c.pairs-left.ensures.pairs i) ∷ [])
+    ap (λ (p : ℕ × FolderMap). folders_read (λ f. g.N.OtherMap.held (g.F.OtherMap.held (g.R.OtherMap.held c.args.self.now.others p.0) f)) p.0 p.1 ∷ []) (sym c.item.view_is)
+    ∙ (λ i. folders_read (λ f. g.N.OtherMap.held (g.F.OtherMap.held (sym c.meet-others.ensures.held i) f)) c.item.inside.key.now (sym c.pairs-left.ensures.pairs i) ∷ [])
     ∙ ap (λ l. l ∷ []) (sym c.new.ensures.left)
