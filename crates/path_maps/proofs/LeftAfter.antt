@@ -1,5 +1,5 @@
 -- Keys of lists that are joined; what is held has an entry.
-use Rattle.std.proofs.Common.{◌++◌, ◌∷◌, ◌≡◌, ◌≢◌}
+use Rattle.std.proofs.Common.{◌++◌, ◌∷◌, ◌≢◌}
 use Rattle.path_maps.proofs.Prelude.{[], AllKeys, AreFolders, AreNames, AreRanks, At, at_name, Content, content_cmp, Entry, FolderMap, FoldersBelow, in_folder, in_rank, in_scope, IsLeast, IsUpTo, List, listed, NameMap, NamesBelow, Never, never_least, PathParts, placed, RankMap, RanksBelow, refl, Scope, Versioned, ℕ}
 use Rattle.path_maps.proofs.Sames.{no_folders, no_names, no_ranks}
 

@@ -1,6 +1,6 @@
 -- What cursors read from nested maps.
 use Rattle.std.proofs.Common.{◌++◌, ◌∷◌, ◌≡◌}
-use Rattle.path_maps.proofs.Prelude.{[], all_listed, AllByRecursion, AllHeld, AllKeys, and_parts, ap, At, below_all, companion_path, content_cmp, Entry, flat_map, flat_map-append, FolderMap, folders_read, in_folder, in_rank, in_scope, is_less, is_sorted, IsHeldAt, IsMap, IsPath, IsReadable, IsTrue, IsUpTo, Less, List, listed, map, map-append, NameMap, names_read, Never, never_least, Ordering, path_at, PathParts, PlaceParts, RankMap, ranks_read, refl, Scope, scope_read, ScopeMap, scopes_read, spread, subst, sym, within, zipped, ℕ, ◌∙◌}
+use Rattle.path_maps.proofs.Prelude.{[], all_listed, AllByRecursion, AllHeld, AllKeys, and_parts, ap, At, below_all, content_cmp, Entry, flat_map, flat_map-append, FolderMap, folders_read, held_at_path, in_folder, in_rank, in_scope, is_less, is_sorted, IsHeldAt, IsMap, IsPath, IsReadable, IsTrue, IsUpTo, Less, List, listed, map, map-append, NameMap, names_read, Never, never_least, Ordering, path_at, PathParts, PlaceParts, RankMap, ranks_read, refl, Scope, scope_read, ScopeMap, scopes_read, spread, subst, sym, within, zipped, ℕ, ◌∙◌}
 use Rattle.path_maps.proofs.LeftAfter.{back_keys, prefix_keys}
 
 -- ---- after the first item
@@ -44,30 +44,30 @@ keys_with held [] = refl
 keys_with held (e ∷ es) = ap (λ l. e ∷ l) (keys_with held es)
 
 module _ {H : Type 0} (held : ℕ → List ℕ → List ℕ → H) where
-  pub names_zipped : (rank : ℕ) (folder : List ℕ) (names : NameMap) → names_read (held rank folder) rank folder names ≡ zipped (companion_path held) (in_folder rank folder names)
+  pub names_zipped : (rank : ℕ) (folder : List ℕ) (names : NameMap) → names_read (held rank folder) rank folder names ≡ zipped (held_at_path held) (in_folder rank folder names)
   names_zipped rank folder [] = refl
   names_zipped rank folder ((name, Never) ∷ es) = names_zipped rank folder es
   names_zipped rank folder ((name, At x) ∷ es) = ap (λ l. ((path_at rank folder name, x), held rank folder name) ∷ l) (names_zipped rank folder es)
 
-  folders_zipped : (rank : ℕ) (folders : FolderMap) → flat_map (λ xs. xs) (folders_read (held rank) rank folders) ≡ zipped (companion_path held) (in_rank rank folders)
+  folders_zipped : (rank : ℕ) (folders : FolderMap) → flat_map (λ xs. xs) (folders_read (held rank) rank folders) ≡ zipped (held_at_path held) (in_rank rank folders)
   folders_zipped rank [] = refl
   folders_zipped rank (f ∷ fs) =
       (λ i. names_zipped rank f.0 f.1 i ++ folders_zipped rank fs i) ∙ sym (map-append _ (in_folder rank f.0 f.1) (in_rank rank fs))
 
-  pub ranks_zipped : (ranks : RankMap) → flat_map (λ xs. xs) (flat_map (λ xs. xs) (ranks_read held ranks)) ≡ zipped (companion_path held) (listed ranks)
+  pub ranks_zipped : (ranks : RankMap) → flat_map (λ xs. xs) (flat_map (λ xs. xs) (ranks_read held ranks)) ≡ zipped (held_at_path held) (listed ranks)
   ranks_zipped [] = refl
   ranks_zipped (r ∷ rs) =
       flat_map-append (λ xs. xs) (folders_read (held r.0) r.0 r.1) (flat_map (λ xs. xs) (ranks_read held rs))
       ∙ (λ i. folders_zipped r.0 r.1 i ++ ranks_zipped rs i) ∙ sym (map-append _ (in_rank r.0 r.1) (listed rs))
 
 module _ {H : Type 0} (held : Scope → ℕ → List ℕ → List ℕ → H) where
-  abbrev companion_place : PlaceParts → H
-  companion_place q = companion_path (held q.scope) q.path
+  abbrev held_at_place : PlaceParts → H
+  held_at_place q = held_at_path (held q.scope) q.path
 
-  scope_zipped : (scope : Scope) (es : List (PathParts × Entry)) → scope_read scope (zipped (companion_path (held scope)) es) ≡ zipped companion_place (map (λ e. (within scope e.0, e.1)) es)
+  scope_zipped : (scope : Scope) (es : List (PathParts × Entry)) → scope_read scope (zipped (held_at_path (held scope)) es) ≡ zipped held_at_place (map (λ e. (within scope e.0, e.1)) es)
   scope_zipped scope [] = refl
-  scope_zipped scope (e ∷ es) = ap (λ l. ((within scope e.0, e.1), companion_path (held scope) e.0) ∷ l) (scope_zipped scope es)
+  scope_zipped scope (e ∷ es) = ap (λ l. ((within scope e.0, e.1), held_at_path (held scope) e.0) ∷ l) (scope_zipped scope es)
 
-  pub scopes_zipped : (scopes : ScopeMap) → flat_map (λ xs. xs) (scopes_read held scopes) ≡ zipped companion_place (all_listed scopes)
+  pub scopes_zipped : (scopes : ScopeMap) → flat_map (λ xs. xs) (scopes_read held scopes) ≡ zipped held_at_place (all_listed scopes)
   scopes_zipped [] = refl
   scopes_zipped (s ∷ ss) = (λ i. scope_zipped s.0 (listed s.1) i ++ scopes_zipped ss i) ∙ sym (map-append _ (in_scope s.0 s.1) (all_listed ss))

@@ -1,6 +1,6 @@
 -- What a binary search by bytes finds among sorted pairs.
 use Rattle.std.proofs.Common.{◌<◌, ◌∷◌, ◌≡◌}
-use Rattle.path_maps.proofs.Prelude.{[], bytes_cmp, Equal, Err, find, find_at, find_gap, get_or, IfErr, IfOk, is_sorted, IsAt, IsBinarySearchResult, IsFoundAt, IsPlaceOf, IsSearchInRange, IsTrue, length, List, nat_cmp-IsAntisymmetric, nat_list_cmp_total, None, Ok, RankMap, refl, Result, Scope, scope_cmp, scope_cmp_total, ScopeMap, search_finds, slice_cmp-IsAntisymmetric, slice_get, Some, suc, sym, zero, ℕ, ◌∙◌}
+use Rattle.path_maps.proofs.Prelude.{[], bytes_cmp, Equal, Err, find, find_at, find_gap, get_or, IfErr, IfOk, is_sorted, IsAt, IsBinarySearchResult, IsFoundAt, IsPlaceOf, IsSearchInRange, IsTrue, length, List, nat_cmp-IsAntisymmetric, nat_list_cmp_total, None, Ok, RankMap, refl, Result, Scope, scope_cmp, scope_cmp_total, ScopeMap, search_finds, slice_cmp-IsAntisymmetric, slice_get, Some, suc, sym, zero, ℕ}
 
 module _ {V : Type 0} (k : List ℕ) where
   tied_at : (es : List (List ℕ × V)) (i : ℕ) (d : List ℕ × V) → IsAt bytes_cmp k es i → bytes_cmp k (get_or es i d).0 ≡ Equal

@@ -39,12 +39,12 @@ abbrev pub ranks_read : {H : Type 0} → (ℕ → List ℕ → List ℕ → H) �
 ranks_read held = flat_map (λ e. folders_read (held e.0) e.0 e.1 ∷ [])
 
 -- What is held beside a path, from what is held by rank, folder and name.
-abbrev pub companion_path : {H : Type 0} → (ℕ → List ℕ → List ℕ → H) → PathParts → H
-companion_path held q = held q.rank q.folder q.name
+abbrev pub held_at_path : {H : Type 0} → (ℕ → List ℕ → List ℕ → H) → PathParts → H
+held_at_path held q = held q.rank q.folder q.name
 
 -- What is read from the entries of a scope, and from all scopes.
 abbrev pub scope_read : {H : Type 0} → Scope → List ((PathParts × Entry) × H) → List ((PlaceParts × Entry) × H)
 scope_read scope = flat_map (λ p. ((within scope p.0.0, p.0.1), p.1) ∷ [])
 
 abbrev pub scopes_read : {H : Type 0} → (Scope → ℕ → List ℕ → List ℕ → H) → ScopeMap → List (List ((PlaceParts × Entry) × H))
-scopes_read held = flat_map (λ e. scope_read e.0 (zipped (companion_path (held e.0)) (listed e.1)) ∷ [])
+scopes_read held = flat_map (λ e. scope_read e.0 (zipped (held_at_path (held e.0)) (listed e.1)) ∷ [])

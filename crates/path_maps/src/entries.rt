@@ -4,8 +4,8 @@ ghost use Rattle.load_path.specs.Paths.{IsPath, path_cmp, PathParts};
 ghost use Rattle.path_maps.specs.{Cursors.{or_nothing}, Folders.{path_at}, PathMaps.{in_folder}, Spread.{AllKeys}};
 ghost use Rattle.edit_sums.specs.{Entries.{Entry}, Sums.{shown}};
 
-use crate::by_rank::{Names, names_of};
 use crate::cursors::next_of;
+use crate::nested::{Names, names_of};
 use crate::stores::NameMap;
 use edit_sums::{Content, Entry};
 use load_path::Path;

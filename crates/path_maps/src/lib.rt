@@ -12,10 +12,7 @@
 //! - `host_view_laws`: the laws of what a host sees.
 #![tactic(auto)]
 
-mod by_rank;
-mod by_scope;
 mod changes;
-mod companions;
 mod counts;
 mod cursors;
 mod differences;
@@ -25,6 +22,8 @@ mod laws;
 mod levels;
 mod look_ups;
 mod meets;
+mod nested;
+mod others;
 mod places;
 mod places_zipped;
 mod stores;

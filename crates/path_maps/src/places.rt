@@ -4,9 +4,9 @@ ghost use Rattle.load_places.specs.Places.{place_cmp, PlaceParts};
 ghost use Rattle.edit_sums.specs.{Entries.{Entry}, Sums.{shown}};
 ghost use Rattle.path_maps.specs.{Cursors.{left_of}, Kept.{HasWellFormedPaths}, PlaceMaps.{all_listed, placed}, Scopes.{within}};
 
-use crate::by_scope::{Places, places_of};
 use crate::cursors::Cursor;
 use crate::entries::{PathEntries, PathEntry};
+use crate::nested::{Places, places_of};
 use crate::stores::ScopeMap;
 use edit_sums::{Content, Entry};
 use load_places::{Place, Scope};

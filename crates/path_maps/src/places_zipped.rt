@@ -3,9 +3,9 @@ ghost use Rattle.std.specs.{Prelude.{◌≡◌, ◌∷◌, [], List, MatchOption
 ghost use Rattle.load_places.specs.Places.{PlaceParts};
 ghost use Rattle.path_maps.specs.{Cursors.{left_of}, Kept.{HasWellFormedPaths}, PlaceMaps.{all_listed, look_up_place}, Zipped.{Compared, zipped}};
 
-use crate::by_scope::{Places, places_of};
-use crate::companions::{OtherRanks, Others};
 use crate::cursors::Cursor;
+use crate::nested::{Places, places_of};
+use crate::others::{OtherRanks, Others};
 use crate::places::Placed;
 use crate::stores::{NameMap, ScopeMap};
 use edit_sums::{Content, Entry};

@@ -174,7 +174,7 @@ impl Store {
         &self.scopes
     }
 
-    /// All places held, in place order, those of removals too. It fails for want of memory alone, and copies no bytes.
+    /// All places held, in place order, those of removals too. Fails only if memory runs out. Copies no bytes.
     pub fn list(&self) -> Result<Vec<Place>, AllocError>
         ensures places { IfOk result (λ places. places.items ≡ finmap.keys self.now) }
     {
@@ -182,7 +182,7 @@ impl Store {
     }
 
     /// The places held in a scope in a folder of the directory of a rank, in place order, those of removals too. The
-    /// empty folder has the paths of one component. It fails for want of memory alone, and copies no bytes.
+    /// empty folder has the paths of one component. Fails only if memory runs out. Copies no bytes.
     ///
     /// O(log n) and the places given.
     pub fn folder(&self, scope: &Scope, rank: u8, folder: &[u8]) -> Result<Vec<Place>, AllocError>
@@ -213,7 +213,7 @@ impl Store {
     /// another or removed since. A content that only has another version is none, nor is a removal where nothing was visible.
     ///
     /// It reads both once: linear in the places that both hold, and in the bytes of contents that stand in both; and once
-    /// more, where the older one holds a place that this one doesn't. It fails for want of memory alone, where the list
+    /// more, where the older one holds a place that this one doesn't. Fails only if memory runs out, when the list
     /// grows, and copies no bytes.
     pub fn changed(&self, older: &Store) -> Result<Vec<Place>, AllocError>
         ensures ascending { IfOk result (λ places. IsStrictlySortedBy place_cmp places.items) }
@@ -243,7 +243,7 @@ impl Store {
         self.scopes.same(&other.scopes)
     }
 
-    /// An equal store. It fails for want of memory alone.
+    /// An equal store. Fails only if memory runs out.
     pub fn try_clone(&self) -> Result<Store, AllocError>
         ensures copy { IfOk result (λ copy. copy ≡ self.now) }
     {
@@ -403,7 +403,7 @@ impl Store {
         }
     }
 
-    // Whether the place would be one more than can be counted, which is want of memory. It is looked for only where the
+    // Whether the place would be one more than can be counted, which counts as out of memory. It is looked for only if the
     // greatest number is held.
     fn is_full_for(&self, place: &Place) -> bool
         ensures full { OnTrue result (finmap.get self.now place.now ≡ None) }
@@ -413,7 +413,7 @@ impl Store {
     }
 }
 
-// How many places are held with so many more. Over the greatest number, it is want of memory.
+// How many places are held with this many more. More than the greatest number counts as out of memory.
 fn sum_of_lens(len: usize, added: usize) -> Result<usize, AllocError>
     ensures sum { IfOk result (λ sum. sum ≡ len + added) }
     ensures within { IfOk result (λ sum. len + added ≤ usize.MAX) }

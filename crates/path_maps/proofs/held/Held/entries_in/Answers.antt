@@ -1,5 +1,4 @@
-use Rattle.std.proofs.Common.{◌≡◌}
-use Rattle.path_maps.proofs.{LookUps.{folder_entries, folder_paths}, Prelude.{AllKeys, ap, in_folder, IsPath, List, NameMap, names_in, Option, option_copied, or_empty, subst, sym, ℕ, ◌∙◌}}
+use Rattle.path_maps.proofs.{LookUps.{folder_entries, folder_paths}, Prelude.{AllKeys, ap, in_folder, IsPath, List, NameMap, Option, option_copied, or_empty, subst, sym, ℕ, ◌∙◌}}
 use Rattle.path_maps.proofs.held.Held.entries_in.Goals as goal
 
 pub of_folder-requires : goal.of_folder-requires

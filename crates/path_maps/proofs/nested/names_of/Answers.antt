@@ -1,5 +1,5 @@
 use Rattle.path_maps.proofs.{Prelude.{bytes_cmp, IsHeldAt, path_at}, Readings.{map_readable, names_held}}
-use Rattle.path_maps.proofs.by_rank.names_of.Goals as goal
+use Rattle.path_maps.proofs.nested.names_of.Goals as goal
 
 pub new-requires : goal.new-requires
 new-requires g c =

@@ -1,5 +1,5 @@
 use Rattle.path_maps.proofs.Prelude.{ap, find, nat_cmp, option_copied, or_empty, sym, ◌∙◌}
-use Rattle.path_maps.proofs.companions.OtherRanksCompanionU8.meet.Goals as goal
+use Rattle.path_maps.proofs.others.OtherRanksOtherMapU8.meet.Goals as goal
 
 pub returns-clause-held : goal.returns-clause-held
 returns-clause-held c =

@@ -13,8 +13,8 @@ use load_places::Scope;
 use plain_values::Bytes;
 use std::marker::Model;
 
-/// What is held beside a map whose keys are read in ascending order.
-pub trait Companion<K: Ord>: Drop {
+/// Another map, or none, that is asked for what it holds at keys in ascending order.
+pub trait OtherMap<K: Ord>: Drop {
     /// What is held at a key.
     type Held;
 
@@ -28,7 +28,7 @@ pub trait Companion<K: Ord>: Drop {
 }
 
 // Nothing is held beside a map that is read alone.
-impl<K: Ord> Companion<K> for () {
+impl<K: Ord> OtherMap<K> for () {
     type Held = ();
 
     ghost held = { λ _ _. tt };
@@ -75,7 +75,7 @@ impl<'a, V: Join> Others<'a, V> {
     }
 }
 
-impl<'a> Companion<Bytes> for Others<'a, Versioned<Content>> {
+impl<'a> OtherMap<Bytes> for Others<'a, Versioned<Content>> {
     type Held = HeldEntry<'a>;
 
     ghost held = { λ o name. written_at (find bytes_cmp name o) };
@@ -92,7 +92,7 @@ impl<'a> Companion<Bytes> for Others<'a, Versioned<Content>> {
     }
 }
 
-impl<'a> Companion<Bytes> for Others<'a, NameMap> {
+impl<'a> OtherMap<Bytes> for Others<'a, NameMap> {
     type Held = Others<'a, Versioned<Content>>;
 
     ghost held = { λ o folder. or_empty (find bytes_cmp folder o) };
@@ -117,7 +117,7 @@ impl<'a> Model for OtherRanks<'a> {
     ghost view = { λ o. or_empty (option_copied o.ranks) };
 }
 
-impl<'a> Companion<u8> for OtherRanks<'a> {
+impl<'a> OtherMap<u8> for OtherRanks<'a> {
     type Held = Others<'a, NameMap>;
 
     ghost held = { λ o rank. or_empty (find nat_cmp rank o) };
@@ -130,7 +130,7 @@ impl<'a> Companion<u8> for OtherRanks<'a> {
     }
 }
 
-impl<'a> Companion<Scope> for &'a ScopeMap {
+impl<'a> OtherMap<Scope> for &'a ScopeMap {
     type Held = OtherRanks<'a>;
 
     ghost held = { λ o scope. ranks_of o.now scope };

@@ -1,5 +1,5 @@
 use Rattle.path_maps.proofs.{Prelude.{AllKeys, ap, flat_map, in_rank, IsPath, List, nat_cmp, RankMap, ranks_read, ℕ, ◌∙◌}, Readings.{map_readable, part_keys, ranks_zipped}}
-use Rattle.path_maps.proofs.by_rank.paths_of.Goals as goal
+use Rattle.path_maps.proofs.nested.paths_of.Goals as goal
 
 pub new-requires : goal.new-requires
 new-requires g c =
@@ -8,7 +8,7 @@ new-requires g c =
 pub returns : goal.returns
 returns g c = record {
   entries =
-      let held : ℕ → List ℕ → List ℕ → g.row.N-Held.Denot = λ r f. g.N.Companion.held (g.F.Companion.held (g.R.Companion.held c.args.others r) f) in
+      let held : ℕ → List ℕ → List ℕ → g.row.N-Held.Denot = λ r f. g.N.OtherMap.held (g.F.OtherMap.held (g.R.OtherMap.held c.args.others r) f) in
       ap (λ l. flat_map (λ xs. xs) (flat_map (λ xs. xs) l)) c.new.ensures.left
       ∙ ap (λ (rs : RankMap). flat_map (λ xs. xs) (flat_map (λ xs. xs) (ranks_read held rs))) c.pairs-left.ensures.pairs
       ∙ ranks_zipped held c.args.ranks.now;
