@@ -12,6 +12,7 @@ use replica_store::{Replica, Store};
 use shared_node::{Blank, BlankFault, Node};
 use std::alloc::AllocError;
 use std::marker::Brand;
+use std::slice::from_ref;
 use std::sync::Wait;
 use std::thread::Threads;
 use std::time::Clock;
@@ -104,7 +105,8 @@ fn answer_node<R: Threads + Wait + Clock + Sync>(
     let writer = words.writer()?;
     let seats = words.index()?;
     let replica = if over_edit {
-        Replica::from_store(writer, Store::from_edits(words.alloc, &one_edit(words)?)?)
+        let edit = one_edit(words)?;
+        Replica::from_store(writer, Store::from_edits(words.alloc, from_ref(&edit))?)
     } else {
         Replica::new(words.alloc, writer)
     };

@@ -21,7 +21,7 @@ pub fn step<N: NodeName + Send + Sync, R: Threads + Wait + Clock + Sync>(
 ) -> Result<(), LineFault> {
     match_word!(word;
         b"seat" => take_seat(rt, node, bench),
-        b"edit" => edit(rt, node, bench, words.index()?, words.place()?, words.file()?),
+        b"edit" => edit(rt, node, bench, words),
         b"absorb" => absorb(rt, node, bench, words),
         b"learn" => learn(bench, words),
         b"view" => view(bench, words),
@@ -64,6 +64,18 @@ fn keep_token<N: NodeName, T: Drop>(
 
 // Edits from a seat.
 fn edit<N: NodeName, R: Wait>(
+    rt: &R,
+    node: &Node<N>,
+    bench: &mut Bench<N>,
+    words: &mut Words,
+) -> Result<(), LineFault> {
+    let at = words.index()?;
+    let place = words.place()?;
+    edit_at(rt, node, bench, at, place, words.file()?)
+}
+
+// Edits from the seat with a number.
+fn edit_at<N: NodeName, R: Wait>(
     rt: &R,
     node: &Node<N>,
     bench: &mut Bench<N>,
