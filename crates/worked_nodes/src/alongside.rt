@@ -105,6 +105,18 @@ fn work_alongside<N: NodeName + Send + Sync, R: Threads + Wait + Clock + Sync>(
     (holder, writer, viewer, is_fine)
 }
 
+// Takes out three seats, until they are put back.
+fn lent<N: NodeName>(
+    bench: &mut Bench<N>,
+    first: usize,
+    second: usize,
+    third: usize,
+) -> Option<(Seat<N>, Seat<N>, Seat<N>)> {
+    let holder = bench.lend(first)?;
+    let writer = bench.lend(second)?;
+    Some((holder, writer, bench.lend(third)?))
+}
+
 /// One seat holds a view, so that another seat's edits wait for it under the lock. A third seat views meanwhile.
 pub fn alongside<N: NodeName + Send + Sync, R: Threads + Wait + Clock + Sync>(
     rt: &R,
@@ -113,11 +125,7 @@ pub fn alongside<N: NodeName + Send + Sync, R: Threads + Wait + Clock + Sync>(
     words: &mut Words,
 ) -> Result<(), LineFault> {
     let (first, second, third) = (words.index()?, words.index()?, words.index()?);
-    let (Some(holder), Some(writer), Some(viewer)) = (
-        bench.lend(first),
-        bench.lend(second),
-        bench.lend(third),
-    ) else {
+    let Some((holder, writer, viewer)) = lent(bench, first, second, third) else {
         return bench.write("no seat");
     };
     let (holder, writer, viewer, is_fine) = work_alongside(

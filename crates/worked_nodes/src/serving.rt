@@ -1,7 +1,7 @@
 //! Executes the messages of an inbox at a node.
 use crate::bench::Bench;
 use crate::edits::one_piece;
-use crossbeam_channel::{Receiver, unbounded};
+use crossbeam_channel::{Receiver, Sender, unbounded};
 use node_histories::NodeName;
 use shared_node::{Message, Node, Served, serve};
 use std::alloc::AllocError;
@@ -20,6 +20,12 @@ fn message_of(word: &[u8], words: &mut Words) -> Result<Message, LineFault> {
 // An inbox with the messages that a list of words writes. Its sender is dropped.
 fn inbox_of<R: Wait>(rt: &R, words: &mut Words) -> Result<Receiver<Message>, LineFault> {
     let (sender, inbox) = unbounded(words.alloc)?;
+    send_all(rt, &sender, words)?;
+    Ok(inbox)
+}
+
+// Sends the messages that a list of words writes.
+fn send_all<R: Wait>(rt: &R, sender: &Sender<Message>, words: &mut Words) -> Result<(), LineFault> {
     for _ in 0..words.most() {
         let Some(word) = words.listed() else {
             break;
@@ -29,7 +35,7 @@ fn inbox_of<R: Wait>(rt: &R, words: &mut Words) -> Result<Receiver<Message>, Lin
             return Err(LineFault::Memory(AllocError));
         }
     }
-    Ok(inbox)
+    Ok(())
 }
 
 // Writes the result of serving an inbox, and how often the gate was asked for each message.
