@@ -16,8 +16,8 @@ def is_passed_over(line):
 
 
 def calls_of(program):
-    """The lines of a program's data that are calls; behind a form feed stands something else."""
-    lines = read_data(program, "stdin").partition(b"\x0c")[0].split(b"\n")
+    """The lines of a program's data that are calls."""
+    lines = read_data(program, "stdin").split(b"\n")
     return [line for line in lines if not is_passed_over(line)]
 
 
