@@ -8,4 +8,4 @@ invariant_of-result c =
     let names = c.args.names.now in
     let made = asked_otherwise (host_view_of store load.host) load.extra names load (c.serves.ensures.these c.if-not-serves.false) (c.serves.ensures.those c.if-not-serves.false) c.self.invariant in
     subst (λ (l : LoadMap). IsSnapshotOf store l) (sym c.asked_for-snapshot.ensures.load)
-    (subst (λ (ns : List Name). IsSnapshot (host_view_of store load.host) ns (asked_for ns load)) (sym c.in-Ok.ensures.copies) made)
+    (subst (λ (ns : List Name). IsSnapshot (host_view_of store load.host) ns (asked_for ns load)) (sym c.in-Ok.ensures.copy) made)
