@@ -1,5 +1,6 @@
 pub mod Prelude
 pub mod Joins
 pub mod Rounds
+pub mod Seen
 pub mod Shown
 pub mod Runs

@@ -1,13 +1,17 @@
 -- The result of a sweep over replicas.
 -- Source (least upper bounds): Shapiro, Preguica, Baquero, Zawirski 2011.
 use Rattle.std.proofs.Common.{◌∷◌, ◌≡◌}
-use Rattle.delta_gossip.specs.Prelude.{[], All, EntryMap, IsStoreBelow, join, List, Replicated}
+use Rattle.delta_gossip.specs.Prelude.{[], All, EntryMap, IsStoreBelow, join, List, map, Replicated}
 use Rattle.std.specs.FinMap as finmap
 
 -- the join of all these stores
 abbrev pub join_all : List EntryMap → EntryMap
 join_all [] = finmap.empty
 join_all (s ∷ ss) = join s (join_all ss)
+
+-- the join of the stores of all these
+abbrev pub join_of : List Replicated → EntryMap
+join_of rs = join_all (map (λ r. r.store) rs)
 
 -- the least store that is above each of these
 pub record IsLeastAbove (ss : List EntryMap) (all : EntryMap) : Type 0 where

@@ -11,7 +11,7 @@ use world_law::{Event, converges};
 
 /// The state of a world after some events: the replica of each node, and every ask and piece made so far, in the order
 /// of their events.
-#[derive(Debug, Drop)]
+#[derive(Debug)]
 pub struct World {
     /// The replica of each node.
     pub replicas: Vec<Replica>,
@@ -19,6 +19,16 @@ pub struct World {
     pub asks: Vec<Digest>,
     /// The pieces that were cut. A piece stays after it was given, and may be given again.
     pub pieces: Vec<Piece>,
+}
+
+impl Drop for World {
+    fn drop(self) {
+        let World {
+            replicas: _,
+            asks: _,
+            pieces: _,
+        } = self;
+    }
 }
 
 /// Runs a list of events in a world with one node for each writer. All stores are empty at first.

@@ -4,7 +4,7 @@ ghost use Rattle.edit_sums.specs.Sums.{EntryMap, IsHonest, edits_of, join};
 ghost use Rattle.world_law.specs.Cuts.{cut, digest_of};
 
 use crate::digests::Digest;
-use crate::newer::{newer_at, newer_entries, newer_than};
+use crate::newer::{newer_at, newer_entries, newer_than, newer_than_at};
 use crate::pieces::Piece;
 use load_places::Place;
 use replica_store::Replica;
@@ -35,6 +35,24 @@ pub fn delta_between(alloc: Global, from: &Replica, to: &Replica) -> Result<Piec
         join to.now.store piece ≡ join to.now.store from.now.store) }
 {
     Ok(Piece::from_store(newer_than(alloc, from.store(), to.store())?))
+}
+
+/// Returns what `from` holds and `to` lacks, at these places only: the same piece as `delta_at` with the digest of `to`,
+/// which isn't built. Duplicates and order of the places don't matter.
+///
+/// Each place costs a search in each store, and at most one shift of what was found so far; if the places are in
+/// ascending order, nothing is shifted. An entry of the piece is copied once for each time its place is listed, and
+/// nothing else is copied. Fails only if memory runs out.
+pub fn delta_between_at(
+    alloc: Global,
+    from: &Replica,
+    to: &Replica,
+    places: &[Place],
+) -> Result<Piece, AllocError>
+    ensures cut { IfOk result (λ piece. piece ≡ cut from.now.store (digest_of to.now.store) (Some places.now)) }
+{
+    let newer = newer_than_at(alloc, from.store(), to.store(), places)?;
+    Ok(Piece::from_store(newer))
 }
 
 /// Returns what a replica holds and the digest lacks, at these places only. Duplicates and order of the places don't

@@ -13,10 +13,16 @@ use std::marker::Model;
 /// What a replica asks with: the version of each entry that it holds, by place.
 ///
 /// A digest has no contents, so it is small compared to the store that it describes.
-#[derive(Debug, Drop)]
+#[derive(Debug)]
 pub struct Digest {
     // Sorted by place.
     versions: Vec<(Place, Version)>,
+}
+
+impl Drop for Digest {
+    fn drop(self) {
+        let Digest { versions: _ } = self;
+    }
 }
 
 impl Model for Digest {

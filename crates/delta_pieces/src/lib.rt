@@ -9,7 +9,7 @@
 //! 2011).
 //!
 //! - `digest`, `digest_at`: make a `Digest` of a replica.
-//! - `delta_for`, `delta_at`, `delta_between`: cut a `Piece`.
+//! - `delta_for`, `delta_at`, `delta_between`, `delta_between_at`: cut a `Piece`.
 //! - `take`: joins a piece into a replica.
 #![tactic(auto)]
 
@@ -22,7 +22,7 @@ mod pieces;
 mod takes;
 
 pub use asks::{digest, digest_at};
-pub use cuts::{delta_at, delta_between, delta_for};
+pub use cuts::{delta_at, delta_between, delta_between_at, delta_for};
 pub use digests::Digest;
 pub use join_law::Rest;
 pub use pieces::Piece;

@@ -2,7 +2,7 @@
 ghost use Rattle.std.specs.{Prelude.{◌≡◌, ◌≢◌, [], ◌∷◌, Some, None, IsTrue, IfOk, OnOk, filter, map}, Option.{option_map}};
 ghost use Rattle.std.specs.{declared.cmp.Ordering.TheVariants.{Less}, FinMap.{is_sorted, find}};
 ghost use Rattle.load_places.specs.Places.{PlaceParts, place_cmp};
-ghost use Rattle.edit_sums.specs.Sums.{edit_of, join, sum_of};
+ghost use Rattle.edit_sums.specs.Sums.{edit_of, join, sum_of, with_edit};
 ghost use Rattle.sorted_pairs.specs.Places.{IsNotBelow};
 ghost use Rattle.world_law.specs.Cuts.{cut, digest_of, is_newer};
 
@@ -133,6 +133,48 @@ fn join_newer(
     if !is_newer(entry.version, asked.get(place)) {
         return Ok(());
     }
+    join_at(newer, place, entry)
+}
+
+// Returns what is newer at these places than what another store holds. Each place costs a search in each store, and at
+// most one shift of what was found so far.
+pub fn newer_than_at(
+    alloc: Global,
+    store: &Store,
+    other: &Store,
+    places: &[Place],
+) -> Result<Store, AllocError>
+    ensures cut { IfOk result (λ newer. newer ≡ cut store.now (digest_of other.now) (Some places.now)) }
+{
+    let mut newer = Store::new(alloc);
+    for place in places {
+        join_news(&mut newer, store, other, place)?;
+    }
+    Ok(newer)
+}
+
+// Joins what is newer at one place.
+fn join_news(
+    newer: &mut Store,
+    store: &Store,
+    other: &Store,
+    place: &Place,
+) -> Result<(), AllocError>
+    ensures ok { OnOk result (newer.new ≡ join newer.old (cut store.now (digest_of other.now) (Some (place.now ∷ [])))) }
+{
+    let Some(entry) = store.get(place) else {
+        return Ok(());
+    };
+    if !is_news(entry, other.get(place)) {
+        return Ok(());
+    }
+    join_at(newer, place, entry)
+}
+
+// Joins a copy of the entry at a place, which shares its bytes.
+fn join_at(newer: &mut Store, place: &Place, entry: &Entry) -> Result<(), AllocError>
+    ensures ok { OnOk result (newer.new ≡ with_edit newer.old (edit_of (place.now, entry.now))) }
+{
     let Entry { version, content } = entry.try_clone()?;
     newer.join_edit(Edit {
         place: place.try_clone()?,

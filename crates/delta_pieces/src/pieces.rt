@@ -15,9 +15,15 @@ use std::alloc::{AllocError, Global};
 use std::marker::Model;
 
 /// Entries by place, removals included, that are sent to a replica and taken by it.
-#[derive(Debug, Drop)]
+#[derive(Debug)]
 pub struct Piece {
     store: Store,
+}
+
+impl Drop for Piece {
+    fn drop(self) {
+        let Piece { store: _ } = self;
+    }
 }
 
 impl Model for Piece {

@@ -114,9 +114,14 @@ fn is_only_folder(name: &UnitName) -> bool
 
 /// The folders of a unit, listed once for its drop-ins and its links. In contracts it is the list. The folders of types
 /// aren't in it; they follow from the names.
-#[derive(Drop)]
 pub struct UnitFolders {
     names: Vec<UnitName>,
+}
+
+impl Drop for UnitFolders {
+    fn drop(self) {
+        let UnitFolders { names: _ } = self;
+    }
 }
 
 impl Model for UnitFolders {

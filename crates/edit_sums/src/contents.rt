@@ -29,9 +29,15 @@ pub enum ContentFault {
 }
 
 /// The bytes of a file: at most 65,536.
-#[derive(Debug, Drop)]
+#[derive(Debug)]
 pub struct FileBytes {
     inner: SharedBytes,
+}
+
+impl Drop for FileBytes {
+    fn drop(self) {
+        let FileBytes { inner: _ } = self;
+    }
 }
 
 impl Model for FileBytes {
@@ -66,9 +72,15 @@ impl FileBytes {
 }
 
 /// The target of a link: 1 to 4,095 bytes, each from 33 to 126.
-#[derive(Debug, Drop)]
+#[derive(Debug)]
 pub struct LinkTarget {
     target: SharedBytes,
+}
+
+impl Drop for LinkTarget {
+    fn drop(self) {
+        let LinkTarget { target: _ } = self;
+    }
 }
 
 impl Model for LinkTarget {
@@ -109,7 +121,7 @@ impl LinkTarget {
 ///
 /// Removals come before links, links before files; two contents of the same kind are ordered by their bytes. This order
 /// decides between edits that have the same version.
-#[derive(Debug, Drop)]
+#[derive(Debug)]
 pub enum Content {
     /// A tombstone: the file or link that was here is removed.
     Gone,
@@ -117,6 +129,16 @@ pub enum Content {
     Link(LinkTarget),
     /// A regular file.
     File(FileBytes),
+}
+
+impl Drop for Content {
+    fn drop(self) {
+        match self {
+            Content::Gone => (),
+            Content::Link(_) => (),
+            Content::File(_) => (),
+        }
+    }
 }
 
 // Returns whether bytes are a valid target of a link.

@@ -1,10 +1,10 @@
-//! A store that is asked many times: its units are loaded for the first question; later only what changed is read
+//! A node that is asked many times: its units are loaded for the first question; later only what was touched is read
 //! again.
 use crate::faults::EmbeddingFault;
 use crate::meeting::put;
-use fleet_answers::{Answer, Question, Snapshots, answer_again};
+use fleet_answers::{Answer, Question, TrackedReplica};
 use plain_values::Items;
-use replica_store::{Replica, Store};
+use replica_store::{Content, Place, Replica};
 use start_plan::Request;
 use std::alloc::{AllocError, Global};
 use std::thread::Threads;
@@ -14,20 +14,24 @@ use worker_rounds::OpenGate;
 /// The number of workers where everything must be loaded.
 const WORKERS: usize = 4;
 
-/// Asks for the plan of a target, changes a drop-in, and asks again.
-pub fn ask_often(rt: &(impl AllocGlobal + Threads + Sync)) -> Result<Vec<u8>, EmbeddingFault> {
-    let alloc = rt.alloc();
-    let mut node = web_and_database(alloc)?;
-    let mut snapshots = Snapshots::new(alloc);
-    let mut text = Vec::new(alloc);
-    append_starts(rt, &mut snapshots, node.store(), b"web.service", &mut text)?;
-    put(
-        &mut node,
-        b"/etc/systemd/system/db.service.d/late.conf",
-        b"[Unit]\nAfter=web.service\n",
-    )?;
-    append_starts(rt, &mut snapshots, node.store(), b"web.service", &mut text)?;
-    Ok(text)
+/// Asks for the plan of a target, changes a drop-in, and asks again. Writes both answers.
+pub fn ask_often(
+    rt: &(impl AllocGlobal + Threads + Sync),
+    text: &mut Vec<u8>,
+) -> Result<(), EmbeddingFault> {
+    let mut node = TrackedReplica::new(web_and_database(rt.alloc())?);
+    append_starts(rt, &mut node, b"web.service", text)?;
+    start_late(&mut node)?;
+    append_starts(rt, &mut node, b"web.service", text)
+}
+
+// Puts a drop-in, by which the database starts after the web server.
+fn start_late(node: &mut TrackedReplica) -> Result<(), EmbeddingFault> {
+    let alloc = node.store().allocator();
+    let drop_in = Place::parse(alloc, b"/etc/systemd/system/db.service.d/late.conf")?;
+    let after = Vec::from_slice(alloc, b"[Unit]\nAfter=web.service\n")?;
+    node.put(drop_in, Content::file(after)?)?;
+    Ok(())
 }
 
 // A node with two units, of which one has a weak dependency (`Wants=`) on the other.
@@ -46,26 +50,16 @@ fn web_and_database(alloc: Global) -> Result<Replica, EmbeddingFault> {
     Ok(node)
 }
 
-/// Writes which units start for a target, in order, when none runs. The answer for this store is made from the cached
-/// snapshot of the one before.
+/// Writes which units start for a target, in order, when none runs. Reads again only what the node's takes touched since the
+/// answer before.
 pub fn append_starts(
     rt: &(impl AllocGlobal + Threads + Sync),
-    snapshots: &mut Snapshots,
-    store: &Store,
+    node: &mut TrackedReplica,
     target: &[u8],
     text: &mut Vec<u8>,
 ) -> Result<(), EmbeddingFault> {
     let question = plan_of(rt.alloc(), target)?;
-    let answer = answer_again(
-        rt,
-        rt.alloc(),
-        snapshots,
-        0,
-        store,
-        &question,
-        WORKERS,
-        &OpenGate,
-    )?;
+    let answer = node.answer(rt, rt.alloc(), &question, WORKERS, &OpenGate)?;
     Ok(append_answer(text, &answer)?)
 }
 

@@ -11,22 +11,40 @@ use std::alloc::{AllocError, Global};
 pub fn exchange_messages(alloc: Global) -> Result<bool, EmbeddingFault> {
     let mut a = Replica::new(alloc, 1);
     let mut b = Replica::new(alloc, 2);
-    put(&mut a, b"/etc/systemd/system/x.service", b"[Unit]\n")?;
+    put_files(&mut a, &mut b)?;
+    exchange(&mut a, &mut b)?;
+    Ok(a.store().same(b.store()))
+}
+
+// Each node puts files of its own.
+fn put_files(a: &mut Replica, b: &mut Replica) -> Result<(), EmbeddingFault> {
+    put(a, b"/etc/systemd/system/x.service", b"[Unit]\n")?;
     put(
-        &mut a,
+        a,
         b"web1:/etc/systemd/system/x.service",
         b"[Unit]\nDescription=web1\n",
     )?;
-    put(&mut b, b"/etc/systemd/system/y.service", b"[Unit]\n")?;
-    let from_a = messages_of(alloc, &a)?;
-    let from_b = messages_of(alloc, &b)?;
-    for message in from_a.iter().rev().chain(from_a.iter()) {
-        give(&mut b, message)?;
+    put(b, b"/etc/systemd/system/y.service", b"[Unit]\n")
+}
+
+// Each node is given what the other held at first.
+fn exchange(a: &mut Replica, b: &mut Replica) -> Result<(), EmbeddingFault> {
+    let alloc = a.store().allocator();
+    let from_a = messages_of(alloc, a)?;
+    let from_b = messages_of(alloc, b)?;
+    for message in from_a.iter().rev() {
+        give(b, message)?;
     }
-    for message in &from_b {
-        give(&mut a, message)?;
+    give_all(b, &from_a)?;
+    give_all(a, &from_b)
+}
+
+// Gives a node what messages carry.
+fn give_all(node: &mut Replica, messages: &[Vec<u8>]) -> Result<(), EmbeddingFault> {
+    for message in messages {
+        give(node, message)?;
     }
-    Ok(a.store().same(b.store()))
+    Ok(())
 }
 
 // Gives a node what a message carries.

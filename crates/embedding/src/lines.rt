@@ -1,9 +1,8 @@
 //! Lines that are written.
 use crate::faults::EmbeddingFault;
-use std::alloc::Global;
 
-/// A line that says whether something holds.
-pub fn truth_of(alloc: Global, what: &str, holds: bool) -> Result<Vec<u8>, EmbeddingFault> {
-    let line = format!(in alloc; "{what}: {holds}\n")?;
-    Ok(Vec::from_slice(alloc, line.as_bytes())?)
+/// Writes a line that says whether something holds.
+pub fn append_truth(text: &mut Vec<u8>, what: &str, holds: bool) -> Result<(), EmbeddingFault> {
+    let line = format!(in *text.allocator(); "{what}: {holds}\n")?;
+    Ok(text.extend_from_slice(line.as_bytes())?)
 }

@@ -16,34 +16,46 @@ mod scripts;
 mod sharing;
 
 use faults::EmbeddingFault;
-use lines::truth_of;
+use lines::append_truth;
 use script_pipes::{Watched, write_all};
 use std::io;
 use std::process::ExitCode;
 use std::sync::Wait;
 use std::thread::Threads;
 
-// The results of all examples, one after another.
-fn shown(rt: &(impl AllocGlobal + Threads + Wait + Sync)) -> Result<Vec<u8>, EmbeddingFault> {
-    let alloc = rt.alloc();
-    let mut text = scripts::answers_to(
-        rt,
-        b"node a 1\nput a /etc/systemd/system/x.service A\nfiles a\n",
+// Writes the results of all examples, one after another.
+fn append_results(
+    rt: &(impl AllocGlobal + Threads + Wait + Sync),
+    text: &mut Vec<u8>,
+) -> Result<(), EmbeddingFault> {
+    append_answers(rt, text)?;
+    append_truth(text, "merged alike", meeting::meet(rt.alloc())?)?;
+    asking::ask_often(rt, text)?;
+    append_truth(
+        text,
+        "exchanged alike",
+        exchanging::exchange_messages(rt.alloc())?,
     )?;
-    text.extend_from_slice(&truth_of(alloc, "merged alike", meeting::meet(alloc)?)?)?;
-    text.extend_from_slice(&asking::ask_often(rt)?)?;
-    let alike = exchanging::exchange_messages(alloc)?;
-    text.extend_from_slice(&truth_of(alloc, "exchanged alike", alike)?)?;
-    let (answers, takes) = sharing::edit_from_threads(rt)?;
-    text.extend_from_slice(&answers)?;
-    text.extend_from_slice(format!(in alloc; "takes by threads: {takes}\n")?.as_bytes())?;
-    Ok(text)
+    let takes = sharing::edit_from_threads(rt, text)?;
+    let line = format!(in rt.alloc(); "takes by threads: {takes}\n")?;
+    Ok(text.extend_from_slice(line.as_bytes())?)
+}
+
+// Writes the answers to a script.
+fn append_answers(
+    rt: &(impl AllocGlobal + Threads + Wait + Sync),
+    text: &mut Vec<u8>,
+) -> Result<(), EmbeddingFault> {
+    let script = b"node a 1\nput a /etc/systemd/system/x.service A\nfiles a\n";
+    let answers = scripts::answers_to(rt, script)?;
+    Ok(text.extend_from_slice(&answers)?)
 }
 
 // The results of all examples, or why one of them failed.
 fn results(rt: &(impl AllocGlobal + Threads + Wait + Sync)) -> Result<Vec<u8>, EmbeddingFault> {
-    match shown(rt) {
-        Ok(text) => Ok(text),
+    let mut text = Vec::new(rt.alloc());
+    match append_results(rt, &mut text) {
+        Ok(()) => Ok(text),
         Err(fault) => {
             let line = format!(in rt.alloc(); "{fault}\n")?;
             Ok(Vec::from_slice(rt.alloc(), line.as_bytes())?)

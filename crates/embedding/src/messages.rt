@@ -91,22 +91,53 @@ impl<'a> Rest<'a> {
         Ok(number)
     }
 
-    // The next edit.
-    fn edit(&mut self, alloc: Global) -> Result<Edit, EmbeddingFault> {
+    // What stands before an edit's texts.
+    fn header(&mut self) -> Result<Header, EmbeddingFault> {
         let counter = self.number()?;
         let Ok(writer) = u32::try_from(self.number()?) else {
             return Err(EmbeddingFault::Message);
         };
-        let sort = self.number()?;
-        let (place_bytes, content_bytes) = (self.number()?, self.number()?);
-        let place = Place::parse(alloc, self.take(place_bytes)?)?;
-        let content = content_of(alloc, sort, self.take(content_bytes)?)?;
-        Ok(Edit {
-            place,
+        Ok(Header {
             version: Version { counter, writer },
-            content,
+            sort: self.number()?,
+            place_bytes: self.number()?,
+            content_bytes: self.number()?,
         })
     }
+
+    // The next edit.
+    fn edit(&mut self, alloc: Global) -> Result<Edit, EmbeddingFault> {
+        let header = self.header()?;
+        let (place, content) = (
+            self.take(header.place_bytes)?,
+            self.take(header.content_bytes)?,
+        );
+        edit_of(alloc, header, place, content)
+    }
+}
+
+// What stands before an edit's texts: its version, the kind of its content, and their lengths.
+#[derive(Clone, Copy)]
+struct Header {
+    version: Version,
+    sort: u64,
+    place_bytes: u64,
+    content_bytes: u64,
+}
+
+// The edit with this header and these texts.
+fn edit_of(
+    alloc: Global,
+    header: Header,
+    place: &[u8],
+    content: &[u8],
+) -> Result<Edit, EmbeddingFault> {
+    let place = Place::parse(alloc, place)?;
+    Ok(Edit {
+        place,
+        version: header.version,
+        content: content_of(alloc, header.sort, content)?,
+    })
 }
 
 // The content of this kind.

@@ -4,8 +4,8 @@ ghost use Rattle.std.specs.Prelude.{◌≡◌};
 
 use crate::asking::append_starts;
 use crate::faults::EmbeddingFault;
-use crate::lines::truth_of;
-use fleet_answers::Snapshots;
+use crate::lines::append_truth;
+use fleet_answers::TrackedReplica;
 use node_histories::NodeName;
 use replica_store::{Content, Place, Replica};
 use shared_node::{Blank, Node, Seat};
@@ -18,12 +18,13 @@ use std::thread::Threads;
 /// So many threads share the node, each with a seat.
 const SEATS: usize = 4;
 
-/// What the seat was answered, and how many takes the node counted when it was closed.
+/// Writes what the seat was answered, and returns how many takes the node counted when it was closed.
 pub fn edit_from_threads<R: AllocGlobal + Threads + Wait + Sync>(
     rt: &R,
-) -> Result<(Vec<u8>, u64), EmbeddingFault> {
+    text: &mut Vec<u8>,
+) -> Result<u64, EmbeddingFault> {
     match Blank::new(rt, Replica::new(rt.alloc(), 1), SEATS) {
-        Ok(blank) => share_at::<Brand, R>(rt, blank),
+        Ok(blank) => share_at::<Brand, R>(rt, blank, text),
         Err(_) => Err(EmbeddingFault::Node),
     }
 }
@@ -32,15 +33,15 @@ pub fn edit_from_threads<R: AllocGlobal + Threads + Wait + Sync>(
 fn share_at<N: NodeName + Send + Sync, R: AllocGlobal + Threads + Wait + Sync>(
     rt: &R,
     blank: Blank,
-) -> Result<(Vec<u8>, u64), EmbeddingFault>
+    text: &mut Vec<u8>,
+) -> Result<u64, EmbeddingFault>
     requires book { blank.book ≡ N.book }
     requires opening { blank.opening ≡ N.opening }
     requires seats { blank.seats ≡ N.seats }
 {
     let node = Node::<N>::open(blank);
-    let mut text = Vec::new(rt.alloc());
-    match work_all(rt, &node, &mut text) {
-        Ok(seats) => Ok((text, close(rt, node, seats)?)),
+    match work_all(rt, &node, text) {
+        Ok(seats) => close(rt, node, seats),
         Err(fault) => {
             node.end(rt);
             Err(fault)
@@ -126,47 +127,74 @@ fn edit<N: NodeName, R: Wait>(
 }
 
 // Asks what is viewed, edits, and asks what is viewed then, where only what changed is read again; and whether that is the answer
-// of the same view where nothing is remembered.
+// of the same view where nothing was asked before.
 fn ask_twice<N: NodeName, R: AllocGlobal + Threads + Wait + Sync>(
     rt: &R,
     node: &Node<N>,
     seat: Seat<N>,
     text: &mut Vec<u8>,
 ) -> Result<Seat<N>, EmbeddingFault> {
+    let mut own = empty(rt.alloc());
+    let seat = ask(rt, seat, &mut own, text)?;
+    let seat = need_another(rt, node, seat)?;
+    let first = text.len();
+    let seat = ask(rt, seat, &mut own, text)?;
+    ask_anew(rt, seat, text, first)
+}
+
+// Edits a unit from a seat, so that it needs another.
+fn need_another<N: NodeName, R: AllocGlobal + Wait>(
+    rt: &R,
+    node: &Node<N>,
+    seat: Seat<N>,
+) -> Result<Seat<N>, EmbeddingFault> {
     let alloc = rt.alloc();
-    let mut snapshots = Snapshots::new(alloc);
     let place = Place::parse(alloc, b"/etc/systemd/system/thread-0.service")?;
-    let (seat, first) = ask(rt, seat, &mut snapshots)?;
-    let seat = edit(
+    edit(
         rt,
         alloc,
         node,
         seat,
         &place,
         b"[Unit]\nRequires=thread-1.service\n",
-    )?;
-    let (seat, second) = ask(rt, seat, &mut snapshots)?;
-    let (seat, anew) = ask(rt, seat, &mut Snapshots::new(alloc))?;
-    text.extend_from_slice(&first)?;
-    text.extend_from_slice(&second)?;
-    text.extend_from_slice(&truth_of(alloc, "asked again alike", second == anew)?)?;
+    )
+}
+
+// Asks once more where nothing was asked before, and writes whether the answer is what the text has from a byte on.
+fn ask_anew<N: NodeName, R: AllocGlobal + Threads + Sync>(
+    rt: &R,
+    seat: Seat<N>,
+    text: &mut Vec<u8>,
+    from: usize,
+) -> Result<Seat<N>, EmbeddingFault> {
+    let alloc = rt.alloc();
+    let mut anew = Vec::new(alloc);
+    let seat = ask(rt, seat, &mut empty(alloc), &mut anew)?;
+    let alike = text.as_slice().ends_with(&anew) && text.len() == from.saturating_add(anew.len());
+    append_truth(text, "asked again alike", alike)?;
     Ok(seat)
 }
 
-// Asks what is viewed.
+// A replica that holds nothing.
+fn empty(alloc: Global) -> TrackedReplica {
+    TrackedReplica::new(Replica::new(alloc, 0))
+}
+
+// Asks a seat's own replica, once it was given what the seat views: views only grow. Writes the answer.
 fn ask<N: NodeName>(
     rt: &(impl AllocGlobal + Threads + Sync),
     seat: Seat<N>,
-    snapshots: &mut Snapshots,
-) -> Result<(Seat<N>, Vec<u8>), EmbeddingFault> {
+    own: &mut TrackedReplica,
+    text: &mut Vec<u8>,
+) -> Result<Seat<N>, EmbeddingFault> {
     let Ok(view) = seat.view() else {
         return Err(EmbeddingFault::Node);
     };
-    let mut text = Vec::new(rt.alloc());
-    let appended = append_starts(rt, snapshots, view.store(), b"thread-0.service", &mut text);
+    let merged = own.merge(view.store());
     let seat = view.leave();
-    appended?;
-    Ok((seat, text))
+    merged?;
+    append_starts(rt, own, b"thread-0.service", text)?;
+    Ok(seat)
 }
 
 // Closes a node with all its seats.

@@ -3,4 +3,4 @@ mod Asked
 mod Fleets
 mod Held
 mod Returned
-pub mod Mirrors
+mod Touched

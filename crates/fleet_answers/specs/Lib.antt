@@ -4,3 +4,4 @@ pub mod Answers
 pub mod Fleets
 pub mod HostLaws
 pub mod ShownLaws
+pub mod Tracked

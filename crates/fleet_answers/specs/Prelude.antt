@@ -5,7 +5,7 @@ pub use Rattle.name_closure.specs.{DistanceLaws.{one_list_of_distances}, LimitLa
 pub use Rattle.parallel_load.specs.{HostLaws.{hosts_without_places_are_as_large, hosts_without_places_load_alike, loaded_for, same_units_make_the_load}, LoadLaws.{one_load}, Prelude.{DependencyList, DepKind, EntryMap, Host, host_view_of, HostViewMap, IsAmong, IsUnit, level_for, link_targets_decide, LoadedUnit, Name, name_cmp, PlaceParts, SameLeads, SameWords, ShowsNothing, Viewer, viewer_of, visible_at}, TouchedLaws.{touched_words_decide}, Universe.{IsSource, IsTooLarge, LeadsTo}}
 pub use Rattle.path_maps.specs.HostLaws.{one_viewer, other_hosts_are_not_in_view}
 pub use Rattle.start_plan.specs.{declared.requests.{Plan.{Plan as PlanMap}, Refusal.{Refusal, TheVariants.{Bad, Conflict, Cycle, ManualStart, Masked, Memory, NotFound, Requisite, Template}}, Request.{Request}}, Outcomes.{IsFault, IsPlanned, IsRefusalOf, IsRefused}, PlanLaws.{one_case, one_plan, one_refusal_returned, plan_or_refusal}, Prelude.{AreEdges, Case, EdgeMap, IsEdge, IsKnown, IsLoad, IsPlan, IsRefusal, LoadMap, main_in, one_list_of_edges, unit_in, Why}, Requests.{HasTemplate}}
-pub use Rattle.std.{proofs.{Common.{[], ap, inl, inr, List, None, refl, reverse, Some, subst, sym, ℕ, ◌∙◌}, lemmas.List.Elements.{All-weaker}}, specs.{Cmp.Lexicographic.{nat_list_cmp_total}, Map.{keys_of}}}
+pub use Rattle.std.{proofs.{Common.{[], All, ap, drop, inl, inr, length, List, None, refl, reverse, Some, subst, sym, ℕ, ◌∙◌}, lemmas.List.Elements.{All-weaker}}, specs.{Cmp.Lexicographic.{nat_list_cmp_total}, Map.{keys_of}}}
 pub use Rattle.unit_graph.specs.{GraphLaws.{known_names}, Graphs.{AreDepths, GraphMap, LeadsBy, pulling}, Prelude.{IsDistance, IsDistances, Listed}}
 pub use Rattle.unit_loads.specs.FootprintLaws.{store_footprints_decide}
 pub use Rattle.world_law.specs.Prelude.{IsAboveEdits, IsAmong-append_right}

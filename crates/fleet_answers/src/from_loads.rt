@@ -1,62 +1,62 @@
 //! What a load answers of the units that names resolve to.
-ghost use Rattle.std.specs.Prelude.{◌≡◌, IfOk, IfErr, IsSome, Some};
-ghost use Rattle.inverse_deps.specs.{Edges.{AreEdges}, Links.{AreLinks}};
-ghost use Rattle.parallel_load.specs.Loads.{main_in, unit_in};
+ghost use Rattle.std.specs.{Map.{keys_of}, Prelude.{IfErr, IfOk, Some, ◌<◌, ◌≡◌}};
+ghost use Rattle.inverse_deps.specs.{EdgeAdjacency.{edge_map}, Edges.{AreEdges, IsUnitIn}, Indices.{count_of, name_at}, Tables.{IsEdgeTable}};
+ghost use Rattle.parallel_load.specs.Loads.{unit_in};
 ghost use Rattle.unit_graph.specs.Graphs.{IsKnown};
 ghost use Rattle.start_plan.specs.{Outcomes.{IsPlanned, IsRefusalOf}, Requests.{IsOfGraph}};
 ghost use Rattle.fleet_answers.specs.Answers.{ArePulled, IsLinkedUnit, IsPlanReturned};
 
 use crate::questions::{Answer, LinkedUnit};
-use inverse_deps::{Edges, Links, edges_of};
+use inverse_deps::{EdgeTable, edges_at};
 use parallel_load::{Loaded, NameLoad, Unit};
 use plain_values::{Items, Shared, TryClone};
-use start_plan::{Plan, Refusal, Request, plan};
+use start_plan::{Plan, Refusal, Request, plan_by_index};
 use std::alloc::AllocError;
-use unit_graph::Graph;
+use unit_graph::IndexedGraph;
 use unit_name::UnitName;
 
-/// The unit of a name with its edges, from the links of the load.
+/// The unit of a name with its edges. One search for the name.
 pub(crate) fn linked_unit(
     loaded: &Loaded,
-    links: &Links,
+    table: &EdgeTable,
     name: &UnitName,
 ) -> Result<LinkedUnit, AllocError>
-    requires links { AreLinks loaded.now links.now }
+    requires table { IsEdgeTable loaded.now table.now }
     requires known { IsKnown loaded.now name.now }
     ensures unit { IfOk result (IsLinkedUnit loaded.now name.now) }
 {
-    let main = main_of(loaded, name);
-    let edges = edges_of(loaded.allocator(), loaded, links, main)?;
-    let unit = shared_unit(loaded, main)?;
+    let index = loaded.main_index(name).unwrap();
+    let edges = edges_at(loaded.allocator(), loaded, table, index)?;
+    let unit = shared_unit(loaded, index)?;
     Ok(LinkedUnit { unit, edges })
 }
 
-/// What the unit of a name pulls, from all edges of the load.
+/// What the unit of a name pulls.
 pub(crate) fn pulled(
     loaded: &Loaded,
-    edges: &Edges,
+    table: &EdgeTable,
     name: &UnitName,
 ) -> Result<Items<(u64, UnitName)>, AllocError>
-    requires edges { AreEdges loaded.now edges.now }
+    requires table { IsEdgeTable loaded.now table.now }
     requires known { IsKnown loaded.now name.now }
     ensures pulled { IfOk result (ArePulled loaded.now name.now) }
 {
-    let graph = Graph::build(loaded, edges);
+    let graph = IndexedGraph::build(loaded, table);
     Ok(Items::from_vec(graph.depths(name)?))
 }
 
-/// The plan of a request, or the first reason why there is none, from all edges of the load.
+/// The plan of a request, or the first reason why there is none.
 pub(crate) fn planned(
     loaded: &Loaded,
-    edges: &Edges,
+    table: &EdgeTable,
     request: &Request,
 ) -> Result<Answer, AllocError>
-    requires edges { AreEdges loaded.now edges.now }
+    requires table { IsEdgeTable loaded.now table.now }
     requires host { request.now.host ≡ loaded.now.host }
     requires names { IsOfGraph loaded.now request.now }
     ensures returned { IfOk result (IsPlanReturned loaded.now request.now) }
 {
-    match plan_of(loaded, edges, request) {
+    match plan_of(loaded, table, request) {
         Ok(plan) => Ok(Answer::Planned(plan)),
         Err(Refusal::Memory) => Err(AllocError),
         Err(refusal) => Ok(Answer::Refused(refusal)),
@@ -64,35 +64,26 @@ pub(crate) fn planned(
 }
 
 // The plan of a request, or the first reason why there is none.
-fn plan_of(loaded: &Loaded, edges: &Edges, request: &Request) -> Result<Plan, Refusal>
-    requires edges { AreEdges loaded.now edges.now }
+fn plan_of(loaded: &Loaded, table: &EdgeTable, request: &Request) -> Result<Plan, Refusal>
+    requires table { IsEdgeTable loaded.now table.now }
     requires host { request.now.host ≡ loaded.now.host }
     requires names { IsOfGraph loaded.now request.now }
-    ensures plan { IfOk result (IsPlanned loaded.now edges.now request.now) }
-    ensures refusal { IfErr result (IsRefusalOf loaded.now edges.now request.now) }
+    ensures edges { AreEdges loaded.now (edge_map (keys_of loaded.now.names) table.now) }
+    ensures plan { IfOk result (IsPlanned loaded.now (edge_map (keys_of loaded.now.names) table.now) request.now) }
+    ensures refusal { IfErr result (IsRefusalOf loaded.now (edge_map (keys_of loaded.now.names) table.now) request.now) }
 {
-    let graph = Graph::build(loaded, edges);
-    plan(loaded.allocator(), &graph, request)
+    let graph = IndexedGraph::build(loaded, table);
+    plan_by_index(loaded.allocator(), &graph, request)
 }
 
-// The main name of a name of a load.
-fn main_of<'a>(loaded: &'a Loaded, name: &UnitName) -> &'a UnitName
-    requires known { IsKnown loaded.now name.now }
-    ensures main { main_in loaded.now name.now ≡ Some result.now }
+// The unit at an index, shared with the load.
+fn shared_unit(loaded: &Loaded, index: usize) -> Result<Shared<Unit>, AllocError>
+    requires below { index < count_of loaded.now }
+    requires unit { IsUnitIn loaded.now (name_at loaded.now index) }
+    ensures unit { IfOk result (λ unit. unit_in loaded.now (name_at loaded.now index) ≡ Some unit) }
 {
-    match loaded.main(name) {
-        Some(main) => main,
-        None => unreachable!(),
-    }
-}
-
-// The unit of a main name of a load, shared with the load.
-fn shared_unit(loaded: &Loaded, main: &UnitName) -> Result<Shared<Unit>, AllocError>
-    requires unit { IsSome (unit_in loaded.now main.now) }
-    ensures unit { IfOk result (λ unit. unit_in loaded.now main.now ≡ Some unit) }
-{
-    match loaded.resolves_to(main) {
-        Some(NameLoad::Unit(unit)) => unit.try_clone(),
-        Some(NameLoad::Alias(_)) | None => unreachable!(),
+    match &loaded.names()[index].1 {
+        NameLoad::Unit(unit) => unit.try_clone(),
+        NameLoad::Alias(_) => unreachable!(),
     }
 }

@@ -4,23 +4,28 @@
 //!
 //! Promise: convergence.
 //!
-//! A question is put to a store, or to a snapshot, which is the result of loading a store. A question to a node of a
-//! world is put to its store, whatever was put, asked, cut and given before, in whatever order.
+//! A question is put to a store, to a snapshot, which is the result of loading a store, or to a replica whose takes are
+//! tracked, which reads again only what they touched. A question to a node of a world is put to its store, whatever was
+//! put, asked, cut and given before, in whatever order.
 #![tactic(auto)]
 
 mod answers;
+mod caches;
 mod from_loads;
 mod laws;
-mod mirrored;
+mod limits;
 mod names;
 mod questions;
-mod remembered;
+mod renewing;
 mod snapshots;
+mod tracked;
 mod worlds;
 
 pub use answers::{answer_here, answer_question};
+pub use caches::{MOST_SNAPSHOTS, MOST_TOUCHED};
 pub use laws::answer_laws;
+pub use limits::SnapshotLimit;
 pub use questions::{Answer, AnswerFault, LinkedUnit, Question};
-pub use remembered::{MOST_SNAPSHOTS, Snapshots, answer_again};
 pub use snapshots::Snapshot;
+pub use tracked::TrackedReplica;
 pub use worlds::answer_in_world;

@@ -11,7 +11,7 @@ use unit_loads::Unit;
 use unit_name::UnitName;
 
 /// A question about a store, for one host or without a host. Names may be aliases.
-#[derive(Debug, Drop)]
+#[derive(Debug)]
 pub enum Question {
     /// Which unit a name resolves to, what it depends on, and what depends on it.
     Unit {
@@ -27,6 +27,16 @@ pub enum Question {
     Plan(Request),
 }
 
+impl Drop for Question {
+    fn drop(self) {
+        match self {
+            Question::Unit { host: _, name: _ } => (),
+            Question::Pulled { host: _, name: _ } => (),
+            Question::Plan(_) => (),
+        }
+    }
+}
+
 impl Question {
     /// The question's host; none for a question without one. Allocates nothing.
     pub fn host(&self) -> Option<&HostName>
@@ -40,13 +50,19 @@ impl Question {
 }
 
 /// A unit with its edges.
-#[derive(Debug, Drop)]
+#[derive(Debug)]
 pub struct LinkedUnit {
     /// The unit, shared with the load. Its dependencies are given by main names.
     pub unit: Shared<Unit>,
     /// For each kind, in the order of the kinds, the units to which edges of that kind lead, in byte order: those that
     /// the unit names, and those that name it by the inverse kind.
     pub edges: Items<DependencyList>,
+}
+
+impl Drop for LinkedUnit {
+    fn drop(self) {
+        let LinkedUnit { unit: _, edges: _ } = self;
+    }
 }
 
 /// An answer.

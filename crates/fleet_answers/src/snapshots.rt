@@ -1,6 +1,5 @@
 //! The result of loading a store.
 ghost use Rattle.std.specs.{Prelude.{◌≡◌, ◌↔◌, ◌⊎◌, ◌<◌, Err, IfOk, IfErr}, Option.{IfSome, option_copied}};
-ghost use Rattle.inverse_deps.specs.Edges.{AreEdges};
 ghost use Rattle.path_maps.specs.HostViews.{host_view_of};
 ghost use Rattle.parallel_load.specs.{AskedLaws.{asked_for}, Refreshes.{IsBefore}, Refusals.{OnTooMany, OnWorkers}, Universe.{IsTooLarge}};
 ghost use Rattle.parallel_load.specs.declared.faults.LoadFault.TheVariants.{Workers};
@@ -8,27 +7,33 @@ ghost use Rattle.fleet_answers.specs.Answers.{AreKnown, IsSnapshot, IsReturned, 
 
 use crate::from_loads::{linked_unit, planned, pulled};
 use crate::questions::{Answer, Question};
-use inverse_deps::{Edges, Links, are_linked_alike, edges};
+use inverse_deps::EdgeTable;
 use parallel_load::{Gate, LoadFault, Loaded, Refreshed, load_fleet, load_here, refresh_in_place};
-use plain_values::{Items, Shared, TryClone};
+use plain_values::Items;
 use replica_store::{HostName, Place, Store};
 use std::alloc::{AllocError, Global};
 use std::marker::Model;
 use std::thread::Threads;
 use unit_name::UnitName;
 
-/// All units that must be loaded of a store, the links of each, and all edges once a question has needed them.
-/// Contracts see the load.
-#[derive(Debug, Drop)]
+/// All units that must be loaded of a store, and the edges between them. Contracts see the load.
+#[derive(Debug)]
 pub struct Snapshot {
     loaded: Loaded,
-    links: Shared<Links>,
-    edges: Option<Shared<Edges>>,
+    table: EdgeTable,
+}
+
+impl Drop for Snapshot {
+    fn drop(self) {
+        let Snapshot {
+            loaded: _,
+            table: _,
+        } = self;
+    }
 }
 
 impl Model for Snapshot {
-    ghost use Rattle.std.specs.Option.{IfSome};
-    ghost use Rattle.inverse_deps.specs.{Edges.{AreEdges}, Links.{AreLinks}};
+    ghost use Rattle.inverse_deps.specs.Tables.{IsEdgeTable};
     ghost use Rattle.parallel_load.specs.Loads.{LoadMap, coded_load};
 
     ghost Value = { LoadMap };
@@ -37,7 +42,7 @@ impl Model for Snapshot {
 
     ghost view = { λ s. s.loaded };
 
-    ghost invariant = { λ s. AreLinks s.loaded s.links × IfSome s.edges (AreEdges s.loaded) };
+    ghost invariant = { λ s. IsEdgeTable s.loaded s.table };
 }
 
 impl Snapshot {
@@ -45,7 +50,7 @@ impl Snapshot {
     /// is visible. `TooManyUnits` exactly if more than 4,096 names must be loaded, aliases included. `Memory` if memory
     /// runs out.
     ///
-    /// Costs one load (systemd.unit(5)) and the links of each unit. Makes no edges yet.
+    /// Costs one load (systemd.unit(5)) and the edges between its units.
     pub fn of(
         alloc: Global,
         store: &Store,
@@ -82,65 +87,38 @@ impl Snapshot {
         Ok(Snapshot::of_load(loaded)?)
     }
 
-    // A load and its links. Makes no edges yet.
+    // A load and its edges.
     fn of_load(loaded: Loaded) -> Result<Snapshot, AllocError>
         ensures load { IfOk result (λ made. made ≡ loaded) }
     {
-        let alloc = loaded.allocator();
-        let links = Shared::new(alloc, Links::of(alloc, &loaded)?)?;
-        Ok(Snapshot {
-            loaded,
-            links,
-            edges: None,
-        })
+        let table = EdgeTable::of(loaded.allocator(), &loaded)?;
+        Ok(Snapshot { loaded, table })
     }
 
     /// The snapshot of another store for the same host and names, if these places are all at which the two stores show
-    /// different contents. The result, refusals included, is that of `of`, but only what changed is read. Links, and
-    /// edges that were made, are reused if names and dependencies stayed the same.
+    /// different contents. The result, refusals included, is that of `of`, but only what changed is read. If names and
+    /// dependencies stayed the same, the edges are reused.
     pub(crate) fn refreshed(self, store: &Store, touched: &[Place]) -> Result<Snapshot, LoadFault>
         requires before { IsBefore self store.now touched.now }
         ensures snapshot { IfOk result (IsSnapshot (host_view_of store.now self.host) self.extra) }
         ensures over { IfErr result (λ fault. OnTooMany fault (IsTooLarge (host_view_of store.now self.host) self.extra)) }
         ensures no_workers { IfErr result (λ fault. OnWorkers fault ⊥) }
     {
-        let Snapshot {
-            loaded,
-            links,
-            edges,
-        } = self;
+        let Snapshot { loaded, table } = self;
         match refresh_in_place(loaded, store, touched)? {
-            Refreshed::InPlace(loaded) => Ok(Snapshot {
-                loaded,
-                links,
-                edges,
-            }),
-            Refreshed::Anew(before, loaded) => {
-                if are_linked_alike(&before, &loaded) {
-                    return Ok(Snapshot {
-                        loaded,
-                        links,
-                        edges,
-                    });
-                }
-                Ok(Snapshot::of_load(loaded)?)
-            }
+            Refreshed::InPlace(loaded) => Ok(Snapshot { loaded, table }),
+            Refreshed::Anew(_, loaded) => Ok(Snapshot::of_load(loaded)?),
         }
     }
 
-    /// The same snapshot, asked for by these names: links and edges stay. Allocates nothing.
+    /// The same snapshot, asked for by these names: the edges stay. Allocates nothing.
     pub(crate) fn asked_for(self, extra: Items<UnitName>) -> Snapshot
         ensures load { result ≡ asked_for extra self }
     {
-        let Snapshot {
-            loaded,
-            links,
-            edges,
-        } = self;
+        let Snapshot { loaded, table } = self;
         Snapshot {
             loaded: loaded.asked_for(extra),
-            links,
-            edges,
+            table,
         }
     }
 
@@ -151,22 +129,7 @@ impl Snapshot {
         &self.loaded
     }
 
-    /// All edges between the units. Made once, then cached. Fails only if memory runs out.
-    pub fn edges(&mut self) -> Result<Shared<Edges>, AllocError>
-        ensures edges { IfOk result (AreEdges self.old) }
-        ensures load { self.new ≡ self.old }
-    {
-        if let Some(made) = &self.edges {
-            return made.try_clone();
-        }
-        let alloc = self.loaded.allocator();
-        let made = Shared::new(alloc, edges(alloc, &self.loaded)?)?;
-        self.edges = Some(made.try_clone()?);
-        Ok(made)
-    }
-
-    /// Answers a question for its host, if all its names are in the load. What a unit pulls, and plans, need all edges,
-    /// which are then cached. Fails only if memory runs out.
+    /// Answers a question for its host, if all its names are in the load. Fails only if memory runs out.
     pub fn answer(&mut self, question: &Question) -> Result<Answer, AllocError>
         requires host { self.old.host ≡ host_asked question.now }
         requires known { AreKnown self.old (names_asked question.now) }
@@ -175,17 +138,12 @@ impl Snapshot {
     {
         match question {
             Question::Unit { name, .. } => {
-                let unit = linked_unit(self.loaded(), self.links.get(), name)?;
-                Ok(Answer::Unit(unit))
+                Ok(Answer::Unit(linked_unit(&self.loaded, &self.table, name)?))
             }
             Question::Pulled { name, .. } => {
-                let edges = self.edges()?;
-                Ok(Answer::Pulled(pulled(self.loaded(), edges.get(), name)?))
+                Ok(Answer::Pulled(pulled(&self.loaded, &self.table, name)?))
             }
-            Question::Plan(request) => {
-                let edges = self.edges()?;
-                planned(self.loaded(), edges.get(), request)
-            }
+            Question::Plan(request) => planned(&self.loaded, &self.table, request),
         }
     }
 }

@@ -1,6 +1,6 @@
 -- Commands between nodes: from the shell's state to the outcome.
 use Rattle.std.proofs.Common.{◌++◌, ◌+◌, ◌-◌, ◌<◌, ◌==◌, ◌∷◌, ◌≡◌}
-use Rattle.fleet_script.proofs.Prelude.{[], ap, arith, AtNode, Bool, bytes_eq, changed_line, changed_places, cond, Continues, count_by, cut, digest_of, Edit, edit_of, entries_line, Entry, entry_cmp_total, entry_of, EntryMap, eq-eqb, eqb-true, Err, false, get_from_edits_of, get_or, Give, Gives, Global, Goes, happened, held, Holds, if_any, inl, inr, is_eq, is_other, IsAmong, IsJoinedAt, IsNamed, IsPiece, join, join-nothing, join_idem, joined_with, Keeps, length, List, map, MatchOption, merged, merged_all, nil_from_length, None, not, Ok, OnOk, Option, parted, piece_named, PlaceParts, refl, Refuses, Replicated, Result, ScriptWorld, Sends, SendsTo, set, set-get_or, Some, subst, sum_by-cons, sum_of, sym, tied_itself, true, true≢false, UnknownNode, UnknownPiece, Vec, VersionMap, ℕ, ◌∙◌}
+use Rattle.fleet_script.proofs.Prelude.{[], ap, arith, AtNode, Bool, bytes_eq, changed_line, changed_places, cond, Continues, count_by, cut, digest_of, Edit, edit_of, entries_line, Entry, entry_cmp_total, entry_of, EntryMap, eq-eqb, eqb-true, Err, false, get_from_edits_of, get_or, Give, Gives, Global, Goes, happened, held, Holds, if_any, IfOk, inl, inr, is_eq, is_other, IsAmong, IsJoinedAt, IsNamed, IsPiece, join, join-nothing, join_idem, joined_with, Keeps, length, List, map, MatchOption, merged, merged_all, nil_from_length, None, not, Ok, OnOk, Option, parted, piece_named, PlaceParts, refl, Refuses, Replicated, Result, ScriptWorld, Sends, SendsTo, set, set-get_or, Some, subst, sum_by-cons, sum_of, sym, tied_itself, true, true≢false, UnknownNode, UnknownPiece, Vec, VersionMap, ℕ, ◌∙◌}
 use Rattle.fleet_script.proofs.Nodes.{at_place, get_or_any, get_or_here, get_or_there, get_or_twice, holds_merge, holds_part, holds_send, length_set, set_twice, slice_get_at}
 use Rattle.std.specs.FinMap as finmap
 
@@ -54,6 +54,16 @@ module _ (nodes : List Replicated) (from to : ℕ) (lt_from : from < length node
       let writer : merged.writer ≡ (get_or nodes to d).writer = ap (λ (x : Replicated). x.writer) ok ∙ ap (λ (x : Replicated). x.writer) mine in
       let store : merged.store ≡ join (get_or nodes to d).store (get_or nodes from d).store = ap (λ (x : Replicated). x.store) ok ∙ join_other o there d in
       set_twice nodes to empty merged ∙ (λ i. set nodes to (record { store = store i; writer = writer i }))
+
+-- the places that change are counted
+pub count_changed : (nodes : List Replicated) (to : ℕ) (r empty merged : Replicated) {E : Type 0} (outcome : Result ℕ E) → to < length nodes → r ≡ get_or nodes to r
+    → IfOk outcome (λ n. n ≡ changed_places r.store merged.store)
+    → IfOk outcome (λ n. (d : Replicated) → n ≡ changed_places (get_or nodes to d).store (get_or (set (set nodes to empty) to merged) to d).store)
+count_changed nodes to r empty merged (Err e) lt is h = tt
+count_changed nodes to r empty merged (Ok n) lt is h = λ d.
+    let new : get_or (set (set nodes to empty) to merged) to d ≡ merged = ap (λ (l : List Replicated). get_or l to d) (set_twice nodes to empty merged) ∙ get_or_here nodes to merged d lt in
+    h ∙ ap (λ (x : Replicated). changed_places x.store merged.store) (is ∙ get_or_any nodes to r d lt)
+    ∙ ap (λ (x : Replicated). changed_places (get_or nodes to d).store x.store) (sym new)
 
 -- and nothing else changes
 pub joined_in : (shell : Keeps) (from to : ℕ) (now : List Replicated) {E : Type 0} (outcome : Result ℕ E)

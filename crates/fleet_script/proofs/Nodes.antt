@@ -12,6 +12,11 @@ module _ {X : Type 0} where
   slice_get_at (y ∷ ys) zero x lt is = ap Some (sym is)
   slice_get_at (y ∷ ys) (suc i) x lt is = slice_get_at ys i x (omega arith) is
 
+  pub get_or_found : (xs : List X) (i : ℕ) (d : X) → i < length xs → slice_get xs i ≡ Some (get_or xs i d)
+  get_or_found [] i d lt = absurd (omega arith)
+  get_or_found (y ∷ ys) zero d lt = refl
+  get_or_found (y ∷ ys) (suc i) d lt = get_or_found ys i d (omega arith)
+
   pub set_same : (xs : List X) (i : ℕ) (x : X) → x ≡ get_or xs i x → set xs i x ≡ xs
   set_same [] i x h = refl
   set_same (y ∷ ys) zero x h = ap (λ z. z ∷ ys) h

@@ -9,9 +9,7 @@ use Rattle.script_commands.specs.declared.commands.Command.TheVariants as comman
 abbrev pub IsReading : Command → Type 0
 IsReading (command.Files node) = Unit {0}
 IsReading (command.Cat node host unit) = Unit {0}
-IsReading (command.Show node host unit) = Unit {0}
-IsReading (command.List node host unit) = Unit {0}
-IsReading (command.Plan node host unit running) = Unit {0}
+IsReading (command.Ask node host inquiry) = Unit {0}
 IsReading (command.Crowd node seats edits) = Unit {0}
 IsReading other = ⊥
 
@@ -19,9 +17,7 @@ IsReading other = ⊥
 abbrev pub of_node : List ℕ → Command → Command
 of_node name (command.Files node) = command.Files name
 of_node name (command.Cat node host unit) = command.Cat name host unit
-of_node name (command.Show node host unit) = command.Show name host unit
-of_node name (command.List node host unit) = command.List name host unit
-of_node name (command.Plan node host unit running) = command.Plan name host unit running
+of_node name (command.Ask node host inquiry) = command.Ask name host inquiry
 of_node name (command.Crowd node seats edits) = command.Crowd name seats edits
 of_node name other = other
 

@@ -2,7 +2,7 @@
 ghost use Rattle.std.specs.{Prelude.{◌≡◌, ◌<◌, ℕ, List, Some, length}, BTreeMap.{get}, Cmp.Lexicographic.{slice_cmp}, Ordering.{nat_cmp}};
 
 use delta_pieces::Piece;
-use fleet_answers::Snapshots;
+use fleet_answers::{SnapshotLimit, TrackedReplica};
 use plain_values::Bytes;
 use replica_store::Replica;
 use script_answers::WorkerCount;
@@ -19,20 +19,32 @@ mod questions;
 type Rendered = Result<Vec<u8>, Fault>;
 
 /// The current replica of each node, in the order in which the nodes were made; by name the indices of the nodes, from
-/// 0, and the current pieces; and the writer numbers in use. Also the worker count and what was last loaded for each
-/// node, neither of which changes any answer.
-#[derive(Drop)]
+/// 0, and the current pieces; and the writer numbers in use. Also the worker count, and what each node may have
+/// cached of the last questions, neither of which changes any answer.
 pub(crate) struct Shell {
-    nodes: Vec<Replica>,
+    nodes: Vec<TrackedReplica>,
     numbers: BTreeMap<Bytes, usize>,
     writers: BTreeSet<u32>,
     pieces: BTreeMap<Bytes, Piece>,
     workers: WorkerCount,
-    snapshots: Snapshots,
+    snapshots: SnapshotLimit,
 
     // Each index is that of a node. If memory runs out while a node is made, a node may be left without a name.
     ghost within: { (name : List ℕ) (at : ℕ) → get (slice_cmp nat_cmp) numbers name ≡ Some at
         → at < length nodes.items },
+}
+
+impl Drop for Shell {
+    fn drop(self) {
+        let Shell {
+            nodes: _,
+            numbers: _,
+            writers: _,
+            pieces: _,
+            workers: _,
+            snapshots: _,
+        } = self;
+    }
 }
 
 impl Shell {
@@ -49,7 +61,7 @@ impl Shell {
             writers: BTreeSet::new(alloc),
             pieces: BTreeMap::new(alloc),
             workers: WorkerCount::one(),
-            snapshots: Snapshots::new(alloc),
+            snapshots: SnapshotLimit::new(alloc),
         }
     }
 
@@ -73,6 +85,6 @@ impl Shell {
             (HasNoNode (kept_in self.now) name.now) }
     {
         let at = self.node_at(alloc, name)?;
-        Ok(&self.nodes[at])
+        Ok(self.nodes[at].replica())
     }
 }

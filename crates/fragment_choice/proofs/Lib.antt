@@ -5,3 +5,4 @@ pub mod Gathering
 pub mod Leads
 pub mod Levels
 pub mod Indexing
+pub mod OwnLinks

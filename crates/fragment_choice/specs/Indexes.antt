@@ -1,8 +1,8 @@
--- The links of a store by the names that they point to: definitions for private clauses.
+-- The links of a store by the names that they point to: what an index is made from, and definitions for private clauses.
 -- Source: this project's own.
-use Rattle.std.proofs.Common.{◌<◌, ◌∷◌, ◌≡◌, ◌≤◌, ◌⊎◌}
-use Rattle.fragment_choice.specs.Prelude.{[], Bool, BTreeMap, Entry, false, get, HostViewMap, instance, IsAmong, IsLevel, IsName, IsTrue, List, Name, name_cmp, None, Option, option_and_then, PathParts, shown, Some, template_of, true, unwrap_or, Vec, viewed_at, with_instance, ℕ}
-use Rattle.fragment_choice.specs.{Choices.{own_choice, own_path}, declared.choices.Choice.{Choice, TheVariants.{Alias, Bad, Fragment, Masked, NotFound}}, LinkedNames.{is_link}, Resolutions.{Chain, Leads}}
+use Rattle.std.proofs.Common.{if◌then◌else◌, ◌<◌, ◌∷◌, ◌≡◌, ◌≤◌, ◌⊎◌}
+use Rattle.fragment_choice.specs.Prelude.{[], All, Bool, BTreeMap, Entry, false, filter_map, get, HostViewMap, instance, is_name, IsAmong, IsLevel, IsName, IsTrue, keys_of, List, Name, name_cmp, None, Option, option_and_then, option_map, PathParts, shown, Some, template_of, true, unwrap_or, Vec, viewed_at, with_instance, ℕ}
+use Rattle.fragment_choice.specs.{Choices.{own_choice, own_path}, declared.choices.Choice.{Choice, TheVariants.{Alias, Bad, Fragment, Masked, NotFound}}, LinkedNames.{is_link}, LinkTargets.{HasOwnLinkTargets, NamedWords, own_alias, Target}, Resolutions.{Chain, Leads}}
 
 -- The names of an optional list; none if it is absent.
 abbrev pub names_in : Option (Vec Name) → List Name
@@ -19,15 +19,37 @@ pub record AreOwners (s : HostViewMap) (t : Name) (owners : List Name) : Type 0 
   pub sound : (o : Name) → IsAmong o owners → own_choice s o o ≡ Some (Alias t)
   pub well_formed : (o : Name) → IsAmong o owners → IsName o
 
--- What the map has for a name, if it has anything, is what the name's own paths say.
-pub record AreOwnChoices (s : HostViewMap) (choices : BTreeMap Name (Option Choice)) : Type 0 where
-  pub each : (o : Name) (said : Option Choice) → get name_cmp choices o ≡ Some said → said ≡ own_choice s o o
-
--- The first map has for some names what their own paths say. The second has for each name exactly those whose own links
--- make them aliases of it.
-pub record IsIndexOf (s : HostViewMap) (choices : BTreeMap Name (Option Choice)) (owners : BTreeMap Name (Vec Name)) : Type 0 where
-  pub known : AreOwnChoices s choices
+-- What the first map has for a name, the name's own links make it an alias of. The second has for each name exactly
+-- those whose own links make them aliases of it.
+pub record IsIndexOf (s : HostViewMap) (aliases : BTreeMap Name Name) (owners : BTreeMap Name (Vec Name)) : Type 0 where
+  pub known : (o t : Name) → get name_cmp aliases o ≡ Some t → own_choice s o o ≡ Some (Alias t)
   pub each : (t : Name) → AreOwners s t (owners_at owners t)
+
+-- A visible link of the name's own is at this level.
+abbrev pub IsOwnAt : HostViewMap → ℕ → Name → Type 0
+IsOwnAt s level n = IsTrue (is_link (viewed_at s (own_path n level)))
+
+-- The same at some level.
+abbrev pub IsOwnLink : HostViewMap → Name → Type 0
+IsOwnLink s n = (level : ℕ) × IsLevel level × IsOwnAt s level n
+
+-- All names with a visible link of their own are among these, and each has its link targets.
+pub record HaveLinks (s : HostViewMap) (all : NamedWords) : Type 0 where
+  pub linked : (n : Name) → IsOwnLink s n → IsAmong n (keys_of all)
+  pub words : All (HasOwnLinkTargets s) all
+
+-- A unit name and what its link targets make it an alias of, if it is one and they do.
+abbrev pub alias_in : Name × List Target → Option (Name × Name)
+alias_in p = if is_name p.0 then option_map (λ t. (p.0, t)) (own_alias p.0 p.1) else None
+
+abbrev pub aliases_in : NamedWords → List (Name × Name)
+aliases_in all = filter_map alias_in all
+
+-- The first map has no other aliases than these; the second has exactly these, by what they are aliases of.
+pub record AreMapsOf (pairs : List (Name × Name)) (aliases : BTreeMap Name Name) (owners : BTreeMap Name (Vec Name)) : Type 0 where
+  pub known : (o t : Name) → get name_cmp aliases o ≡ Some t → IsAmong {X = Name × Name} (o, t) pairs
+  pub there : (o t : Name) → IsAmong {X = Name × Name} (o, t) pairs → IsAmong o (owners_at owners t)
+  pub sound : (o t : Name) → IsAmong o (owners_at owners t) → IsAmong {X = Name × Name} (o, t) pairs
 
 -- What the own paths of the template of `n` say of `n`.
 abbrev pub template_choice : HostViewMap → Name → Choice
@@ -58,20 +80,10 @@ is_alias (Fragment p) = false
 is_alias (Alias m) = true
 is_alias (Bad cause) = false
 
--- A unit name that has this entry, which is a link.
+-- The entry is a link at a path that ends in the name.
 pub record IsOwnEntry (p : PathParts × Entry) (n : Name) : Type 0 where
-  pub name : IsName n
   pub at : p.0.name ≡ n
   pub link : IsTrue (is_link (shown p.1))
-
--- A unit name that has a visible link of its own at this level.
-pub record IsOwnAt (s : HostViewMap) (level : ℕ) (n : Name) : Type 0 where
-  pub name : IsName n
-  pub link : IsTrue (is_link (viewed_at s (own_path n level)))
-
--- The same at some level.
-abbrev pub IsOwnLink : HostViewMap → Name → Type 0
-IsOwnLink s n = (level : ℕ) × IsLevel level × IsOwnAt s level n
 
 -- Names were added, and all names that pass are there.
 pub record Collects (Passes : Name → Type 0) (old new : List Name) : Type 0 where
@@ -101,9 +113,3 @@ pub record Puts (o t : Name) (old new : BTreeMap Name (Vec Name)) : Type 0 where
   pub kept : (n k : Name) → IsAmong n (owners_at old k) → IsAmong n (owners_at new k)
   pub there : IsAmong o (owners_at new t)
   pub sound : (n k : Name) → IsAmong n (owners_at new k) → IsAmong n (owners_at old k) ⊎ ((o ≡ n) × (t ≡ k))
-
--- All names stay, `o` is there under the name that the choice makes it an alias of, and nothing else was added.
-pub record PutsSaid (said : Option Choice) (o : Name) (old new : BTreeMap Name (Vec Name)) : Type 0 where
-  pub kept : (n k : Name) → IsAmong n (owners_at old k) → IsAmong n (owners_at new k)
-  pub there : (t : Name) → said ≡ Some (Alias t) → IsAmong o (owners_at new t)
-  pub sound : (n k : Name) → IsAmong n (owners_at new k) → IsAmong n (owners_at old k) ⊎ ((o ≡ n) × (said ≡ Some (Alias k)))

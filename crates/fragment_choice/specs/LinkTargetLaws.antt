@@ -1,7 +1,7 @@
 -- Equal link targets make the same aliases, and show the same visible names.
 use Rattle.std.proofs.Common.{◌↔◌, ◌∷◌, ◌≡◌, ◌⊎◌}
 use Rattle.fragment_choice.specs.Prelude.{[], ap, arith, Bool, cond, cons_option, Content, Entry, false, File, first_said, Gone, HostViewMap, inl, inr, is_some, IsAmong, IsLevel, IsSome, levels, Link, List, Name, None, Option, option_and_then, option_map, option_or, refl, same_Some, shown, Some, suc, sym, template_of, true, unwrap_or, view, viewed_at, zero, ℕ, ◌∙◌}
-use Rattle.fragment_choice.specs.{Choices.{choice as chosen_for, content_says, is_null, last_component, link_says, own_choice, own_path, own_place, says}, declared.choices.Choice.{Choice}, LeadsLaws.{SameLeads}, LinkTargets.{link_targets, Target, target_at, target_part, targets_in, words_of}, Resolutions.{Leads}}
+use Rattle.fragment_choice.specs.{Choices.{choice as chosen_for, content_says, is_null, last_component, link_says, own_choice, own_path, own_place, says}, declared.choices.Choice.{Choice}, LeadsLaws.{SameLeads}, LinkTargets.{lead_by, lead_of, link_targets, own_alias, said_of, Target, target_at, target_part, targets_in, words_of}, Resolutions.{Leads}}
 use Rattle.std.specs.FinMap as finmap
 use Rattle.fragment_choice.specs.declared.choices.Choice.TheVariants as choice
 
@@ -33,25 +33,6 @@ ViewsDecideLinkTargets =
     → link_targets s n ≡ link_targets t n
 
 -- ---- what link targets say
-
--- The name that a choice makes a name an alias of.
-abbrev lead_of : Choice → Option Name
-lead_of choice.NotFound = None
-lead_of choice.Masked = None
-lead_of (choice.Fragment p) = None
-lead_of (choice.Alias m) = Some m
-lead_of (choice.Bad cause) = None
-
--- What the link targets of the own name `o` say of `n`; `None` if none of them decides.
-abbrev said_of : Name → Name → List Target → Option (Option Name)
-said_of n o [] = None
-said_of n o (None ∷ ts) = Some None
-said_of n o (Some target ∷ ts) = option_or (option_map lead_of (link_says n o (last_component target))) (said_of n o ts)
-
--- What its own link targets and those of its template say of `n`.
-abbrev lead_by : Option (Option Name) → Option Name
-lead_by None = None
-lead_by (Some lead) = lead
 
 map_or : (a b : Option Choice) → option_map lead_of (option_or a b) ≡ option_or (option_map lead_of a) (option_map lead_of b)
 map_or None b = refl
@@ -105,15 +86,23 @@ lead_said s n =
 
 -- ---- aliases
 
+leads_to : (c : Choice) (m : Name) → lead_of c ≡ Some m → c ≡ choice.Alias m
+leads_to choice.NotFound m e = cc (e)
+leads_to choice.Masked m e = cc (e)
+leads_to (choice.Fragment p) m e = cc (e)
+leads_to (choice.Alias o) m e = ap choice.Alias (same_Some _ _ e)
+leads_to (choice.Bad cause) m e = cc (e)
+
 leads_by : (c d : Choice) (m : Name) → lead_of c ≡ lead_of d → c ≡ choice.Alias m → d ≡ choice.Alias m
-leads_by c d m same e = by d (sym same ∙ ap lead_of e)
+leads_by c d m same e = leads_to d m (sym same ∙ ap lead_of e)
+
+-- What its own link targets make a name an alias of, its own paths do.
+pub own_aliases_decide : (s : HostViewMap) (n m : Name) → own_alias n (link_targets s n) ≡ Some m ↔ own_choice s n n ≡ Some (choice.Alias m)
+own_aliases_decide s n m = (λ e. leads (own_choice s n n) (ap lead_by (own_said s n n) ∙ e), λ e. ap lead_by (sym (own_said s n n) ∙ ap (option_map lead_of) e))
   where
-    by : (d : Choice) → lead_of d ≡ Some m → d ≡ choice.Alias m
-    by choice.NotFound e = cc (e)
-    by choice.Masked e = cc (e)
-    by (choice.Fragment p) e = cc (e)
-    by (choice.Alias o) e = ap choice.Alias (same_Some _ _ e)
-    by (choice.Bad cause) e = cc (e)
+    leads : (c : Option Choice) → lead_by (option_map lead_of c) ≡ Some m → c ≡ Some (choice.Alias m)
+    leads None e = cc (e)
+    leads (Some c) e = ap (λ x. Some x) (leads_to c m e)
 
 pub own_words_decide : OwnWordsDecide
 own_words_decide s t n own template m = (

@@ -1,36 +1,36 @@
 //! An index of a store's aliases, by the name that they are aliases of.
-ghost use Rattle.std.specs.{Prelude.{◌≡◌, [], Some, IfOk, OnOk}, BTreeMap.{Updates}, Option.{option_copied}};
+ghost use Rattle.std.specs.{Prelude.{◌≡◌, Some, IfOk, OnOk}, BTreeMap.{Updates}, List.{All}, Map.{keys_of}, Option.{option_copied}};
 ghost use Rattle.edit_sums.specs.Sums.{shown};
 ghost use Rattle.path_maps.specs.HostViews.{host_view_of};
 ghost use Rattle.unit_name.specs.Names.{name_cmp};
-ghost use Rattle.fragment_choice.specs.Choices.{own_choice};
-ghost use Rattle.fragment_choice.specs.Indexes.{AreOwners, Collects, IsIndexOf, IsOwnAt, IsOwnEntry, IsOwnLink, Puts, PutsSaid};
-ghost use Rattle.fragment_choice.specs.LinkedNames.{is_link, unit_of};
+ghost use Rattle.fragment_choice.specs.Indexes.{AreMapsOf, AreOwners, Collects, HaveLinks, IsOwnAt, IsOwnEntry, Puts, alias_in, aliases_in};
+ghost use Rattle.fragment_choice.specs.{LinkTargets.{HasOwnLinkTargets}, LinkedNames.{is_link, unit_of}};
 
-use crate::choices::{Choice, Chooses, own_choice, template_choice};
-use crate::names::put;
+use crate::choices::{Choice, Chooses};
+use crate::link_targets::LinkTargets;
 use load_places::LEVELS;
+use plain_values::Bytes;
 use replica_store::{Content, HostName, HostView, HostViewEntry, Store};
 use std::alloc::{AllocError, Global};
-use std::collections::{BTreeMap, BTreeSet};
+use std::collections::BTreeMap;
 use std::marker::Model;
 use unit_name::{NameFault, UnitName};
 
 // For each name, the names whose own links make them aliases of it.
 type Owners = BTreeMap<UnitName, Vec<UnitName>>;
 
-// For each name with a link of its own, what its own paths say.
-type OwnChoices = BTreeMap<UnitName, Option<Choice>>;
+// For each name that its own links make an alias, what it is an alias of.
+type OwnAliases = BTreeMap<UnitName, UnitName>;
 
 /// An index of the aliases that a host sees of a store, or that are seen without a host, by the name that they are
-/// aliases of. It also caches, for each name with a link of its own, what the name's own paths say.
+/// aliases of, and of what each name's own links make it an alias of.
 ///
 /// It borrows the store. Made once, it resolves names of the store and finds the names of each unit. In contracts it is
 /// what is seen of the store.
 #[derive(Drop)]
 pub struct AliasIndex<'a> {
     view: HostView<'a>,
-    choices: OwnChoices,
+    aliases: OwnAliases,
     owners: Owners,
 }
 
@@ -44,13 +44,12 @@ impl<'a> Model for AliasIndex<'a> {
 
     ghost view = { λ index. index.view };
 
-    ghost invariant = { λ index. IsIndexOf index.view index.choices index.owners };
+    ghost invariant = { λ index. IsIndexOf index.view index.aliases index.owners };
 }
 
 impl<'a> AliasIndex<'a> {
     /// Makes the index of a store for a host, or without one. Passes once over the places that are seen and whose path
-    /// has one component; then makes one choice for each unit name with a link there, and caches it. Fails only if
-    /// memory runs out.
+    /// has one component; then reads the link targets of each name with a link there. Fails only if memory runs out.
     pub fn of(
         alloc: Global,
         store: &'a Store,
@@ -59,10 +58,24 @@ impl<'a> AliasIndex<'a> {
         ensures view { IfOk result (λ index. index ≡ host_view_of store.now (option_copied host.entry)) }
     {
         let view = store.host_view(host);
-        let (choices, owners) = indexed(alloc, &view)?;
+        let targets = linked_targets(alloc, &view)?;
+        AliasIndex::of_targets(alloc, view, &targets)
+    }
+
+    /// Makes the index from the link targets of names, where all names with a visible link of their own are among them.
+    /// One pass over these, without a look at the store. Fails only if memory runs out.
+    pub fn of_targets(
+        alloc: Global,
+        view: HostView<'a>,
+        targets: &[(Bytes, LinkTargets)],
+    ) -> Result<AliasIndex<'a>, AllocError>
+        requires targets { HaveLinks view targets.now }
+        ensures view { IfOk result (λ index. index ≡ view.entry) }
+    {
+        let (aliases, owners) = indexed(alloc, targets)?;
         Ok(AliasIndex {
             view,
-            choices,
+            aliases,
             owners,
         })
     }
@@ -83,73 +96,64 @@ impl<'a> AliasIndex<'a> {
             None => &[],
         }
     }
-
-    // Returns what a name's own paths say of it: from the cache if it has a link of its own, else from the store.
-    fn own_choice_of(&self, alloc: Global, name: &UnitName) -> Result<Option<Choice>, AllocError>
-        ensures choice { IfOk result (λ said. said ≡ own_choice self.now name.now name.now) }
-    {
-        match self.choices.get(name) {
-            Some(Some(said)) => Ok(Some(said.try_clone()?)),
-            Some(None) => Ok(None),
-            None => own_choice(alloc, &self.view, name, name),
-        }
-    }
 }
 
 impl<'a> Chooses for AliasIndex<'a> {
     ghost in_view = { λ index. index };
 
     fn choose(&self, alloc: Global, name: &UnitName) -> Result<Choice, AllocError> {
-        match self.own_choice_of(alloc, name)? {
-            Some(said) => Ok(said),
-            None => template_choice(alloc, &self.view, name),
+        match self.aliases.get(name) {
+            Some(alias) => Ok(Choice::Alias(alias.try_clone()?)),
+            None => self.view.choose(alloc, name),
         }
     }
 }
 
-// Returns the choice of each name that has a link of its own, and the names that are aliases by their own links, by
-// what they are aliases of.
-fn indexed(alloc: Global, view: &HostView) -> Result<(OwnChoices, Owners), AllocError>
-    ensures index { IfOk result (λ it. IsIndexOf view.now it.0 it.1) }
+// Returns what each of these names is an alias of by its link targets, and the same by what they are aliases of.
+fn indexed(
+    alloc: Global,
+    targets: &[(Bytes, LinkTargets)],
+) -> Result<(OwnAliases, Owners), AllocError>
+    ensures index { IfOk result (λ it. AreMapsOf (aliases_in targets.now) it.0 it.1) }
 {
-    let mut choices = BTreeMap::new(alloc);
+    let mut aliases = BTreeMap::new(alloc);
     let mut owners = BTreeMap::new(alloc);
-    for own in linked_names(alloc, view)? {
-        let said = own_choice(alloc, view, &own, &own)?;
-        put_owner(alloc, &mut owners, &own, &said)?;
-        put_choice(&mut choices, own, said)?;
+    for (name, links) in targets {
+        if let Some((own, alias)) = alias_in(alloc, name, links)? {
+            put_under(alloc, &mut owners, alias.try_clone()?, own.try_clone()?)?;
+            put_alias(&mut aliases, own, alias)?;
+        }
     }
-    Ok((choices, owners))
+    Ok((aliases, owners))
 }
 
-// Stores under a name what its own paths say.
-fn put_choice(
-    choices: &mut OwnChoices,
-    own: UnitName,
-    said: Option<Choice>,
-) -> Result<(), AllocError>
-    ensures put { OnOk result (Updates name_cmp choices.old choices.new own (Some said)) }
+// Returns the unit name that these bytes are, and what its link targets make it an alias of, if they are one and do.
+fn alias_in(
+    alloc: Global,
+    name: &Bytes,
+    targets: &LinkTargets,
+) -> Result<Option<(UnitName, UnitName)>, AllocError>
+    ensures alias { IfOk result (λ alias. alias ≡ alias_in (name.now, targets.now)) }
 {
-    match choices.insert(own, said) {
+    if !targets.begin_with_link() {
+        return Ok(None);
+    }
+    let Some(own) = unit_of(alloc, name.as_slice())? else {
+        return Ok(None);
+    };
+    match targets.alias(alloc, &own)? {
+        Some(alias) => Ok(Some((own, alias))),
+        None => Ok(None),
+    }
+}
+
+// Stores what a name is an alias of.
+fn put_alias(aliases: &mut OwnAliases, own: UnitName, alias: UnitName) -> Result<(), AllocError>
+    ensures put { OnOk result (Updates name_cmp aliases.old aliases.new own (Some alias)) }
+{
+    match aliases.insert(own, alias) {
         Ok(_) => Ok(()),
         Err(_) => Err(AllocError),
-    }
-}
-
-// Stores a name under what its choice makes it an alias of.
-fn put_owner(
-    alloc: Global,
-    owners: &mut Owners,
-    own: &UnitName,
-    said: &Option<Choice>,
-) -> Result<(), AllocError>
-    ensures put { OnOk result (PutsSaid said.now own.now owners.old owners.new) }
-{
-    match said.as_ref() {
-        Some(Choice::Alias(target)) => {
-            put_under(alloc, owners, target.try_clone()?, own.try_clone()?)
-        }
-        _ => Ok(()),
     }
 }
 
@@ -170,48 +174,52 @@ fn put_under(
     }
 }
 
-// Returns the unit names that have a visible link of their own at some level.
-fn linked_names(alloc: Global, view: &HostView) -> Result<BTreeSet<UnitName>, AllocError>
-    ensures linked { IfOk result (λ names. Collects (IsOwnLink view.now) [] names.keys) }
+// Returns the names that have a visible link of their own at some level, each with its link targets; a name with links
+// at several levels comes as often.
+fn linked_targets(alloc: Global, view: &HostView) -> Result<Vec<(Bytes, LinkTargets)>, AllocError>
+    ensures targets { IfOk result (λ targets. HaveLinks view.now targets.items) }
 {
-    let mut names = BTreeSet::new(alloc);
+    let mut targets = Vec::new(alloc);
     for level in 0..LEVELS {
-        add_linked(alloc, &mut names, view, level)?;
+        add_linked(alloc, &mut targets, view, level)?;
     }
-    Ok(names)
+    Ok(targets)
 }
 
 // Adds the names that have one at this level.
 fn add_linked(
     alloc: Global,
-    names: &mut BTreeSet<UnitName>,
+    targets: &mut Vec<(Bytes, LinkTargets)>,
     view: &HostView,
     level: u8,
 ) -> Result<(), AllocError>
-    ensures added { OnOk result (Collects (IsOwnAt view.now level) names.old.keys names.new.keys) }
+    ensures added { OnOk result (Collects (IsOwnAt view.now level) (keys_of targets.old.items) (keys_of targets.new.items)) }
+    ensures own { OnOk result (All (HasOwnLinkTargets view.now) targets.old.items → All (HasOwnLinkTargets view.now) targets.new.items) }
 {
     let mut entries = view.entries_in(level, b"");
     while let Some(placed) = entries.next_entry() {
-        add_own(alloc, names, &placed)?;
+        add_entry(alloc, targets, view, &placed)?;
     }
     Ok(())
 }
 
-// Adds the name of an entry if it is a unit name and the entry is a link.
-fn add_own(
+// Adds the name of an entry with its link targets, if the entry is a link.
+fn add_entry(
     alloc: Global,
-    names: &mut BTreeSet<UnitName>,
+    targets: &mut Vec<(Bytes, LinkTargets)>,
+    view: &HostView,
     placed: &HostViewEntry,
 ) -> Result<(), AllocError>
-    ensures added { OnOk result (Collects (IsOwnEntry placed.now) names.old.keys names.new.keys) }
+    ensures added { OnOk result (Collects (IsOwnEntry placed.now) (keys_of targets.old.items) (keys_of targets.new.items)) }
+    ensures own { OnOk result (All (HasOwnLinkTargets view.now) targets.old.items → All (HasOwnLinkTargets view.now) targets.new.items) }
 {
     if !is_link(placed) {
         return Ok(());
     }
-    match unit_of(alloc, placed.name().as_slice())? {
-        Some(name) => put(names, name),
-        None => Ok(()),
-    }
+    let name = placed.name();
+    let own = LinkTargets::of(alloc, view, name.as_slice())?;
+    targets.push((name.try_clone()?, own))?;
+    Ok(())
 }
 
 // Returns whether an entry is a link.

@@ -43,21 +43,6 @@ pub enum Choice {
     Bad(Cause),
 }
 
-impl Choice {
-    /// Returns an equal choice. Fails only if memory runs out.
-    pub fn try_clone(&self) -> Result<Choice, AllocError>
-        ensures copy { IfOk result (λ copy. copy ≡ self.now) }
-    {
-        match self {
-            Choice::NotFound => Ok(Choice::NotFound),
-            Choice::Masked => Ok(Choice::Masked),
-            Choice::Fragment(place) => Ok(Choice::Fragment(place.try_clone()?)),
-            Choice::Alias(name) => Ok(Choice::Alias(name.try_clone()?)),
-            Choice::Bad(cause) => Ok(Choice::Bad(*cause)),
-        }
-    }
-}
-
 // Makes the choices for names.
 pub(crate) trait Chooses {
     // What is seen of a store.
@@ -174,8 +159,8 @@ fn entry_says(
     }
 }
 
-// Returns what a link says whose target ends in this component.
-fn link_says(
+/// Returns what a link says whose target ends in this component.
+pub(crate) fn link_says(
     alloc: Global,
     name: &UnitName,
     own: &UnitName,

@@ -8,12 +8,14 @@
 //! - `names_of`: all names of a unit.
 //! - `AliasIndex`: an index of a store's aliases, made once, that resolves many names and lists the names of many
 //!   units.
+//! - `LinkTargets`: what a name's own paths say of aliases.
 //! - `choice_laws` and `alias_laws`: what the definitions imply.
 #![tactic(auto)]
 
 mod aliases;
 mod choices;
 mod laws;
+mod link_targets;
 mod links;
 mod names;
 mod resolutions;
@@ -21,5 +23,6 @@ mod resolutions;
 pub use aliases::AliasIndex;
 pub use choices::{Cause, Choice, choose};
 pub use laws::{alias_laws, choice_laws};
+pub use link_targets::LinkTargets;
 pub use names::names_of;
 pub use resolutions::{Resolution, resolve};

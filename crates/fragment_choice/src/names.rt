@@ -201,7 +201,7 @@ fn gather_owners(others: &mut BTreeSet<UnitName>, owners: &[UnitName]) -> Result
 }
 
 // Adds a name to a set.
-pub(crate) fn put(others: &mut BTreeSet<UnitName>, name: UnitName) -> Result<(), AllocError>
+fn put(others: &mut BTreeSet<UnitName>, name: UnitName) -> Result<(), AllocError>
     ensures put { OnOk result (others.new.keys ≡ insert_key name_cmp others.old.keys name) }
 {
     match others.insert(name) {

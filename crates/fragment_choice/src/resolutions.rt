@@ -38,8 +38,8 @@ pub fn resolve(
 impl<'a> AliasIndex<'a> {
     /// Follows a name's aliases in the index's store, as the function `resolve` does.
     ///
-    /// Makes as many choices, but what a name's own links say comes from the index, without asking the store. Fails
-    /// only if memory runs out.
+    /// Makes as many choices, but what a name's own links make it an alias of comes from the index, without asking the
+    /// store. Fails only if memory runs out.
     pub fn resolve(&self, alloc: Global, name: &UnitName) -> Result<Resolution, AllocError>
         ensures resolution { IfOk result (λ it. it ≡ resolution self.now name.now) }
         ensures chain { IfOk result (Resolves self.now name.now) }

@@ -1,6 +1,6 @@
 -- Edges of several kinds, kind by kind, and members among nodes, node by node.
 use Rattle.std.proofs.Common.{◌++◌, ◌+◌, ◌<◌, ◌∷◌, ◌≡◌, ◌≤◌, ◌⊎◌}
-use Rattle.index_rows.proofs.Prelude.{[], All, All-neighbors, ap, append-nil, AreAdjacencyOf, AreSuccessorsOf, arith, below_cmp, Bool, cases_lt, cmp_below, cond, false, filter, filter-append, flat_map-append, get_or, Global, inl, inr, is_member, IsLeast, IsLeastOrNone, IsSpread, length, lesser_of, List, map, MatchOption, min, nat_cmp, neighbors, None, Option, refl, Some, subst, suc, successors_inside, sym, take, take_more, true, Vec, zero, ℕ, ◌∙◌}
+use Rattle.index_rows.proofs.Prelude.{[], All, All-neighbors, ap, append-nil, AreAdjacencyOf, AreSuccessorsOf, arith, below_cmp, Bool, cases_lt, cmp_below, cond, false, filter, filter-append, flat_map-append, get_or, inl, inr, is_member, IsLeast, IsLeastOrNone, IsSpread, length, lesser_of, List, map, MatchOption, min, nat_cmp, neighbors, None, Option, refl, Some, subst, suc, successors_inside, sym, take, take_more, true, zero, ℕ, ◌∙◌}
 use Rattle.index_rows.proofs.Levels.{IsSpread-append}
 
 -- ---- members
@@ -32,10 +32,10 @@ module _ (s0 s : List Bool) (t0 t : List ℕ) (inside : List Bool) (old nodes : 
 
 -- ---- one more kind
 
-pub spread_kind : (s0 s s1 : List Bool) (t0 t t1 : List ℕ) (inside : List Bool) (node : ℕ) (old kinds : List (List (Vec ℕ Global))) (adjacency : List (Vec ℕ Global)) → kinds ≡ old ++ adjacency ∷ []
+pub spread_kind : (s0 s s1 : List Bool) (t0 t t1 : List ℕ) (inside : List Bool) (node : ℕ) (old kinds : List (List (List ℕ))) (adjacency : List (List ℕ)) → kinds ≡ old ++ adjacency ∷ []
     → IsSpread s0 s t0 t (successors_inside inside old node) → IsSpread s s1 t t1 (filter (is_member inside) (neighbors adjacency node)) → IsSpread s0 s1 t0 t1 (successors_inside inside kinds node)
 spread_kind s0 s s1 t0 t t1 inside node old kinds adjacency e h k =
-    let f : List (Vec ℕ Global) → List ℕ = λ r. filter (is_member inside) (neighbors r node) in
+    let f : List (List ℕ) → List ℕ = λ r. filter (is_member inside) (neighbors r node) in
     let P : List ℕ → Type 0 = λ l. IsSpread s0 s1 t0 t1 l in
     let here : successors_inside inside kinds node ≡ successors_inside inside old node ++ f adjacency =
     ap (λ ks. successors_inside inside ks node) e ∙ flat_map-append f old (adjacency ∷ []) ∙ ap (λ l. successors_inside inside old node ++ l) (append-nil (f adjacency)) in
@@ -77,7 +77,7 @@ least_same P Q to from (Some x) h = record { member = to x h.member; least = λ 
 
 -- ---- the kinds, as a loop meets them
 
-module _ {A : Type 0} (f : A → List (Vec ℕ Global)) where
+module _ {A : Type 0} (f : A → List (List ℕ)) where
   mapped_at : (xs : List A) (i : ℕ) (x : A) → i < length xs → x ≡ get_or xs i x → get_or (map f xs) i (f x) ≡ f x
   mapped_at [] i x l e = absurd (omega arith)
   mapped_at (y ∷ ys) zero x l e = ap f (sym e)
@@ -87,27 +87,27 @@ module _ {A : Type 0} (f : A → List (Vec ℕ Global)) where
   length_mapped [] = refl
   length_mapped (y ∷ ys) = ap suc (length_mapped ys)
 
-  module _ (kinds : List (List (Vec ℕ Global))) (items xs : List A) (read : xs ≡ items) (view : map f items ≡ kinds) (i : ℕ) (x : A) (l : i < length xs) (e : x ≡ get_or xs i x) where
+  module _ (kinds : List (List (List ℕ))) (items xs : List A) (read : xs ≡ items) (view : map f items ≡ kinds) (i : ℕ) (x : A) (l : i < length xs) (e : x ≡ get_or xs i x) where
     same : map f xs ≡ kinds
     same = ap (map f) read ∙ view
 
     pub kind_more : take (i + 1) kinds ≡ take i kinds ++ f x ∷ []
     kind_more =
-        let P : List (List (Vec ℕ Global)) → Type 0 = λ ks. take (i + 1) ks ≡ take i ks ++ f x ∷ [] in
-        let Q : List (Vec ℕ Global) → Type 0 = λ y. take (i + 1) (map f xs) ≡ take i (map f xs) ++ y ∷ [] in
+        let P : List (List (List ℕ)) → Type 0 = λ ks. take (i + 1) ks ≡ take i ks ++ f x ∷ [] in
+        let Q : List (List ℕ) → Type 0 = λ y. take (i + 1) (map f xs) ≡ take i (map f xs) ++ y ∷ [] in
         subst P same (subst Q (mapped_at xs i x l e) (take_more (map f xs) i (f x) (let k = length_mapped xs in omega (arith, k, l))))
 
     pub kind_adjacency : (n : ℕ) → AreSuccessorsOf n kinds → AreAdjacencyOf n (f x)
     kind_adjacency n a =
-        let P : List (List (Vec ℕ Global)) → Type 0 = λ ks. AreSuccessorsOf n ks in
+        let P : List (List (List ℕ)) → Type 0 = λ ks. AreSuccessorsOf n ks in
         subst (AreAdjacencyOf n) (mapped_at xs i x l e) (subst P (sym same) a i (f x) (let k = length_mapped xs in omega (arith, k, l)))
 
 -- the node has an adjacency list
-pub neighbors_there : (n m : ℕ) (adjacency : List (Vec ℕ Global)) (node : ℕ) → AreAdjacencyOf n adjacency → m ≡ n → node < m → node < length adjacency
+pub neighbors_there : (n m : ℕ) (adjacency : List (List ℕ)) (node : ℕ) → AreAdjacencyOf n adjacency → m ≡ n → node < m → node < length adjacency
 neighbors_there n m adjacency node a e l = let one = a.one_each in omega (arith, one, e, l)
 
 -- and its nodes are below the count
-pub neighbors_inside : (n m : ℕ) (adjacency : List (Vec ℕ Global)) (node : ℕ) (r : List ℕ) → AreAdjacencyOf n adjacency → m ≡ n → r ≡ neighbors adjacency node → All (λ v. v < m) r
+pub neighbors_inside : (n m : ℕ) (adjacency : List (List ℕ)) (node : ℕ) (r : List ℕ) → AreAdjacencyOf n adjacency → m ≡ n → r ≡ neighbors adjacency node → All (λ v. v < m) r
 neighbors_inside n m adjacency node r a e f =
     let P : List ℕ → Type 0 = λ l. All (λ v. v < m) l in
     let Q : ℕ → Type 0 = λ k. All (λ v. v < k) (neighbors adjacency node) in

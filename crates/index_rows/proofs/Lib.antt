@@ -1,8 +1,7 @@
 pub mod Prelude
+pub mod Cutting
 pub mod Listing
 pub mod Spreading
-pub mod Notes
 pub mod Works
-pub mod Building
 pub mod Levels
 pub mod Insides

@@ -1,26 +1,20 @@
--- Adjacency lists: what they hold, and how they are transposed.
-use Rattle.std.proofs.Common.{◌++◌, ◌+◌, ◌<◌, ◌↔◌, ◌∷◌, ◌≡◌, ◌≤◌, ◌⊎◌}
-use Rattle.index_rows.specs.Prelude.{[], All, among_from_contains, ap, arith, Bool, cases_eq, cond, Contains-get_or, eq-eqb, eqb, false, get_or, Global, inl, inr, IsAmong, length, List, ne_eqb, refl, suc, sym, take, true, Vec, zero, ℕ, ◌∙◌}
-use Rattle.index_rows.specs.{Adjacency.{AllBelow, AreTransposed, neighbors, times}, ListLaws.{All-among}}
-
--- the adjacency list that indexing reads
-pub neighbors-at : (adjacency : List (Vec ℕ Global)) (v : ℕ) (r : Vec ℕ Global) → v < length adjacency → r ≡ get_or adjacency v r → neighbors adjacency v ≡ r.items
-neighbors-at [] v r lt e = absurd (omega arith)
-neighbors-at (x ∷ xs) zero r lt e = ap (λ (y : Vec ℕ Global). y.items) (sym e)
-neighbors-at (x ∷ xs) (suc v) r lt e = neighbors-at xs v r (omega arith) e
+-- Adjacency lists: what they hold, and how often.
+use Rattle.std.proofs.Common.{◌++◌, ◌+◌, ◌<◌, ◌∷◌, ◌≡◌, ◌≤◌, ◌⊎◌}
+use Rattle.index_rows.specs.Prelude.{[], All, among_from_contains, ap, arith, Bool, cases_eq, cond, Contains-get_or, eq-eqb, eqb, false, get_or, inl, inr, IsAmong, length, List, ne_eqb, refl, suc, sym, take, true, zero, ℕ, ◌∙◌}
+use Rattle.index_rows.specs.{Adjacency.{AllBelow, neighbors, times}, ListLaws.{All-among}}
 
 -- past the last list there is none
-pub neighbors-past : (adjacency : List (Vec ℕ Global)) (v : ℕ) → length adjacency ≤ v → neighbors adjacency v ≡ []
+pub neighbors-past : (adjacency : List (List ℕ)) (v : ℕ) → length adjacency ≤ v → neighbors adjacency v ≡ []
 neighbors-past [] v l = refl
 neighbors-past (r ∷ rs) zero l = absurd (omega arith)
 neighbors-past (r ∷ rs) (suc v) l = neighbors-past rs v (omega arith)
 
-pub All-neighbors : (n : ℕ) (adjacency : List (Vec ℕ Global)) (v : ℕ) → AllBelow n adjacency → All (λ u. u < n) (neighbors adjacency v)
+pub All-neighbors : (n : ℕ) (adjacency : List (List ℕ)) (v : ℕ) → AllBelow n adjacency → All (λ u. u < n) (neighbors adjacency v)
 All-neighbors n [] v h = λ k d lt. absurd (omega arith)
 All-neighbors n (x ∷ xs) zero h = h zero x (omega arith)
 All-neighbors n (x ∷ xs) (suc v) h = All-neighbors n xs v (λ k d lt. h (suc k) d (omega arith))
 
-pub neighbors-below : (n : ℕ) (adjacency : List (Vec ℕ Global)) (u v : ℕ) → AllBelow n adjacency → IsAmong v (neighbors adjacency u) → v < n
+pub neighbors-below : (n : ℕ) (adjacency : List (List ℕ)) (u v : ℕ) → AllBelow n adjacency → IsAmong v (neighbors adjacency u) → v < n
 neighbors-below n adjacency u v below h = All-among (λ w. w < n) (neighbors adjacency u) v (All-neighbors n adjacency u below) h
 
 -- ---- how often
@@ -82,25 +76,8 @@ times_room [] i lt = absurd (omega arith)
 times_room (x ∷ xs) zero lt = let a = times-cons_same x xs x refl in omega (arith, a)
 times_room (x ∷ xs) (suc i) lt = lt_at (eqb x (get_or xs i 0)) _ _ (times_room xs i (omega arith))
 
--- ---- transposed lists
-
-pub AreTransposed-among : (adjacency others : List (Vec ℕ Global)) → AreTransposed adjacency others → (u v : ℕ) → IsAmong v (neighbors others u) ↔ IsAmong u (neighbors adjacency v)
-AreTransposed-among adjacency others t u v = (there, back)
-  where
-    there : IsAmong v (neighbors others u) → IsAmong u (neighbors adjacency v)
-    there h =
-        let a = times-in v (neighbors others u) h in
-        let e = t u v in
-        elim (times_cases u (neighbors adjacency v)) [ inl z ↦ absurd (omega (arith, a, e, z)) | inr k ↦ k ]
-
-    back : IsAmong u (neighbors adjacency v) → IsAmong v (neighbors others u)
-    back h =
-        let a = times-in u (neighbors adjacency v) h in
-        let e = t u v in
-        elim (times_cases v (neighbors others u)) [ inl z ↦ absurd (omega (arith, a, e, z)) | inr k ↦ k ]
-
 -- adjacency lists whose members are below n, said list by list
-pub AllBelow-adjacency : (n : ℕ) (adjacency : List (Vec ℕ Global)) → ((u v : ℕ) → IsAmong v (neighbors adjacency u) → v < n) → AllBelow n adjacency
+pub AllBelow-adjacency : (n : ℕ) (adjacency : List (List ℕ)) → ((u v : ℕ) → IsAmong v (neighbors adjacency u) → v < n) → AllBelow n adjacency
 AllBelow-adjacency n [] h k d lt = absurd (omega arith)
-AllBelow-adjacency n (r ∷ rs) h zero d lt = λ i e l. h zero (get_or r.items i e) (among_from_contains _ r.items (Contains-get_or r.items i e l))
+AllBelow-adjacency n (r ∷ rs) h zero d lt = λ i e l. h zero (get_or r i e) (among_from_contains _ r (Contains-get_or r i e l))
 AllBelow-adjacency n (r ∷ rs) h (suc k) d lt = AllBelow-adjacency n rs (λ u. h (suc u)) k d (omega arith)

@@ -1,5 +1,6 @@
 pub mod Prelude
 pub mod Adjacency
+pub mod Compressed
 pub mod Least
 pub mod ListLaws
 pub mod BitSetLaws

@@ -1,7 +1,7 @@
 -- What code adds to bit sets and lists. Only private clauses cite these, and the clause of `lesser`.
 use Rattle.std.proofs.Common.{◌+◌, ◌≡◌, ◌⊎◌}
-use Rattle.index_rows.specs.Prelude.{Bool, Global, IsAmong, length, List, MatchOption, min, nat_cmp, None, Option, Some, Vec, ℕ}
-use Rattle.index_rows.specs.{Adjacency.{IsMember, neighbors as neighbors_of, times}, BitSetLaws.{unset}, Least.{IsLeast}}
+use Rattle.index_rows.specs.Prelude.{Bool, IsAmong, length, List, MatchOption, min, nat_cmp, None, Option, Some, ℕ}
+use Rattle.index_rows.specs.{Adjacency.{IsMember}, BitSetLaws.{unset}, Least.{IsLeast}}
 
 -- the nodes of a list were added to the set, and those that weren't in it before were added to the noted ones
 pub record IsSpread (old new : List Bool) (before after nodes : List ℕ) : Type 0 where
@@ -13,12 +13,6 @@ pub record IsSpread (old new : List Bool) (before after nodes : List ℕ) : Type
   pub noted : (v : ℕ) → IsMember new v → IsMember old v ⊎ IsAmong v after
   pub notes_origin : (v : ℕ) → IsAmong v after → IsAmong v before ⊎ (IsAmong v nodes × ¬ IsMember old v)
   pub sum : unset new + length after ≡ unset old + length before
-
--- `node` was added to the adjacency lists of the nodes of a list, as often as these occur there
-pub record IsNoted (old new : List (Vec ℕ Global)) (nodes : List ℕ) (node : ℕ) : Type 0 where
-  pub units : length new ≡ length old
-  pub same : (u v : ℕ) → node ≡ v → times v (neighbors_of new u) ≡ times v (neighbors_of old u) + times u nodes
-  pub other : (u v : ℕ) → ¬ (node ≡ v) → times v (neighbors_of new u) ≡ times v (neighbors_of old u)
 
 -- the least member of a set, or none if it is empty
 abbrev pub IsLeastOrNone : (ℕ → Type 0) → Option ℕ → Type 0

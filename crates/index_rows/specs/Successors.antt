@@ -1,18 +1,18 @@
 -- Edges of one or more kinds between nodes: each kind has an adjacency list for each node.
 -- Source: this project's own.
 use Rattle.std.proofs.Common.{◌==◌, ◌||◌, ◌∷◌, ◌≡◌}
-use Rattle.index_rows.specs.{Adjacency.{AreAdjacencyOf, IsMember, neighbors}, Prelude.{[], All, Bool, false, filter, flat_map, Global, IsAmong, List, slice_index_or, Vec, ℕ}}
+use Rattle.index_rows.specs.{Adjacency.{AreAdjacencyOf, IsMember, neighbors}, Prelude.{[], All, Bool, false, filter, flat_map, IsAmong, List, slice_index_or, ℕ}}
 
 -- the nodes to which an edge of some kind leads from this one
-abbrev pub successors_from : List (List (Vec ℕ Global)) → ℕ → List ℕ
+abbrev pub successors_from : List (List (List ℕ)) → ℕ → List ℕ
 successors_from kinds node = flat_map (λ adjacency. neighbors adjacency node) kinds
 
 -- edges between n nodes: adjacency lists of each kind
-abbrev pub AreSuccessorsOf : ℕ → List (List (Vec ℕ Global)) → Type 0
+abbrev pub AreSuccessorsOf : ℕ → List (List (List ℕ)) → Type 0
 AreSuccessorsOf n kinds = All (AreAdjacencyOf n) kinds
 
 -- an edge leads from the first node to the second, which is a member of the set
-pub record LeadsInside (inside : List Bool) (kinds : List (List (Vec ℕ Global))) (u v : ℕ) : Type 0 where
+pub record LeadsInside (inside : List Bool) (kinds : List (List (List ℕ))) (u v : ℕ) : Type 0 where
   pub step : IsAmong v (successors_from kinds u)
   pub member : IsMember inside v
 
@@ -31,5 +31,5 @@ abbrev pub is_member : List Bool → ℕ → Bool
 is_member bits node = slice_index_or bits node false
 
 -- those successors of a node that are members of the set
-abbrev pub successors_inside : List Bool → List (List (Vec ℕ Global)) → ℕ → List ℕ
+abbrev pub successors_inside : List Bool → List (List (List ℕ)) → ℕ → List ℕ
 successors_inside inside kinds node = flat_map (λ adjacency. filter (is_member inside) (neighbors adjacency node)) kinds

@@ -1,63 +1,86 @@
 //! Edges as adjacency lists.
-ghost use Rattle.std.specs.Prelude.{◌≡◌, ◌<◌, ◌≤◌, ◌↔◌, ◌⊎◌, ◌∷◌, [], ℕ, length, All, IfOk, OnOk};
-ghost use Rattle.index_rows.specs.{Adjacency.{AllBelow, AreAdjacencyOf, AreTransposed, neighbors as neighbors_of}, Spreads.{IsNoted}};
-ghost use Rattle.index_rows.specs.Words.{IsAmong, IsStrictlySortedBy, nat_cmp};
+ghost use Rattle.std.specs.{List.{slice_range}, Ordering.{nat_cmp}, Prelude.{[], IfOk, length, OnOk, ℕ, ◌++◌, ◌<◌, ◌↔◌, ◌∷◌, ◌≡◌, ◌≤◌}};
+ghost use Rattle.index_rows.specs.{Adjacency.{neighbors as neighbors_of}, Compressed.{start_at}, Words.{IsAmong, IsStrictlySortedBy}};
 
 use std::alloc::{AllocError, Global};
+use std::marker::Model;
 
-/// Returns the adjacency list of a node.
-pub fn neighbors(adjacency: &[Vec<usize>], node: usize) -> &[usize]
-    requires { node < length adjacency.now }
-    ensures { result.now ≡ neighbors_of adjacency.now node }
-{
-    &adjacency[node]
+/// Adjacency lists of the nodes from 0 on: for each node those to which an edge leads from it. All are in one vector,
+/// one after another. Contracts see the list of each node.
+#[derive(Debug)]
+pub struct AdjacencyLists {
+    // Where each list ends among the targets. It begins where the one before it ends.
+    ends: Vec<usize>,
+    targets: Vec<usize>,
 }
 
-// This many empty adjacency lists.
-fn no_adjacency(alloc: Global, count: usize) -> Result<Vec<Vec<usize>>, AllocError>
-    ensures units { IfOk result (λ adjacency. length adjacency.items ≡ count) }
-    ensures empty { IfOk result (λ adjacency. (u : ℕ) → neighbors_of adjacency.items u ≡ []) }
-{
-    let mut adjacency = Vec::new(alloc);
-    for _node in 0..count {
-        adjacency.push(Vec::new(alloc))?;
+impl Drop for AdjacencyLists {
+    fn drop(self) {
+        let AdjacencyLists {
+            ends: _,
+            targets: _,
+        } = self;
     }
-    Ok(adjacency)
 }
 
-// Appends `node` to the adjacency list of `at`.
-fn note_at(adjacency: &mut Vec<Vec<usize>>, at: usize, node: usize) -> Result<(), AllocError>
-    requires { at < length adjacency.old.items }
-    ensures { OnOk result (IsNoted adjacency.old.items adjacency.new.items (at ∷ []) node) }
-{
-    adjacency[at].push(node)?;
-    Ok(())
+impl Model for AdjacencyLists {
+    ghost use Rattle.std.specs.Prelude.{length, List, ℕ};
+    ghost use Rattle.index_rows.specs.Compressed.{AreEnds, cut};
+
+    ghost Value = { List (List ℕ) };
+
+    ghost view = { λ a. cut 0 a.ends.items a.targets.items };
+
+    ghost invariant = { λ a. AreEnds 0 a.ends.items (length a.targets.items) };
 }
 
-// Appends `node` to the adjacency lists of the nodes of a list.
-fn note(adjacency: &mut Vec<Vec<usize>>, nodes: &[usize], node: usize) -> Result<(), AllocError>
-    requires { All (λ v. v < length adjacency.old.items) nodes.now }
-    ensures { OnOk result (IsNoted adjacency.old.items adjacency.new.items nodes.now node) }
-{
-    for other in nodes {
-        note_at(adjacency, *other, node)?;
+impl AdjacencyLists {
+    /// Returns no lists, with room for those of this many nodes. Fails only if memory runs out.
+    pub fn with_capacity(alloc: Global, count: usize) -> Result<AdjacencyLists, AllocError>
+        ensures none { IfOk result (λ adjacency. adjacency ≡ []) }
+    {
+        Ok(AdjacencyLists {
+            ends: Vec::with_capacity(alloc, count)?,
+            targets: Vec::new(alloc),
+        })
     }
-    Ok(())
+
+    /// Adds the list of the next node. Fails only if memory runs out.
+    pub fn push(&mut self, nodes: &[usize]) -> Result<(), AllocError>
+        ensures added { OnOk result (self.new ≡ self.old ++ nodes.now ∷ []) }
+    {
+        self.ends.reserve(1)?;
+        self.targets.extend_from_slice(nodes)?;
+        self.ends.push(self.targets.len())?;
+        Ok(())
+    }
+
+    /// Returns the adjacency list of a node. O(1); allocates nothing.
+    pub fn neighbors(&self, node: usize) -> &[usize]
+        requires { node < length self.now }
+        ensures { result.now ≡ neighbors_of self.now node }
+    {
+        let ends = self.ends.as_slice();
+        let start = start_of(ends, node);
+        between(&self.targets, start, ends[node])
+    }
 }
 
-/// Returns the transposed graph: every edge reversed. O(n + m), for n nodes and m edges.
-pub fn transposed(alloc: Global, adjacency: &[Vec<usize>]) -> Result<Vec<Vec<usize>>, AllocError>
-    requires { AllBelow (length adjacency.now) adjacency.now }
-    ensures transposed { IfOk result (λ others. AreTransposed adjacency.now others.items) }
-    ensures successors { IfOk result (λ others. (u v : ℕ) → IsAmong v (neighbors_of others.items u)
-        ↔ IsAmong u (neighbors_of adjacency.now v)) }
-    ensures adjacency { IfOk result (λ others. AreAdjacencyOf (length adjacency.now) others.items) }
+// Where the list of a node begins.
+fn start_of(ends: &[usize], node: usize) -> usize
+    requires { node < length ends.now }
+    ensures { result ≡ start_at 0 ends.now node }
 {
-    let mut others = no_adjacency(alloc, adjacency.len())?;
-    for node in 0..adjacency.len() {
-        note(&mut others, neighbors(adjacency, node), node)?;
-    }
-    Ok(others)
+    if node == 0 { 0 } else { ends[node - 1] }
+}
+
+// The targets from one position up to another.
+fn between(targets: &[usize], start: usize, end: usize) -> &[usize]
+    requires ordered { start ≤ end }
+    requires within { end ≤ length targets.now }
+    ensures { result.now ≡ slice_range targets.now start end }
+{
+    &targets[start..end]
 }
 
 /// Sorts the nodes and removes repeats. O(k log k) for k nodes, linear if they are in order already. Allocates nothing.
@@ -68,28 +91,4 @@ pub fn put_in_order(nodes: &mut Vec<usize>)
 {
     nodes.sort_unstable();
     nodes.dedup();
-}
-
-/// Returns adjacency lists with the edges of both graphs, each in ascending order. O(n + m log k), for n nodes and m
-/// edges, where no node has more than k edges.
-pub fn joined(
-    alloc: Global,
-    first: &[Vec<usize>],
-    second: &[Vec<usize>],
-) -> Result<Vec<Vec<usize>>, AllocError>
-    requires first { AreAdjacencyOf (length first.now) first.now }
-    requires second { AreAdjacencyOf (length first.now) second.now }
-    ensures successors { IfOk result (λ adjacency. (u v : ℕ) → IsAmong v (neighbors_of adjacency.items u)
-        ↔ (IsAmong v (neighbors_of first.now u) ⊎ IsAmong v (neighbors_of second.now u))) }
-    ensures adjacency { IfOk result (λ adjacency. AreAdjacencyOf (length first.now) adjacency.items) }
-    ensures ascending { IfOk result (λ adjacency. (u : ℕ) → IsStrictlySortedBy nat_cmp (neighbors_of adjacency.items u)) }
-{
-    let mut adjacency = Vec::new(alloc);
-    for node in 0..first.len() {
-        let mut nodes = Vec::from_slice(alloc, neighbors(first, node))?;
-        nodes.extend_from_slice(neighbors(second, node))?;
-        put_in_order(&mut nodes);
-        adjacency.push(nodes)?;
-    }
-    Ok(adjacency)
 }

@@ -6,9 +6,9 @@
 //! A set of nodes is a slice of booleans, one for each node. A node's adjacency list has the nodes to which an edge
 //! leads from it, in any order; a node may be there more than once.
 //!
-//! - `marks`: bit sets.
-//! - `rows`: adjacency lists, transposed and united.
-//! - `steps`: several kinds of edges, taken together.
+//! - `bits`: bit sets.
+//! - `adjacency`: adjacency lists of one kind of edge.
+//! - `successors`: several kinds of edges, taken together.
 //! - `closures`, `shortest`: what is reached, and at which distance.
 #![tactic(auto)]
 
@@ -18,7 +18,7 @@ mod closures;
 mod shortest;
 mod successors;
 
-pub use adjacency::{joined, neighbors, put_in_order, transposed};
+pub use adjacency::{AdjacencyLists, put_in_order};
 pub use bits::{empty_bits, first_member, least_member, lesser, members_of, non_members, without};
 pub use closures::{closure, reached, reached_inside};
 pub use shortest::distances;

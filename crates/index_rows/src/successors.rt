@@ -3,7 +3,7 @@ ghost use Rattle.std.specs.Prelude.{◌≡◌, ◌<◌, ◌++◌, ◌∷◌, [],
 ghost use Rattle.index_rows.specs.{Least.{IsLeast}, Adjacency.{IsMember}, Spreads.{IsSpread}, Successors.{AreSuccessorsOf, successors_from, successors_inside}};
 ghost use Rattle.index_rows.specs.Words.{IsAmong, nat_cmp};
 
-use crate::adjacency::neighbors;
+use crate::adjacency::AdjacencyLists;
 use crate::bits::{least_member, lesser, spread_inside};
 use std::alloc::{AllocError, Global};
 use std::marker::Model;
@@ -11,13 +11,13 @@ use std::marker::Model;
 /// Edges between nodes, of one or more kinds. Each kind has its own adjacency lists, which are borrowed.
 #[derive(Drop)]
 pub struct Successors<'a> {
-    kinds: Vec<&'a [Vec<usize>]>,
+    kinds: Vec<&'a AdjacencyLists>,
 }
 
 impl<'a> Model for Successors<'a> {
-    ghost use Rattle.std.specs.{Prelude.{ℕ, List, map}, declared.vec.Vec.{Vec}, declared.alloc.Global.{Global}};
+    ghost use Rattle.std.specs.Prelude.{ℕ, List, map};
 
-    ghost Value = { List (List (Vec ℕ Global)) };
+    ghost Value = { List (List (List ℕ)) };
 
     ghost view = { λ s. map (λ adjacency. adjacency.now) s.kinds.items };
 }
@@ -33,7 +33,7 @@ impl<'a> Successors<'a> {
     }
 
     /// Adds the edges of one more kind.
-    pub fn push(&mut self, adjacency: &'a [Vec<usize>]) -> Result<(), AllocError>
+    pub fn push(&mut self, adjacency: &'a AdjacencyLists) -> Result<(), AllocError>
         ensures added { OnOk result (self.new ≡ self.old ++ adjacency.now ∷ []) }
     {
         self.kinds.push(adjacency)?;
@@ -63,7 +63,7 @@ impl<'a> Successors<'a> {
     {
         let mut least = None;
         for adjacency in &self.kinds {
-            least = lesser(least, least_member(neighbors(adjacency, node), bits));
+            least = lesser(least, least_member(adjacency.neighbors(node), bits));
         }
         least
     }
@@ -83,7 +83,7 @@ impl<'a> Successors<'a> {
             (successors_inside inside.now self.now node)) }
     {
         for adjacency in &self.kinds {
-            spread_inside(seen, noted, inside, neighbors(adjacency, node))?;
+            spread_inside(seen, noted, inside, adjacency.neighbors(node))?;
         }
         Ok(())
     }

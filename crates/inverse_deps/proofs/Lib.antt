@@ -2,6 +2,4 @@ pub mod Prelude
 pub mod Finding
 pub mod Linking
 pub mod Listing
-pub mod SameAdjacency
-pub mod Stepping
 pub mod Tabling

@@ -1,6 +1,6 @@
 -- The edges of each unit, made of its own dependencies and of the reverse of those on it.
 use Rattle.std.proofs.Common.{◌++◌, ◌+◌, ◌<◌, ◌↔◌, ◌∷◌, ◌≡◌, ◌⊎◌}
-use Rattle.inverse_deps.proofs.Prelude.{[], adjacency_named, All, All-contains, All-nil, among_from_contains, among_mapped, ap, AreDependencyAdjacency, AreEdgesFrom, AreIndicesBy, AreLinked, AreLinks, AreLinksOf, AreNames, AreTransposedIn, arith, cases_eq, cases_lt, Contains-get_or, contains_from_among, count_of, Dependency, DependsOn, DepKind, edges_join_units, get_or, get_or-set_other, get_or-set_same, get_or_past, HasKind, in_byte_order, inl, inr, inverse, inverses_are_undone, is_sorted, IsAmong, IsAmong-append_left, IsAmong-append_right, IsAmong-push, IsAmong-push_cases, IsEdge, IsLinked, IsTransposed, IsTrue, IsUnitIn, length, length-set, List, load_indexing, LoadMap, map, mapped_from, Name, name_at, name_cmp, NameLoad, names_along, names_ascend, names_either, names_none, names_stay, nat_list_cmp_total, OfAlias, refl, same_at, set, subst, sym, transposed_named, unit_index, ℕ, ◌∙◌}
+use Rattle.inverse_deps.proofs.Prelude.{[], adjacency_named, adjacency_of_successors, All, among_from_contains, ap, AreDependencyAdjacency, AreEdgeAdjacency, AreLinks, AreLinksOf, AreMade, AreNames, AreTransposedIn, arith, cases_eq, cases_lt, Contains-get_or, count_of, Dependency, DependsOn, DepKind, edges_join_units, get_or, get_or-set_other, get_or-set_same, get_or_past, HasKind, inl, inr, inverse, inverses_are_undone, is_sorted, IsAmong, IsAmong-append_left, IsAmong-append_right, IsAmong-push, IsAmong-push_cases, IsEdge, IsKindList, IsStrictlySortedBy, IsTransposed, IsTrue, IsUnitIn, length, length-set, List, Listed, load_indexing, LoadMap, Name, name_at, name_cmp, NameLoad, names_along, names_either, nat_cmp, nat_list_cmp_total, neighbors, OfAlias, refl, same_at, set, subst, sym, transposed_named, unit_index, ℕ, ◌∙◌}
 
 -- what holds of each member of a list
 pub all_among : {X : Type 0} (P : X → Type 0) (xs : List X) → ((x : X) → IsAmong x xs → P x) → All P xs
@@ -149,8 +149,8 @@ module _ (old adjacency new : List (List Dependency)) (deps more : List Dependen
   other : (index : ℕ) → ¬ (x.index ≡ index) → get_or new index [] ≡ get_or adjacency index []
   other index off = ap (λ (rs : List (List Dependency)). get_or rs index []) is ∙ get_or-set_other adjacency x.index index (get_or adjacency x.index [] ++ y ∷ []) [] (λ e. off (sym e))
 
-  neighbors : (index : ℕ) → AreTransposed (get_or old index []) more from index (get_or new index [])
-  neighbors index =
+  one_list : (index : ℕ) → AreTransposed (get_or old index []) more from index (get_or new index [])
+  one_list index =
       let was : AreTransposed (get_or old index []) deps from index (get_or adjacency index []) = record { just = before.just index } in
       elim (cases_eq x.index index) [
         | inl on ↦ transposed_more (get_or old index []) deps more x longer from index (get_or adjacency index []) was (get_or new index []) y on (put index on) kind_is index_is
@@ -158,7 +158,7 @@ module _ (old adjacency new : List (List Dependency)) (deps more : List Dependen
       ]
 
   pub transposed_in_more : AreTransposedIn old more from new
-  transposed_in_more = record { units = ap length is ∙ length-set adjacency x.index (get_or adjacency x.index [] ++ y ∷ []) ∙ before.units; just = λ index. (neighbors index).just }
+  transposed_in_more = record { units = ap length is ∙ length-set adjacency x.index (get_or adjacency x.index [] ++ y ∷ []) ∙ before.units; just = λ index. (one_list index).just }
 
 -- each list has its own dependencies, and what was found in the first `count` lists
 pub record AreFoundIn (table : List (List Dependency)) (count : ℕ) (adjacency : List (List Dependency)) : Type 0 where
@@ -191,14 +191,6 @@ all_within load table are i below deps neighbors same here count count_is =
     (all_among (λ (one : Dependency). one.index < count_of load) (get_or table i []) (λ one h. ((are.rows i p (omega (arith, below, each))).each one h).below)))
 
 -- ---- links
-
--- a name without a unit has no links
-pub no_links : (load : LoadMap) (u : Name) (links : List Dependency) → links ≡ [] → ¬ IsUnitIn load u → AreLinksOf load u links
-no_links load u links e none =
-    subst (λ ls. AreLinksOf load u ls) (sym e) (record {
-      within = All-nil (λ (one : Dependency). one.index < count_of load);
-      successors = λ dep. names_none (count_of load) (name_at load) (HasKind [] dep) (IsEdge load dep u) (λ i h. h.there) (λ v edge. none (edges_join_units load dep u v edge).0);
-    })
 
 module _ (load : LoadMap) (sorted : IsTrue (is_sorted name_cmp load.names)) (adjacency : List (List Dependency)) (are : AreDependencyAdjacency load.names adjacency) (index : ℕ) (below : index < count_of load)
     (own links : List Dependency) (own_is : own ≡ get_or adjacency index []) (found : AreFound adjacency own (length adjacency) index links) (dep : DepKind) where
@@ -278,40 +270,37 @@ links_found load sorted adjacency are index below own links own_is found = recor
 -- all links of a load were found
 pub adjacency_found : (load : LoadMap) → IsTrue (is_sorted name_cmp load.names) → (table adjacency : List (List Dependency)) → AreDependencyAdjacency load.names table → AreFoundIn table (length table) adjacency → AreLinks load adjacency
 adjacency_found load sorted table adjacency are found = record {
+  sorted = sorted;
   one_each = found.units ∙ are.one_each;
   each = λ index below. links_found load sorted table are index below (get_or table index []) (get_or adjacency index []) refl (found.each index);
 }
 
--- ---- lists
+-- ---- the links of a kind
 
--- the names of the indices of a kind, in byte order
-module _ (load : LoadMap) (links : List Dependency) (dep : DepKind) (is : List ℕ) (by : AreIndicesBy links dep is) where
-  pub indices_within : All (λ (one : Dependency). one.index < count_of load) links → All (λ i. i < count_of load) is
-  indices_within all = all_among (λ i. i < count_of load) is (λ i h. (let k = (by i).0 h in
-      let one = All-contains (λ (one : Dependency). one.index < count_of load) links k.one all (contains_from_among k.one links k.there) in
-      subst (λ j. j < count_of load) k.index_is one))
+none_ascend : IsStrictlySortedBy nat_cmp []
+unfolding IsStrictlySortedBy
+none_ascend = tt
 
-  pub linked : (names told : List Name) → names ≡ map (name_at load) is → told ≡ in_byte_order names → AreLinked load links dep told
-  linked names told e f =
-      subst (λ ns. AreLinked load links dep ns) (sym (f ∙ ap in_byte_order e)) (record { ascending = names_ascend (map (name_at load) is); exact = λ v. (there v, back v) })
-    where
-      there : (v : Name) → IsAmong v (in_byte_order (map (name_at load) is)) → IsLinked load links dep v
-      there v h =
-          let r = mapped_from (name_at load) v is (among_from_contains v (map (name_at load) is)
-          ((names_stay (map (name_at load) is) v).0 (contains_from_among v (in_byte_order (map (name_at load) is)) h))) in
-          (r.0, ((by r.0).0 r.1.0, r.1.1))
-
-      back : (v : Name) → IsLinked load links dep v → IsAmong v (in_byte_order (map (name_at load) is))
-      back v l =
-          let among : IsAmong v (map (name_at load) is) = subst (λ w. IsAmong w (map (name_at load) is)) l.1.1 (among_mapped (name_at load) l.0 is ((by l.0).1 l.1.0)) in
-          among_from_contains v (in_byte_order (map (name_at load) is)) ((names_stay (map (name_at load) is) v).1 (contains_from_among v (map (name_at load) is) among))
-
--- the links of a kind are its edges
-pub edges_linked : (load : LoadMap) (u : Name) (links : List Dependency) (dep : DepKind) (names : List Name) → AreLinksOf load u links → AreLinked load links dep names → AreEdgesFrom load dep u names
-edges_linked load u links dep names are linked = record {
-  ascending = linked.ascending;
-  exact = λ v. (
-    λ h. (let l = (linked.exact v).0 h in subst (λ w. IsEdge load dep u w) l.1.1 ((are.successors dep).named l.0 l.1.0)),
-    λ e. (linked.exact v).1 ((are.successors dep).indexed v e),
-  );
+-- they are the edges of the kind
+pub edge_adjacency : (load : LoadMap) (links : List (List Dependency)) → AreLinks load links → (dep : DepKind) (adjacency : List (List ℕ)) (count : ℕ) → count ≡ length links
+    → AreMade (IsKindList links dep) count adjacency → AreEdgeAdjacency load dep adjacency
+edge_adjacency load links are dep adjacency count e made = record {
+  successors = successors;
+  within = adjacency_of_successors (count_of load) adjacency counts (λ u l v a. (successors u l).within v a);
+  ascending = ascending;
 }
+  where
+    counts : length adjacency ≡ count_of load
+    counts = made.count ∙ e ∙ are.one_each
+
+    successors : (i : ℕ) → i < count_of load → AreNames (count_of load) (name_at load) (Listed (neighbors adjacency i)) (IsEdge load dep (name_at load i))
+    successors i l =
+        let exact = (made.each i [] (omega (arith, l, counts, made.count))).exact in
+        names_along (count_of load) (name_at load) (HasKind (get_or links i []) dep) (Listed (neighbors adjacency i)) (IsEdge load dep (name_at load i)) (IsEdge load dep (name_at load i))
+        ((are.each i l).successors dep) (λ j. ((exact j).1, (exact j).0)) (λ v. (λ h. h, λ h. h))
+
+    ascending : (u : ℕ) → IsStrictlySortedBy nat_cmp (neighbors adjacency u)
+    ascending u = elim (cases_lt u (length adjacency)) [
+      | inl l ↦ (made.each u [] (omega (arith, l, made.count))).ascending
+      | inr past ↦ subst (λ (is : List ℕ). IsStrictlySortedBy nat_cmp is) (sym (get_or_past adjacency u [] past)) none_ascend
+    ]

@@ -2,11 +2,7 @@
 -- Source: this project's own.
 use Rattle.std.{proofs.Common.{◌<◌, ◌↔◌, ◌∷◌, ◌≡◌}, specs.FinMap.Entries.{is_sorted}}
 use Rattle.inverse_deps.specs.Prelude.{[], ap, AreDependenciesOf, AreDependencyAdjacency, AreNamedSuccessors, AreNames, arith, Dependency, DepKind, get_or, HaveSameAdjacency, inl, inr, inverse, IsListed, IsTrue, length, List, lists_in, LoadedUnit, LoadMap, Name, name_cmp, NameLoad, none-some, none_there, OfAlias, OfUnit, refl, Some, subst, suc, sym, unit_in, unit_part, zero, ℕ, ◌∙◌}
-use Rattle.inverse_deps.specs.{EdgeLaws.{edges_go_over}, Edges.{DependsOn, HaveSameEdges, IsEdge, IsUnitIn}, IndexLaws.{counts_alike, named_alike, unit_at, unit_index}, Indices.{count_of, name_at}, Tables.{HasKind}}
-
--- loads with the same adjacency lists have the same edges
-abbrev pub AdjacencyMakesTheEdges : Type 0
-AdjacencyMakesTheEdges = (a b : LoadMap) → HaveSameAdjacency a b → HaveSameEdges a b
+use Rattle.inverse_deps.specs.{Edges.{DependsOn, IsEdge, IsUnitIn}, IndexLaws.{counts_alike, named_alike, unit_at, unit_index}, Indices.{count_of, name_at}, Tables.{HasKind}}
 
 -- ---- the dependencies of a name
 
@@ -93,6 +89,3 @@ transposed_round a b same = record {
 
 pub edges_alike : (a b : LoadMap) → HaveSameAdjacency a b → (dep : DepKind) (u v : Name) → IsEdge a dep u v ↔ IsEdge b dep u v
 edges_alike a b same dep u v = (edge a b same dep u v, edge b a (transposed_round a b same) dep u v)
-
-pub adjacency_makes_the_edges : AdjacencyMakesTheEdges
-adjacency_makes_the_edges a b same = edges_go_over a b same.names_are (edges_alike a b same)

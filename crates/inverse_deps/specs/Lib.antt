@@ -3,7 +3,6 @@ pub mod AskedLaws
 pub mod EdgeLaws
 pub mod EdgeAdjacency
 pub mod Edges
-pub mod LinkLaws
 pub mod Links
 pub mod MakingLaws
 pub mod NamingLaws
@@ -11,3 +10,4 @@ pub mod IndexLaws
 pub mod AdjacencyLaws
 pub mod Tables
 pub mod Indices
+pub mod TableLaws

@@ -1,7 +1,7 @@
 -- The dependencies of each unit and those on it, by index.
 -- Source: this project's own.
 use Rattle.std.proofs.Common.{◌<◌, ◌↔◌, ◌≡◌, ◌⊎◌}
-use Rattle.inverse_deps.specs.Prelude.{[], All, AreNames, Dependency, DepKind, Global, inverse, IsAmong, IsStrictlySortedBy, length, List, LoadMap, map, Name, name_cmp, slice_index_or, Vec, ℕ}
+use Rattle.inverse_deps.specs.Prelude.{[], All, AreNames, Dependency, DepKind, Global, inverse, is_sorted, IsAmong, IsTrue, length, List, LoadMap, map, Name, name_cmp, slice_index_or, Vec, ℕ}
 use Rattle.inverse_deps.specs.{Edges.{IsEdge}, Indices.{count_of, name_at}, Tables.{HasKind}}
 
 -- the rows as lists
@@ -27,20 +27,8 @@ pub record AreLinksOf (load : LoadMap) (u : Name) (links : List Dependency) : Ty
   pub within : All (λ one. one.index < count_of load) links
   pub successors : (dep : DepKind) → AreNames (count_of load) (name_at load) (HasKind links dep) (IsEdge load dep u)
 
--- For each name of the load, by its index, these are the edges from it.
+-- For each name of the load, whose names are in byte order, these are by its index the edges from it.
 pub record AreLinks (load : LoadMap) (adjacency : List (List Dependency)) : Type 0 where
+  pub sorted : IsTrue (is_sorted name_cmp load.names)
   pub one_each : length adjacency ≡ count_of load
   pub each : (index : ℕ) → index < count_of load → AreLinksOf load (name_at load index) (slice_index_or adjacency index [])
-
--- The links of one load are the links of the other.
-abbrev pub HaveSameLinks : LoadMap → LoadMap → Type 0
-HaveSameLinks a b = (adjacency : List (List Dependency)) → AreLinks a adjacency ↔ AreLinks b adjacency
-
--- one of the links is of this kind and has the index of this name
-abbrev pub IsLinked : LoadMap → List Dependency → DepKind → Name → Type 0
-IsLinked load links dep v = (i : ℕ) × (HasKind links dep i × (name_at load i ≡ v))
-
--- these are the names of the links of a kind, each once, in byte order
-pub record AreLinked (load : LoadMap) (links : List Dependency) (dep : DepKind) (names : List Name) : Type 0 where
-  pub ascending : IsStrictlySortedBy name_cmp names
-  pub exact : (v : Name) → IsAmong v names ↔ IsLinked load links dep v

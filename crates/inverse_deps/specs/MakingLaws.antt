@@ -1,6 +1,6 @@
 -- Lists that are built one by one.
 use Rattle.std.proofs.Common.{◌++◌, ◌+◌, ◌<◌, ◌∷◌, ◌≡◌, ◌≤◌, ◌⊎◌}
-use Rattle.inverse_deps.specs.Prelude.{[], AllBelow-adjacency, ap, AreAdjacencyOf, arith, cases_eq, cases_lt, get_or, get_or_push, Global, inl, inr, IsAmong, length, length-append, List, neighbors, neighbors-past, refl, subst, suc, sym, Vec, zero, ℕ}
+use Rattle.inverse_deps.specs.Prelude.{[], AllBelow-adjacency, ap, AreAdjacencyOf, arith, cases_eq, cases_lt, get_or, get_or_push, inl, inr, IsAmong, length, length-append, List, neighbors, neighbors-past, refl, subst, suc, sym, zero, ℕ}
 
 -- the first i were built, and each is as it should be
 pub record AreMade {X : Type 0} (P : ℕ → X → Type 0) (i : ℕ) (xs : List X) : Type 0 where
@@ -29,14 +29,8 @@ module _ {X : Type 0} (P : ℕ → X → Type 0) where
         ];
       })
 
--- what holds of the adjacency list at a position holds of that of the node
-pub neighbors_holds : (P : List ℕ → Type 0) (adjacency : List (Vec ℕ Global)) (k : ℕ) → k < length adjacency → ((d : Vec ℕ Global) → P (get_or adjacency k d).items) → P (neighbors adjacency k)
-neighbors_holds P [] k l h = absurd (omega arith)
-neighbors_holds P (r ∷ adjacency) zero l h = h r
-neighbors_holds P (r ∷ adjacency) (suc k) l h = neighbors_holds P adjacency k (omega arith) h
-
 -- adjacency lists that lead from n nodes to n nodes
-pub adjacency_of_successors : (n : ℕ) (adjacency : List (Vec ℕ Global)) → length adjacency ≡ n → ((u : ℕ) → u < n → (v : ℕ) → IsAmong v (neighbors adjacency u) → v < n) → AreAdjacencyOf n adjacency
+pub adjacency_of_successors : (n : ℕ) (adjacency : List (List ℕ)) → length adjacency ≡ n → ((u : ℕ) → u < n → (v : ℕ) → IsAmong v (neighbors adjacency u) → v < n) → AreAdjacencyOf n adjacency
 adjacency_of_successors n adjacency e h = record { one_each = e; within = AllBelow-adjacency n adjacency (λ u v a. step u v a (cases_lt u n)) }
   where
     step : (u v : ℕ) → IsAmong v (neighbors adjacency u) → (u < n) ⊎ (n ≤ u) → v < n

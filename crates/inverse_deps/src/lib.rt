@@ -5,27 +5,24 @@
 //!
 //! A unit's files name others by a kind, and the other unit then has the inverse of that kind.
 //!
-//! - `building`, `lists`: all edges of a load, `Edges`, by name and by index.
-//! - `link_adjacency`, `unit_edges`: the edges of each unit by index, `Links`, and those of one unit by name.
-//! - `alike`: whether two loads have the same edges.
-//! - `numbers`: indices of names.
+//! - `edge_table`, `links`: the edges of a load by index, `EdgeTable`.
+//! - `unit_edges`: those of one unit by name.
+//! - `building`, `lists`: all edges by name, `Edges`.
+//! - `indices`: indices of names.
 //! - `laws`: laws of edges.
 #![tactic(auto)]
 
-mod alike;
 mod building;
+mod edge_table;
 mod indices;
-mod kind_adjacency;
 mod laws;
-mod link_adjacency;
+mod links;
 mod lists;
-mod successors;
 mod unit_edges;
 
-pub use alike::are_linked_alike;
 pub use building::edges;
+pub use edge_table::EdgeTable;
 pub use indices::{index_of, names_at};
 pub use laws::edge_laws;
-pub use link_adjacency::Links;
 pub use lists::Edges;
-pub use unit_edges::edges_of;
+pub use unit_edges::{edges_at, edges_of};

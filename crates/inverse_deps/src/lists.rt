@@ -1,8 +1,9 @@
 //! The edges of a load, as lists of names and as adjacency lists.
-ghost use Rattle.std.specs.Prelude.{◌≡◌, Some};
-ghost use Rattle.inverse_deps.specs.{EdgeAdjacency.{AreAdjacencyBy}, Edges.{list_at, names_in}, Tables.{AreKept}};
+ghost use Rattle.std.specs.{Map.{keys_of}, Prelude.{Some, ◌≡◌}};
+ghost use Rattle.inverse_deps.specs.{EdgeAdjacency.{AreAdjacencyBy, AreAdjacencyByKinds, edge_map}, Edges.{list_at, names_in}, Tables.{AreKept}};
 
-use crate::kind_adjacency::KindAdjacency;
+use crate::edge_table::EdgeTable;
+use index_rows::AdjacencyLists;
 use plain_values::Items;
 use setting_rules::DepKind;
 use sorted_pairs::seek;
@@ -10,11 +11,17 @@ use std::marker::Model;
 use unit_name::UnitName;
 
 /// The edges between the units of a load: which unit depends on which, in both directions.
-#[derive(Debug, Drop)]
+#[derive(Debug)]
 pub struct Edges {
     units: Vec<(UnitName, Items<Items<UnitName>>)>,
     // The same by index.
-    adjacency: KindAdjacency,
+    table: EdgeTable,
+}
+
+impl Drop for Edges {
+    fn drop(self) {
+        let Edges { units: _, table: _ } = self;
+    }
 }
 
 impl Model for Edges {
@@ -24,19 +31,16 @@ impl Model for Edges {
 
     ghost view = { λ e. e.units.items };
 
-    ghost invariant = { λ e. AreKept e.units.items e.adjacency };
+    ghost invariant = { λ e. AreKept e.units.items e.table };
 }
 
 impl Edges {
     // Returns the edges with these lists, whose names are in byte order, and with the same by index.
-    pub(crate) fn new(
-        units: Vec<(UnitName, Items<Items<UnitName>>)>,
-        adjacency: KindAdjacency,
-    ) -> Edges
-        requires kept { AreKept units.items adjacency }
+    pub(crate) fn new(units: Vec<(UnitName, Items<Items<UnitName>>)>, table: EdgeTable) -> Edges
+        requires kept { AreKept units.items table }
         ensures edges { result ≡ units.items }
     {
-        Edges { units, adjacency }
+        Edges { units, table }
     }
 
     /// Returns the units to which edges of a kind lead from the unit with this main name, in byte order. Empty for a
@@ -52,10 +56,18 @@ impl Edges {
 
     /// Returns the edges of a kind from each name, by the indices of names in byte order: an adjacency list for each
     /// name, in ascending order, empty for a name without a unit. Allocates nothing.
-    pub fn adjacency(&self, kind: DepKind) -> &[Vec<usize>]
+    pub fn adjacency(&self, kind: DepKind) -> &AdjacencyLists
         ensures adjacency { AreAdjacencyBy self.now kind result.now }
     {
-        self.adjacency.of(kind)
+        self.table.adjacency(kind)
+    }
+
+    /// Returns the same edges by index. Allocates nothing.
+    pub fn table(&self) -> &EdgeTable
+        ensures edges { self.now ≡ edge_map (keys_of self.now) result.now }
+        ensures adjacency { AreAdjacencyByKinds self.now result.now }
+    {
+        &self.table
     }
 }
 

@@ -33,11 +33,21 @@ pub enum PathFault {
 ///
 /// Paths are ordered by the rank of their directory; then those with one component come before those with two; then by
 /// folder and name.
-#[derive(Debug, PartialEq, Eq, PartialOrd, Ord, Drop)]
+#[derive(Debug, PartialEq, Eq, PartialOrd, Ord)]
 pub struct Path {
     rank: u8,
     folder: Bytes,
     name: Bytes,
+}
+
+impl Drop for Path {
+    fn drop(self) {
+        let Path {
+            rank: _,
+            folder: _,
+            name: _,
+        } = self;
+    }
 }
 
 impl Model for Path {

@@ -22,9 +22,15 @@ pub enum HostFault {
 }
 
 /// The name of a host. Names are ordered by their bytes.
-#[derive(Debug, PartialEq, Eq, PartialOrd, Ord, Drop)]
+#[derive(Debug, PartialEq, Eq, PartialOrd, Ord)]
 pub struct HostName {
     bytes: Bytes,
+}
+
+impl Drop for HostName {
+    fn drop(self) {
+        let HostName { bytes: _ } = self;
+    }
 }
 
 impl Model for HostName {

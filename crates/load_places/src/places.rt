@@ -10,12 +10,21 @@ use std::cmp::Ordering;
 use thiserror::Error;
 
 /// For whom an edit is: the whole fleet, or one host. The fleet comes first, then hosts in byte order.
-#[derive(Debug, Drop)]
+#[derive(Debug)]
 pub enum Scope {
     /// The whole fleet.
     Fleet,
     /// One host.
     Host(HostName),
+}
+
+impl Drop for Scope {
+    fn drop(self) {
+        match self {
+            Scope::Fleet => (),
+            Scope::Host(_) => (),
+        }
+    }
 }
 
 impl Scope {

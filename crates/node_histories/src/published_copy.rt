@@ -20,7 +20,6 @@ use std::alloc::{AllocError, Global};
 use std::sync::Arc;
 
 /// A replica, a token of the history whose sum it is, and the number of takes. Copies share the replica.
-#[derive(Drop)]
 pub struct PublishedCopy {
     replica: Arc<Replica, Global>,
     takes: u64,
@@ -28,6 +27,16 @@ pub struct PublishedCopy {
     pub ghost kept: { arc_value replica ≡ replica_of seen.log } by { replica-prop (arc_value replica) (replica_of seen.log) },
     pub ghost counted: { takes ≡ takes_in seen.log },
     pub ghost legal: { IsLegal (opening_of seen.log) seen.log } by { IsLegal-prop (opening_of seen.log) seen.log },
+}
+
+impl Drop for PublishedCopy {
+    fn drop(self) {
+        let PublishedCopy {
+            replica: _,
+            takes: _,
+            seen: _,
+        } = self;
+    }
 }
 
 // The published copy of a replica that is the sum of what the prefix has seen.

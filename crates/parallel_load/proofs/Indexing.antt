@@ -1,6 +1,6 @@
 -- The indices of main names, and the dependencies by them.
 use Rattle.std.{proofs.Common.{if◌then◌else◌, ◌++◌, ◌<◌, ◌∷◌, ◌≡◌, ◌≤◌}, specs.FinMap.Entries.{is_sorted}}
-use Rattle.parallel_load.proofs.Prelude.{[], alias_in, All, All-cons, All-nil, among_filter_map, among_find, among_flat_map, among_from_contains, among_map, ap, AreDependenciesOf, AreDependencyAdjacency, AreIndexed, AreNormalized, arith, at_within, Bool, Contains, contains_from_among, Dependency, dependency_of, DependencyList, DepKind, Err, false, find, find_among, find_at, find_gap, flat_map_among, get_or, HasIndex, IfOk, inl, inr, is_same, IsAmong, IsAt, IsDependencyOf, IsGap, IsIndex, IsKept, IsListed, IsMainIndex, IsNormalizedLoad, IsNormalizedRow, IsTrue, IsUnitAmong, IsWhole, key_at, key_at_place, key_found, keys_length, keys_of, length, List, list_indices, list_normalized, lists_in, load_indices, load_normalized, LoadedUnit, LoadMap, main_name, map, map_among, Name, name_cmp, name_indices, name_lists, name_loads, name_of, NamedWords, NameLoad, names_in_lists, names_stay, nat_cmp-IsAntisymmetric, nat_list_cmp_total, None, none-some, none_there, Normalized, normalized_name, OfAlias, OfUnit, Ok, Option, option_and_then, other_index, other_indices, refl, Result, same_Some, slice_cmp-IsAntisymmetric, Some, sorted_by_keys, subst, suc, sym, true, unit_normalized, unit_part, unless_unit, Viewer, zero, ℕ, ◌∙◌}
+use Rattle.parallel_load.proofs.Prelude.{[], alias_in, All, All-cons, All-nil, among_filter_map, among_find, among_flat_map, among_from_contains, among_map, ap, AreDependenciesOf, AreDependencyAdjacency, AreIndexed, AreNormalized, arith, at_within, Bool, Contains, contains_from_among, Dependency, dependency_of, DependencyList, DepKind, Err, false, find, find_among, find_at, find_gap, flat_map_among, get_or, HasIndex, HasMainUnit, IfOk, inl, inr, is_same, IsAmong, IsAt, IsDependencyOf, IsGap, IsIndex, IsKept, IsListed, IsMainIndex, IsNormalizedLoad, IsNormalizedRow, IsTrue, IsUnitAmong, IsWhole, key_at, key_at_place, key_found, keys_length, keys_of, length, List, list_indices, list_normalized, lists_in, load_indices, load_normalized, LoadedUnit, LoadMap, main_name, map, map_among, Name, name_cmp, name_indices, name_lists, name_loads, name_of, NamedWords, NameLoad, names_in_lists, names_stay, nat_cmp-IsAntisymmetric, nat_list_cmp_total, None, none-some, none_there, Normalized, normalized_name, OfAlias, OfUnit, Ok, Option, option_and_then, other_index, other_indices, refl, Result, same_Some, slice_cmp-IsAntisymmetric, Some, sorted_by_keys, subst, suc, sym, true, unit_normalized, unit_part, unless_unit, Viewer, zero, ℕ, ◌∙◌}
 
 -- ---- names with the indices of their main names
 
@@ -266,6 +266,19 @@ rows_normalized : (ms : List (Name × ℕ)) (found : List (Name × NameLoad)) �
 rows_normalized ms [] = All-nil (IsNormalizedRow ms)
 rows_normalized ms (p ∷ found) = All-cons (IsNormalizedRow ms) (normalized_name ms p) (map (normalized_name ms) found) (row_normalized ms p.0 p.1) (rows_normalized ms found)
 
+-- the main name of each name was found, and so it is in what is made of what was found
+module _ (ms : List (Name × ℕ)) (found : List (Name × NameLoad)) (whole : IsWhole found) where
+  main_unit : (n : Name) (one : NameLoad) → IsAmong {X = Name × NameLoad} (n, one) found → HasMainUnit (name_loads (map (normalized_name ms) found)) (n, load_normalized ms one)
+  main_unit n (OfUnit u) a = record { main_is = whole.own n u a; unit = unit_normalized ms u; there = loads_among ms found n (OfUnit u) a }
+  main_unit n (OfAlias of) a = let m = whole.mains n of a in record { main_is = refl; unit = unit_normalized ms m.0; there = loads_among ms found of (OfUnit m.0) m.1 }
+
+  main_units : (some : List (Name × NameLoad)) → ((p : Name × NameLoad) → IsAmong p some → IsAmong p found)
+      → All (HasMainUnit (name_loads (map (normalized_name ms) found))) (name_loads (map (normalized_name ms) some))
+  main_units [] within = All-nil (HasMainUnit (name_loads (map (normalized_name ms) found)))
+  main_units (p ∷ some) within =
+      All-cons (HasMainUnit (name_loads (map (normalized_name ms) found))) (p.0, load_normalized ms p.1) (name_loads (map (normalized_name ms) some)) (main_unit p.0 p.1 (within p (inl refl)))
+      (main_units some (λ q h. within q (inr h)))
+
 -- the rows made of what was found have all that a load needs
 pub record IsReady (found : List (Name × NameLoad)) (ms : List (Name × ℕ)) (all : List Normalized) : Type 0 where
   pub kept : IsKept (name_loads all) (name_lists all) (name_indices all) ms
@@ -287,6 +300,7 @@ is_ready found pairs ms all sorted whole few indexed e f =
         };
         table_is = refl;
         sorted = names_sorted found sorted whole ms indexed;
+        mains_are = main_units ms found whole found (λ p a. a);
         rows = rows_are found sorted whole ms indexed;
       };
       normalized = record { mains = ms; indexed = indexed; names_are = refl; named_are = refl };

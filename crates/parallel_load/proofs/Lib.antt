@@ -6,6 +6,7 @@ mod Cutting
 mod Gathering
 mod Keeping
 mod Indexing
+mod MainIndices
 mod Pieces
 mod Rows
 mod SecondaryNames

@@ -64,6 +64,7 @@ module _ (s : HostViewMap) (found : List (Name × NameLoad)) (loaded : AreLoaded
   whole_from next = record {
     named = λ p m a h. next p.0 p.1 m a h;
     mains = λ n of a. (let r = next n (OfAlias of) of a (inl refl) in main_unit n of r.0 (alone n (OfAlias of) a) (alone of r.0 r.1) r.1);
+    own = λ n u a. (alone n (OfUnit u) a).name_is;
   }
 
   module _ (sorted : IsTrue (is_sorted name_cmp found)) (whole : IsWhole found) (ms : List (Name × ℕ)) (indexed : AreIndexed found found ms) where

@@ -7,6 +7,10 @@ use Rattle.parallel_load.specs.Prelude.{[], All, is_sorted, IsTrue, keys_of, len
 abbrev pub key_at : List (Name × ℕ) → ℕ → Name
 key_at names index = slice_index_or (keys_of names) index []
 
+-- the index that a position has
+abbrev pub index_at : List (Name × ℕ) → ℕ → ℕ
+index_at names at = let none : Name × ℕ = ([], 0) in (slice_index_or names at none).1
+
 -- names in ascending order, each with the index of some name
 pub record IsIndex (names : List (Name × ℕ)) : Type 0 where
   pub sorted : IsTrue (is_sorted name_cmp names)

@@ -2,7 +2,7 @@
 -- Source: this project's own.
 use Rattle.std.proofs.Common.{◌<◌, ◌≡◌}
 use Rattle.parallel_load.specs.Prelude.{[], DependencyList, DepKind, find, IsAmong, IsListed, keys_of, length, List, LoadedUnit, Name, name_cmp, option_and_then, slice_index_or, Some, ℕ}
-use Rattle.parallel_load.specs.{declared.loaded.{Dependency.{Dependency}, NameLoad.{NameLoad}}, Loads.{lists_in, unit_part}}
+use Rattle.parallel_load.specs.{declared.loaded.{Dependency.{Dependency}, NameLoad.{NameLoad}}, Loads.{lists_in, LoadMap, main_in, unit_part}}
 
 -- the name with this index
 abbrev pub name_of : List (Name × NameLoad) → ℕ → Name
@@ -34,3 +34,9 @@ pub record AreDependenciesOf (names : List (Name × NameLoad)) (lists : List Dep
 pub record AreDependencyAdjacency (names : List (Name × NameLoad)) (table : List (List Dependency)) : Type 0 where
   pub one_each : length table ≡ length names
   pub rows : (i : ℕ) (p : Name × NameLoad) → i < length names → AreDependenciesOf names (lists_in (slice_index_or names i p).1) (slice_index_or table i [])
+
+-- This is the index of a name's main name, which is that of a unit of the load.
+pub record IsIndexOfMain (load : LoadMap) (name : Name) (index : ℕ) : Type 0 where
+  pub below : index < length load.names
+  pub main_is : main_in load name ≡ Some (name_of load.names index)
+  pub unit : IsUnitAmong load.names (name_of load.names index)

@@ -31,4 +31,3 @@ pub mod Touched
 pub mod TouchedLaws
 pub mod Universe
 pub mod UniverseLaws
-pub mod Words

@@ -2,7 +2,7 @@
 -- Source: this project's own.
 use Rattle.std.proofs.Common.{◌<◌, ◌∷◌, ◌≡◌, ◌≤◌, ◌⊎◌}
 use Rattle.parallel_load.specs.Prelude.{[], All, AreNames, DependencyList, HostViewMap, is_sorted, IsAmong, IsTrue, IsUnit, length, List, LoadedUnit, main, Name, name_cmp, slice_index_or, ℕ}
-use Rattle.parallel_load.specs.{declared.{loaded.{Dependency.{Dependency}, NameLoad.{NameLoad, TheVariants.{Unit as OfUnit}}}, mains.Normalized.{Normalized}}, Indexing.{AreIndexed}, Indices.{AreDependencyAdjacency}, Loads.{with_lists}, Normalized.{load_normalized, name_indices, name_lists, name_loads, normalized_name}, Refreshes.{IsMissed}}
+use Rattle.parallel_load.specs.{declared.{loaded.{Dependency.{Dependency}, NameLoad.{NameLoad, TheVariants.{Unit as OfUnit}}}, mains.Normalized.{Normalized}}, Indexing.{AreIndexed, HasMainUnit}, Indices.{AreDependencyAdjacency}, Loads.{with_lists}, Normalized.{load_normalized, name_indices, name_lists, name_loads, normalized_name}, Refreshes.{IsMissed}}
 
 -- the row's name with what was loaded for it, before names were replaced by main names
 abbrev pub row_alone : Normalized → Name × NameLoad
@@ -26,6 +26,7 @@ pub record IsKept (names : List (Name × NameLoad)) (named : List (List Dependen
   pub are_rows : AreRows names named mains all
   pub table_is : table ≡ name_indices all
   pub sorted : IsTrue (is_sorted name_cmp names)
+  pub mains_are : All (HasMainUnit names) names
   pub rows : AreDependencyAdjacency names table
 
 -- ---- what names resolve to, where units are read again

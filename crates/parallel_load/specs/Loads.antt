@@ -1,8 +1,8 @@
 -- The load of a store: for each name of the universe its unit, or the main name of which it is an alias.
 -- Source: systemd.unit(5), "Description"; that dependencies are given by main names is this project's own.
 use Rattle.std.proofs.Common.{◌∷◌, ◌≡◌}
-use Rattle.parallel_load.specs.Prelude.{[], AreLoaded, code_by, Coded, coded_list, coded_option, coded_ℕ, coded×, DependencyList, filter, filter_map, find, HostViewMap, in_byte_order, is_same, IsUnit, keys_of, List, LoadedUnit, main, map, Name, name_cmp, None, not, Option, option_and_then, option_map, refl, Some, Viewer, viewer_of}
-use Rattle.parallel_load.specs.{Alone.{IsAliasOf, IsLoadAlone}, declared.loaded.NameLoad.{NameLoad, TheVariants.{Alias as OfAlias, Unit as OfUnit}}, OwnLinkTargets.{AreOwnLinkTargets, coded_named_words, NamedWords}, Universe.{AreUniverse}}
+use Rattle.parallel_load.specs.Prelude.{[], AreLoaded, code_by, Coded, coded_list, coded_option, coded_ℕ, coded×, DependencyList, filter, filter_map, find, HostViewMap, in_byte_order, is_same, IsUnit, keys_of, List, LoadedUnit, main, map, Name, name_cmp, NamedWords, None, not, Option, option_and_then, option_map, refl, Some, Viewer, viewer_of}
+use Rattle.parallel_load.specs.{Alone.{IsAliasOf, IsLoadAlone}, declared.loaded.NameLoad.{NameLoad, TheVariants.{Alias as OfAlias, Unit as OfUnit}}, OwnLinkTargets.{AreOwnLinkTargets, coded_named_words}, Universe.{AreUniverse}}
 use Rattle.setting_rules.specs.contracts.dependency_lists.DependencyList as list
 use Rattle.parallel_load.specs.contracts.loaded.NameLoad as one
 

@@ -1,8 +1,8 @@
 -- A load made of what the closure found, by the indices of main names: definitions for private clauses.
 -- Source: this project's own.
 use Rattle.std.proofs.Common.{if◌then◌else◌, ◌≡◌}
-use Rattle.parallel_load.specs.Prelude.{[], DependencyList, DepKind, filter_map, find, flat_map, in_byte_order, is_same, IsAmong, List, LoadedUnit, map, Name, name_cmp, None, Option, option_and_then, Some, Viewer, ℕ}
-use Rattle.parallel_load.specs.{Alone.{named_in}, declared.{loaded.{Dependency.{Dependency}, NameLoad.{NameLoad, TheVariants.{Alias as OfAlias, Unit as OfUnit}}}, mains.Normalized.{Normalized}}, Indexes.{key_at}, Indexing.{AreIndexed}, Loads.{lists_in, LoadMap}, OwnLinkTargets.{NamedWords}}
+use Rattle.parallel_load.specs.Prelude.{[], DependencyList, DepKind, filter_map, find, flat_map, in_byte_order, is_same, IsAmong, List, LoadedUnit, map, Name, name_cmp, NamedWords, None, Option, option_and_then, Some, Viewer, ℕ}
+use Rattle.parallel_load.specs.{Alone.{named_in}, declared.{loaded.{Dependency.{Dependency}, NameLoad.{NameLoad, TheVariants.{Alias as OfAlias, Unit as OfUnit}}}, mains.Normalized.{Normalized}}, Indexes.{key_at}, Indexing.{AreIndexed}, Loads.{lists_in, LoadMap}}
 
 -- ---- dependencies by the indices of main names
 
@@ -66,10 +66,12 @@ name_indices all = map (λ one. one.deps) all
 
 -- ---- the load
 
--- what was found is closed: it has all that each name leads to, and the unit of each alias
+-- what was found is closed: it has all that each name leads to, and the unit of each alias; and units have their own
+-- names
 pub record IsWhole (found : List (Name × NameLoad)) : Type 0 where
   pub named : (p : Name × NameLoad) (name : Name) → IsAmong p found → IsAmong name (named_in p.1) → (one : NameLoad) × IsAmong {X = Name × NameLoad} (name, one) found
   pub mains : (name of : Name) → IsAmong {X = Name × NameLoad} (name, OfAlias of) found → (unit : LoadedUnit) × IsAmong {X = Name × NameLoad} (of, OfUnit unit) found
+  pub own : (name : Name) (unit : LoadedUnit) → IsAmong {X = Name × NameLoad} (name, OfUnit unit) found → unit.name ≡ name
 
 -- these are the names that were found with what they resolve to, dependencies by main names, and the lists that they
 -- had

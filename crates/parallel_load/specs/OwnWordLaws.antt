@@ -1,8 +1,8 @@
 -- Laws of the link targets that a load caches: a view has one list of them, which has those of every name; the list
 -- stays if the targets stay.
 use Rattle.std.proofs.Common.{◌∷◌, ◌≡◌}
-use Rattle.parallel_load.specs.Prelude.{[], All, All-head, All-tail, All-weaker, among_level, among_map, ap, cons_option, Content, find, HostViewMap, inl, inr, is_some, IsAmong, IsShown, keys_of, levels, link_targets, link_targets_show, List, map, Name, name_cmp, nat_cmp-IsAntisymmetric, nat_list_cmp_total, None, none-some, one_ascending_list, Option, option_and_then, own_path, refl, SameWords, slice_cmp-IsAntisymmetric, Some, subst, sym, Target, target_part, targets_in, unwrap_or, viewed_at, words_of, ℕ, ◌∙◌}
-use Rattle.parallel_load.specs.{KeyLaws.{sorted_from_keys}, OwnLinkTargets.{AreOwnLinkTargets, HasOwnLinkTargets, NamedWords, words_in}, PairLaws.{among_find, find_among}, UniverseLaws.{all_among}}
+use Rattle.parallel_load.specs.Prelude.{[], All, All-head, All-tail, All-weaker, among_level, among_map, ap, cons_option, Content, find, HasOwnLinkTargets, HostViewMap, inl, inr, is_some, IsAmong, IsShown, keys_of, levels, link_targets, link_targets_show, List, map, Name, name_cmp, NamedWords, nat_cmp-IsAntisymmetric, nat_list_cmp_total, None, none-some, one_ascending_list, Option, option_and_then, own_path, refl, SameWords, slice_cmp-IsAntisymmetric, Some, subst, sym, Target, target_part, targets_in, unwrap_or, viewed_at, words_of, ℕ, ◌∙◌}
+use Rattle.parallel_load.specs.{KeyLaws.{sorted_from_keys}, OwnLinkTargets.{AreOwnLinkTargets, words_in}, PairLaws.{among_find, find_among}, UniverseLaws.{all_among}}
 
 -- a view has one such list
 abbrev pub OneListOfWords : Type 0

@@ -1,8 +1,8 @@
 -- The visible names of a store, and those of them that are loaded: definitions for private clauses.
 -- Source: this project's own.
 use Rattle.std.proofs.Common.{if◌then◌else◌, ◌&&◌, ◌↔◌}
-use Rattle.parallel_load.specs.Prelude.{[], Bool, Entry, false, filter, filter_map, HostViewMap, Instance, is_in, is_name, is_some, IsAmong, List, Name, None, not, Option, PathParts, Plain, shape, shown, Some, Template, true, UnitShape, view, ℕ}
-use Rattle.parallel_load.specs.{OwnLinkTargets.{AreOwnLinkTargets, NamedWords}, Universe.{IsSource}}
+use Rattle.parallel_load.specs.Prelude.{[], Bool, Entry, false, filter, filter_map, HostViewMap, Instance, is_in, is_name, is_some, IsAmong, List, Name, NamedWords, None, not, Option, PathParts, Plain, shape, shown, Some, Template, true, UnitShape, view, ℕ}
+use Rattle.parallel_load.specs.{OwnLinkTargets.{AreOwnLinkTargets}, Universe.{IsSource}}
 use Rattle.std.specs.FinMap as finmap
 
 -- the name of an entry, if it is visible

@@ -1,7 +1,7 @@
 -- The changed places that a host sees: definitions for private clauses.
 -- Source: this project's own.
 use Rattle.std.proofs.Common.{◌++◌, ◌≡◌}
-use Rattle.parallel_load.specs.{OwnLinkTargets.{NamedWords, words_in}, Prelude.{[], HostViewMap, IsAmong, IsSome, level_for, link_targets, List, PathParts, PlaceParts, Viewer, ℕ}}
+use Rattle.parallel_load.specs.{OwnLinkTargets.{words_in}, Prelude.{[], HostViewMap, IsAmong, IsSome, level_for, link_targets, List, NamedWords, PathParts, PlaceParts, Viewer, ℕ}}
 
 -- if the host sees the place and it is of one component, its name has the link targets that are cached for it
 abbrev pub KeepsLinkTargets : Viewer → NamedWords → HostViewMap → PlaceParts → Type 0

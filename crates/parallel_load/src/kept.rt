@@ -21,9 +21,15 @@ pub(crate) enum ListsHeld {
 }
 
 /// The dependency lists of a name's unit, before names are replaced by main names. A copy shares them.
-#[derive(Debug, Drop)]
+#[derive(Debug)]
 pub(crate) struct NamedLists {
     held: ListsHeld,
+}
+
+impl Drop for NamedLists {
+    fn drop(self) {
+        let NamedLists { held: _ } = self;
+    }
 }
 
 impl Model for NamedLists {

@@ -1,7 +1,7 @@
 //! A load: the unit or the main name of each name.
-ghost use Rattle.std.specs.{Prelude.{◌≡◌, ◌<◌, IfOk, IsTrue, length, map}, FinMap.{is_sorted}, List.{All}, Option.{option_copied}};
+ghost use Rattle.std.specs.{Prelude.{◌≡◌, ◌<◌, IfOk, IsTrue, length, map, MatchOption, None}, FinMap.{is_sorted}, List.{All}, Option.{option_copied}};
 ghost use Rattle.unit_name.specs.Names.{name_cmp};
-ghost use Rattle.parallel_load.specs.{AskedLaws.{asked_for}, SearchPrefixes.{IsNonDecreasing}, Loads.{load_at, main_in, unit_in, units_in}, Indices.{AreDependencyAdjacency}};
+ghost use Rattle.parallel_load.specs.{AskedLaws.{asked_for}, SearchPrefixes.{IsNonDecreasing}, Loads.{load_at, main_in, unit_in, units_in}, Indices.{AreDependencyAdjacency, IsIndexOfMain}};
 ghost use Rattle.parallel_load.specs.{LoadRows.{IsKept}, SecondaryNames.{AreSecondaryNames}, Patched.{FitIn, patched_load, put_load, with_loads}};
 
 use crate::kept::NamedLists;
@@ -18,12 +18,21 @@ use unit_loads::Unit;
 use unit_name::UnitName;
 
 /// What a name of a load resolves to.
-#[derive(Debug, PartialEq, Eq, Drop)]
+#[derive(Debug, PartialEq, Eq)]
 pub enum NameLoad {
     /// The unit of which the name is the main name. Loads share units.
     Unit(Shared<Unit>),
     /// The main name of the unit of which the name is an alias.
     Alias(UnitName),
+}
+
+impl Drop for NameLoad {
+    fn drop(self) {
+        match self {
+            NameLoad::Unit(_) => (),
+            NameLoad::Alias(_) => (),
+        }
+    }
 }
 
 /// A copy shares the unit.
@@ -47,7 +56,7 @@ pub struct Dependency {
 
 /// What is loaded from one store: the host, the names that were asked for, and what each name of the universe resolves
 /// to.
-#[derive(Debug, Drop)]
+#[derive(Debug)]
 pub struct Loaded {
     host: Option<HostName>,
     extra: Items<UnitName>,
@@ -56,9 +65,21 @@ pub struct Loaded {
     fresh: u64,
 }
 
+impl Drop for Loaded {
+    fn drop(self) {
+        let Loaded {
+            host: _,
+            extra: _,
+            names: _,
+            kept: _,
+            fresh: _,
+        } = self;
+    }
+}
+
 /// Data that a load caches besides its names, so that another load can be made from it. Loads whose units name the same
 /// share it.
-#[derive(Debug, Drop)]
+#[derive(Debug)]
 pub(crate) struct CachedRows {
     /// For each name the lists of its unit, before names are replaced by main names.
     pub named: Vec<NamedLists>,
@@ -70,6 +91,18 @@ pub(crate) struct CachedRows {
     pub second: SecondaryNames,
     /// The link targets at paths of one component.
     pub words: Shared<CachedLinkTargets>,
+}
+
+impl Drop for CachedRows {
+    fn drop(self) {
+        let CachedRows {
+            named: _,
+            deps: _,
+            mains: _,
+            second: _,
+            words: _,
+        } = self;
+    }
 }
 
 /// Units of a load that were read again, each with the index of its name, and the cached data of the load, which stays
@@ -143,7 +176,20 @@ impl Loaded {
     pub fn asked_for(self, extra: Items<UnitName>) -> Loaded
         ensures load { result ≡ asked_for extra self }
     {
-        Loaded { extra, ..self }
+        let Loaded {
+            host,
+            extra: _before,
+            names,
+            kept,
+            fresh,
+        } = self;
+        Loaded {
+            host,
+            extra,
+            names,
+            kept,
+            fresh,
+        }
     }
 
     /// The load with these units in place of the old ones. Only these count as read. Allocates nothing.
@@ -156,7 +202,8 @@ impl Loaded {
             host,
             extra,
             names,
-            ..
+            kept: _,
+            fresh: _,
         } = self;
         let fresh = units.len() as u64;
         let names = with_units(names, units);
@@ -228,6 +275,17 @@ impl Loaded {
         match self.resolves_to(name)? {
             NameLoad::Unit(unit) => Some(&unit.get().name),
             NameLoad::Alias(main) => Some(main),
+        }
+    }
+
+    /// The index of a name's main name: the position of that name among all names. It is the name of a unit. None for a
+    /// name outside the universe. One search: O(log n). Allocates nothing.
+    pub fn main_index(&self, name: &UnitName) -> Option<usize>
+        ensures index { MatchOption result (main_in self.now name.now ≡ None) (IsIndexOfMain self.now name.now) }
+    {
+        match seek(&self.names, name) {
+            Ok(at) => Some(self.kept.get().mains.main_of(at)),
+            Err(_) => None,
         }
     }
 

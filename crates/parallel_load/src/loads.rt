@@ -104,13 +104,13 @@ fn start_of<'a>(
         ↔ IsSource (host_view_of store.now (option_copied host.entry)) extra.now n) }
     ensures view { IfOk result (λ start. start.loader.index ≡ host_view_of store.now (option_copied host.entry)) }
 {
-    let words = CachedLinkTargets::of(alloc, &store.host_view(host))?;
+    let view = store.host_view(host);
+    let words = CachedLinkTargets::of(alloc, &view)?;
     let sources = sources(alloc, &words, extra)?;
-    let words = Shared::new(alloc, words)?;
-    let index = AliasIndex::of(alloc, store, host)?;
+    let index = AliasIndex::of_targets(alloc, view, words.names())?;
     let loader = UnitLoader::new(index);
     Ok(Start {
-        words,
+        words: Shared::new(alloc, words)?,
         sources,
         loader,
     })

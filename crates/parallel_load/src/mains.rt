@@ -1,7 +1,7 @@
 //! Dependencies by main names and by indices.
 ghost use Rattle.std.specs.{Prelude.{◌≡◌, ◌<◌, ◌++◌, IfOk, IfSome, IsTrue, OnOk, length, map}, FinMap.{is_sorted}, List.{flat_map}};
 ghost use Rattle.unit_name.specs.Names.{name_cmp};
-ghost use Rattle.parallel_load.specs.{Indexes.{key_at}, Indices.{name_of}, Loads.{with_lists}, Indexing.{AreIndexed, IsMainIndex}};
+ghost use Rattle.parallel_load.specs.{Indexes.{index_at, key_at}, Indices.{name_of}, Loads.{with_lists}, Indexing.{AreIndexed, IsMainIndex}};
 ghost use Rattle.parallel_load.specs.Normalized.{list_indices, list_normalized, other_index, normalized_name};
 ghost use Rattle.parallel_load.specs.declared.loaded.NameLoad.TheVariants.{Unit as OfUnit};
 
@@ -17,9 +17,15 @@ use unit_loads::Unit;
 use unit_name::UnitName;
 
 /// The names of a load in byte order, each with the index of its main name: the position of that name among them.
-#[derive(Debug, Drop)]
+#[derive(Debug)]
 pub(crate) struct Mains {
     names: Vec<(UnitName, usize)>,
+}
+
+impl Drop for Mains {
+    fn drop(self) {
+        let Mains { names: _ } = self;
+    }
 }
 
 impl Model for Mains {
@@ -78,6 +84,14 @@ impl Mains {
         ensures name { result.now ≡ key_at self.now index }
     {
         &self.names[index].0
+    }
+
+    /// The index of the main name of the name at this position. Allocates nothing.
+    pub fn main_of(&self, at: usize) -> usize
+        requires within { at < length self.now }
+        ensures index { result ≡ index_at self.now at }
+    {
+        self.names[at].1
     }
 
     /// Replaces names by main names and by indices, for all of these names. Fails only if memory runs out.

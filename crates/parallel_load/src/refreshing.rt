@@ -133,7 +133,7 @@ fn found_again(
     let sources = sources(alloc, words.get(), loaded.extra())?;
     let affected = indices_affected(loaded, parts)?;
     let held = still_of(alloc, loaded, &affected)?;
-    let index = AliasIndex::of(alloc, store, host)?;
+    let index = AliasIndex::of_targets(alloc, store.host_view(host), words.get().names())?;
     let loader = HeldLoader::of(UnitLoader::new(index), held);
     Ok(close_loaded(alloc, &loader, &sources, MOST_NAMES)?)
 }

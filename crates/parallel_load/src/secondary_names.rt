@@ -10,9 +10,15 @@ use unit_name::UnitName;
 
 /// The names of units other than their main names, in byte order, each with the index of its unit. Names that only
 /// links of templates give may be outside the universe.
-#[derive(Debug, Drop)]
+#[derive(Debug)]
 pub(crate) struct SecondaryNames {
     pairs: Vec<(UnitName, usize)>,
+}
+
+impl Drop for SecondaryNames {
+    fn drop(self) {
+        let SecondaryNames { pairs: _ } = self;
+    }
 }
 
 impl Model for SecondaryNames {

@@ -5,7 +5,8 @@ ghost use Rattle.path_maps.specs.HostViews.{host_view_of};
 ghost use Rattle.parallel_load.specs.Touched.{AddsParts, HasParts, KeepsLinkTargets};
 
 use crate::loaded::Loaded;
-use crate::words::{CachedLinkTargets, LinkTargets};
+use crate::words::CachedLinkTargets;
+use fragment_choice::LinkTargets;
 use plain_values::Bytes;
 use replica_store::{HostName, HostView, Path, Place, Scope, Store};
 use std::alloc::{AllocError, Global};

@@ -1,121 +1,36 @@
 //! What a load caches of the paths of one component: the link targets of each visible name. By these a load can tell
 //! whether another store has the same aliases.
-ghost use Rattle.std.specs.{Prelude.{◌≡◌, ◌↔◌, ◌++◌, [], true, IfOk, OnOk, map}, List.Sorted.{IsStrictlySortedBy}, Option.{option_copied}};
+ghost use Rattle.std.specs.{Prelude.{◌≡◌, ◌↔◌, ◌++◌, true, IfOk, OnOk, map}, List.Sorted.{IsStrictlySortedBy}};
 ghost use Rattle.list_laws.specs.Members.{IsAmong};
 ghost use Rattle.unit_name.specs.Names.{name_cmp};
-ghost use Rattle.fragment_choice.specs.{LinkTargetLaws.{IsShown}, LinkTargets.{link_targets}};
-ghost use Rattle.parallel_load.specs.{OwnLinkTargets.{AreOwnLinkTargets, words_in}, Sources.{shown_names}, Words.{IsOwnLinkAt, IsOwnLinkOf, with_own_link_targets}};
+ghost use Rattle.fragment_choice.specs.LinkTargetLaws.{IsShown};
+ghost use Rattle.parallel_load.specs.{OwnLinkTargets.{AreOwnLinkTargets, with_own_link_targets, words_in}, Sources.{shown_names}};
 
+use fragment_choice::LinkTargets;
 use load_places::LEVELS;
-use plain_values::{Bytes, Items};
-use replica_store::{Content, HostView};
+use plain_values::Bytes;
+use replica_store::HostView;
 use sorted_pairs::seek;
 use std::alloc::{AllocError, Global};
 use std::marker::Model;
 
-/// The link targets at a name's own paths, level by level, up to a file or a link to `/dev/null`, which ends the list.
-#[derive(Debug, Drop)]
-pub(crate) struct LinkTargets {
-    links: Items<Bytes>,
-    ends: bool,
-}
-
-impl Model for LinkTargets {
-    ghost use Rattle.std.specs.Prelude.{List};
-    ghost use Rattle.fragment_choice.specs.LinkTargets.{Target};
-    ghost use Rattle.parallel_load.specs.OwnLinkTargets.{coded_link_targets, link_targets_with};
-
-    ghost Value = { List Target };
-
-    ghost coded = { coded_link_targets };
-
-    ghost view = { λ w. link_targets_with w.links w.ends };
-}
-
-impl LinkTargets {
-    /// The link targets of a name. At most eight searches. Fails only if memory runs out; allocates nothing if there is
-    /// no link.
-    pub fn of(alloc: Global, view: &HostView, name: &[u8]) -> Result<LinkTargets, AllocError>
-        ensures words { IfOk result (λ words. words ≡ link_targets view.now name.now) }
-    {
-        let mut links = Items::new(alloc);
-        for level in 0..LEVELS {
-            match own_link_at(alloc, view, level, name)? {
-                OwnLink::Nothing => {}
-                OwnLink::Link(target) => links.push(target)?,
-                OwnLink::End => return Ok(LinkTargets { links, ends: true }),
-            }
-        }
-        Ok(LinkTargets { links, ends: false })
-    }
-
-    // Whether the two are the same.
-    fn is(&self, other: &LinkTargets) -> bool
-        ensures same { result ≡ true → self.now ≡ other.now }
-    {
-        self.ends == other.ends && self.links == other.links
-    }
-
-    // Whether there are none.
-    fn are_none(&self) -> bool
-        ensures none { result ≡ true → self.now ≡ [] }
-    {
-        !self.ends && self.links.as_slice().is_empty()
-    }
-}
-
-/// What is at a name's path of one level.
-#[derive(Drop)]
-pub(crate) enum OwnLink {
-    /// Nothing visible.
-    Nothing,
-    /// A link's target.
-    Link(Bytes),
-    /// A file or a link to `/dev/null`, which ends the search.
-    End,
-}
-
-// What is at a name's path of this level.
-fn own_link_at(
-    alloc: Global,
-    view: &HostView,
-    level: u8,
-    name: &[u8],
-) -> Result<OwnLink, AllocError>
-    ensures word { IfOk result (IsOwnLinkAt view.now name.now level) }
-{
-    match view.entry_at(level, b"", name) {
-        None => Ok(OwnLink::Nothing),
-        Some(placed) => word_of(alloc, placed.visible()),
-    }
-}
-
-// What this visible content means.
-fn word_of(alloc: Global, content: Option<&Content>) -> Result<OwnLink, AllocError>
-    ensures word { IfOk result (IsOwnLinkOf (option_copied content.entry)) }
-{
-    match content {
-        None | Some(Content::Gone) => Ok(OwnLink::Nothing),
-        Some(Content::File(_)) => Ok(OwnLink::End),
-        Some(Content::Link(target)) => {
-            if target.bytes() == b"/dev/null".as_slice() {
-                return Ok(OwnLink::End);
-            }
-            Ok(OwnLink::Link(Bytes::from_slice(alloc, target.bytes())?))
-        }
-    }
-}
-
 /// Names in byte order, each with its link targets.
-#[derive(Debug, Drop)]
+#[derive(Debug)]
 pub(crate) struct CachedLinkTargets {
     names: Vec<(Bytes, LinkTargets)>,
+}
+
+impl Drop for CachedLinkTargets {
+    fn drop(self) {
+        let CachedLinkTargets { names: _ } = self;
+    }
 }
 
 impl Model for CachedLinkTargets {
     ghost use Rattle.std.specs.{Prelude.{IsTrue}, FinMap.{is_sorted}};
     ghost use Rattle.unit_name.specs.Names.{name_cmp};
-    ghost use Rattle.parallel_load.specs.OwnLinkTargets.{NamedWords, coded_named_words};
+    ghost use Rattle.fragment_choice.specs.LinkTargets.{NamedWords};
+    ghost use Rattle.parallel_load.specs.OwnLinkTargets.{coded_named_words};
 
     ghost Value = { NamedWords };
 

@@ -149,7 +149,7 @@ module _ (s : EntryMap) where
 -- ---- where nothing is greater, a join changes nothing
 
 module _ (s : EntryMap) where
-  not_greater : (x : Option Entry) (y : Entry) → is_ascending x y ≡ false → larger (Some y) x ≡ x
+  pub not_greater : (x : Option Entry) (y : Entry) → is_ascending x y ≡ false → larger (Some y) x ≡ x
   not_greater None y h = cc (h)
   not_greater (Some x) y h = by (entry_cmp y x) refl
     where

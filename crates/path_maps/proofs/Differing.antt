@@ -1,18 +1,12 @@
 -- The list of two stores' places is in ascending order and has at each place what both show, so it gives exactly the
 -- places where the stores differ.
 use Rattle.std.proofs.Common.{◌&&◌, ◌↔◌, ◌∷◌, ◌≡◌, ◌≢◌}
-use Rattle.path_maps.proofs.Prelude.{[], AllByRecursion, and_parts, ap, below_all, Bool, cond, Content, Contents, differ, differing, Entry, EntryMap, eq_by_cmp, Equal, false, filter, find, find_below, first_zipped, from_T, Greater, inl, inr, is_less, is_lt, is_sorted, IsAmong, IsStrictlySortedBy, IsTrue, Less, List, map, match_ordering, None, not, of_both, only_new, only_old, Option, option_and_then, Ordering, ordering_reverse, place_cmp, place_cmp-IsAntisymmetric, place_cmp_total, PlaceParts, refl, same_contents, same_contents-itself, same_contents-true, same_place, Shown, shown, Some, subst, sym, tied, together, true, visible_at, ◌∙◌}
-use Rattle.path_maps.proofs.Ascends.{found_entry}
+use Rattle.path_maps.proofs.Prelude.{[], and_parts, ap, Bool, cond, Content, Contents, differ, differing, Entry, EntryMap, eq_by_cmp, Equal, false, find, find_below, first_zipped, from_T, Greater, is_less, is_lt, IsAmong, IsStrictlySortedBy, IsTrue, Less, List, map, match_ordering, None, not, of_both, only_new, only_old, Option, option_and_then, Ordering, ordering_reverse, place_cmp, place_cmp-IsAntisymmetric, place_cmp_total, PlaceParts, refl, same_contents, same_contents-itself, same_contents-true, Shown, shown, Some, subst, sym, tied, together, true, visible_at, ◌∙◌}
+use Rattle.path_maps.proofs.{Ascends.{found_entry}, Passing.{AreSorted, back, IsAbove, none_among, passes, passing_ascends, there}}
 use Rattle.std.specs.FinMap as finmap
 
 abbrev Placed : Type 0
 Placed = PlaceParts × Entry
-
-abbrev pub IsAbove : {X : Type 0} → PlaceParts → List (PlaceParts × X) → Type 0
-IsAbove k es = IsTrue (below_all place_cmp k es)
-
-abbrev pub AreSorted : {X : Type 0} → List (PlaceParts × X) → Type 0
-AreSorted es = IsTrue (is_sorted place_cmp es)
 
 pub both : (a b : Bool) → IsTrue a → IsTrue b → IsTrue (a && b)
 both true b p q = q
@@ -158,97 +152,35 @@ module _ (q : PlaceParts) where
 abbrev pub unlike : Contents → Bool
 unlike c = not (same_contents c.0 c.1)
 
--- With one more item at the start.
-module _ (q : PlaceParts) (s : Shown) (ss : List Shown) where
-  abbrev places_with : Bool → List PlaceParts
-  places_with b = map (λ (r : Shown). r.0) (cond b (s ∷ filter differ ss) (filter differ ss))
+passes_unlike : (q : PlaceParts) (o : Option Contents) → passes differ q o ≡ unlike (or_none o)
+passes_unlike q None = refl
+passes_unlike q (Some c) = refl
 
-  abbrev contents_with : Bool → Contents
-  contents_with b = or_none (cond b (Some s.1) (find place_cmp q ss))
-
-  further : (b : Bool) → IsAmong q (differing ss) → IsAmong q (places_with b)
-  further true a = inr a
-  further false a = a
-
-  first_there : (b : Bool) → differ s ≡ b → b ≡ true → s.0 ≡ q → IsAmong q (places_with b)
-  first_there true h t e = inl e
-  first_there false h t e = cc (t)
-
-there : (q : PlaceParts) (ss : List Shown) → unlike (contents_in q ss) ≡ true → IsAmong q (differing ss)
-there q [] h = cc (h)
-there q (s ∷ ss) h = by (eq_by_cmp place_cmp q s.0) refl h (there q ss)
-  where
-    by : (b : Bool) → eq_by_cmp place_cmp q s.0 ≡ b → unlike (contents_with q s ss b) ≡ true
-        → (unlike (contents_in q ss) ≡ true → IsAmong q (differing ss)) → IsAmong q (places_with q s ss (differ s))
-    by true t h more = first_there q s ss (differ s) refl h (sym (tied q s.0 t))
-    by false t h more = further q s ss (differ s) (more h)
-
-pub back : (q : PlaceParts) (ss : List Shown) → AreSorted ss → IsAmong q (differing ss) → unlike (contents_in q ss) ≡ true
-back q [] s a = absurd a
-back q (s ∷ ss) sorted a = by (differ s) refl a (back q ss p.1)
-  where
-    p : IsAbove s.0 ss × AreSorted ss
-    p = and_parts _ _ sorted
-
-    after : unlike (contents_in q ss) ≡ true → (b : Bool) → eq_by_cmp place_cmp q s.0 ≡ b → unlike (contents_with q s ss b) ≡ true
-    after h true t =
-        let none = ap (λ o. unlike (or_none o)) (find_below place_cmp q ss (subst (λ k. IsAbove k ss) (sym (tied q s.0 t)) p.0)) in
-        let wrong : false ≡ true = sym none ∙ h in cc (wrong)
-    after h false t = h
-
-    by : (b : Bool) → differ s ≡ b → IsAmong q (places_with q s ss b)
-        → (IsAmong q (differing ss) → unlike (contents_in q ss) ≡ true) → unlike (contents_with q s ss (eq_by_cmp place_cmp q s.0)) ≡ true
-    by true d (inl e) more = ap (λ b. unlike (contents_with q s ss b)) (ap (λ k. eq_by_cmp place_cmp k s.0) (sym e) ∙ same_place s.0) ∙ d
-    by true d (inr a) more = after (more a) (eq_by_cmp place_cmp q s.0) refl
-    by false d a more = after (more a) (eq_by_cmp place_cmp q s.0) refl
-
-above_differing : (k : PlaceParts) (ss : List Shown) → IsAbove k ss → AllByRecursion (λ l. place_cmp k l ≡ Less) (differing ss)
-above_differing k [] h = tt
-above_differing k (s ∷ ss) h =
-    let p = and_parts _ _ h in
-    let rest = above_differing k ss p.1 in
-    elim (differ s) as (λ b. AllByRecursion (λ l. place_cmp k l ≡ Less) (places_with k s ss b)) [
-      | true ↦ (is_less _ p.0, rest)
-      | false ↦ rest
-    ]
-
-ascends : (ss : List Shown) → AreSorted ss → IsStrictlySortedBy place_cmp (differing ss)
-unfolding IsStrictlySortedBy
-ascends [] h = tt
-ascends (s ∷ ss) h =
-    let p = and_parts _ _ h in
-    let rest = ascends ss p.1 in
-    elim (differ s) as (λ b. IsStrictlySortedBy place_cmp (places_with s.0 s ss b)) [
-      | true ↦ (above_differing s.0 ss p.0, rest)
-      | false ↦ rest
-    ]
+pub back_unlike : (q : PlaceParts) (ss : List Shown) → AreSorted ss → IsAmong q (differing ss) → unlike (contents_in q ss) ≡ true
+back_unlike q ss sorted a = sym (passes_unlike q (find place_cmp q ss)) ∙ back differ q ss sorted a
 
 -- ---- of two stores
 
 -- For a list in place order that has at each place what both stores show.
 module _ (new old : EntryMap) (ss : List Shown) (sorted : AreSorted ss) (each : (q : PlaceParts) → contents_in q ss ≡ (visible_at new q, visible_at old q)) where
   pub list_ascends : IsStrictlySortedBy place_cmp (differing ss)
-  list_ascends = ascends ss sorted
+  list_ascends = passing_ascends differ ss sorted
 
   pub list_exact : (q : PlaceParts) → IsAmong q (differing ss) ↔ (visible_at new q ≢ visible_at old q)
   list_exact q = (forward, backward)
     where
       forward : IsAmong q (differing ss) → visible_at new q ≢ visible_at old q
       forward a e =
-          let differs = sym (ap unlike (each q)) ∙ back q ss sorted a in
+          let differs = sym (ap unlike (each q)) ∙ back_unlike q ss sorted a in
           let same = ap (λ y. not (same_contents (visible_at new q) y)) (sym e) ∙ ap not (same_contents-itself (visible_at new q)) in
           let wrong : false ≡ true = sym same ∙ differs in cc (wrong)
 
       by : (b : Bool) → same_contents (visible_at new q) (visible_at old q) ≡ b → visible_at new q ≢ visible_at old q → IsAmong q (differing ss)
       by true h n = absurd (n (same_contents-true _ _ h))
-      by false h n = there q ss (ap unlike (each q) ∙ ap not h)
+      by false h n = there differ q ss (passes_unlike q (find place_cmp q ss) ∙ ap unlike (each q) ∙ ap not h)
 
       backward : visible_at new q ≢ visible_at old q → IsAmong q (differing ss)
       backward n = by _ refl n
-
-pub none_among : (ps : List PlaceParts) → ((q : PlaceParts) → IsAmong q ps → ⊥) → ps ≡ []
-none_among [] none = refl
-none_among (p ∷ ps) none = absurd (none p (inl refl))
 
 module _ (new old : EntryMap) where
   abbrev both_shown : List Shown

@@ -2,7 +2,7 @@
 -- the places where these differ are all places where the stores differ.
 use Rattle.std.proofs.Common.{◌+◌, ◌↔◌, ◌∷◌, ◌≡◌, ◌≢◌}
 use Rattle.path_maps.proofs.Prelude.{[], additions, and_parts, ap, arith, below_refl, Bool, cond, Contents, differing, edit_of, Entry, EntryMap, eq_by_cmp, false, find, from_T, get-join, get-with_edit, is_some, IsAmong, IsBelow, IsStoreBelow, IsStrictlySortedBy, join, larger, larger-right, List, map, None, not, Option, option_and_then, place_cmp, place_cmp_total, PlaceParts, refl, same_contents-itself, Shown, shown, shown_zipped, Some, subst, sym, tied, true, unwrap_or, visible_at, with_edit, zipped, ◌∙◌}
-use Rattle.path_maps.proofs.{Ascends.{found_entry, len-join}, Differing.{AreSorted, back, both, contents_in, IsAbove, list_ascends, list_exact, none_among, or_none, unlike}, Sizes.{len-below}}
+use Rattle.path_maps.proofs.{Ascends.{found_entry, len-join}, Differing.{back_unlike, both, contents_in, list_ascends, list_exact, or_none, unlike}, Passing.{AreSorted, IsAbove, none_among}, Sizes.{len-below}}
 use Rattle.std.specs.FinMap as finmap
 
 module _ (held : PlaceParts → Option Entry) where
@@ -44,7 +44,7 @@ module _ (new old : EntryMap) where
 
   -- If all places show the same, nothing differs, whatever other places the older store has.
   pub nothing_zipped : ((q : PlaceParts) → visible_at new q ≡ visible_at old q) → differing zipped_shown ≡ []
-  nothing_zipped same = none_among (differing zipped_shown) (λ q a. by q (finmap.get new q) refl (sym (ap unlike (zipped_there q)) ∙ back q zipped_shown zipped_sorted a))
+  nothing_zipped same = none_among (differing zipped_shown) (λ q a. by q (finmap.get new q) refl (sym (ap unlike (zipped_there q)) ∙ back_unlike q zipped_shown zipped_sorted a))
     where
       by : (q : PlaceParts) (y : Option Entry) → finmap.get new q ≡ y → unlike (contents_with (finmap.get old) q y) ≡ true → ⊥
       by q None e h = cc (h)

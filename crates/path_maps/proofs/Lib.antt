@@ -8,6 +8,8 @@ pub mod Readings
 pub mod Listed
 pub mod FoundAfter
 pub mod Ascends
+pub mod Passing
+pub mod News
 pub mod Sizes
 pub mod Merges
 pub mod Singles

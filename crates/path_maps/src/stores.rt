@@ -10,7 +10,7 @@ ghost use Rattle.edit_sums.specs.Sums.{changed_places, high_of, join, sum_of, vi
 ghost use Rattle.path_maps.specs.{Zipped.{zipped}, Changes.{additions}, Folders.{is_within}, PlaceMaps.{AreScopes, all_held}};
 ghost use Rattle.path_maps.specs.{Scopes.{scope_of}, HostLaws.{HoldsNothing, ShowsNothing}, HostViews.{own_of, host_view_of}};
 
-use crate::changes::count_changes;
+use crate::changes::{count_changes, find_news};
 use crate::counts::{Counts, count_entries};
 use crate::differences::find_unlike;
 use crate::held::Held;
@@ -43,13 +43,23 @@ pub type ScopeMap = JoinMap<Scope, RankMap>;
 /// The entries of a node by place, removals included.
 ///
 /// A removal is an entry that stays, so an old edit cannot bring back what was removed.
-#[derive(Debug, Drop)]
+#[derive(Debug)]
 pub struct Store {
     scopes: ScopeMap,
     // How many places are held.
     len: usize,
     // The greatest counter among the entries.
     high: u64,
+}
+
+impl Drop for Store {
+    fn drop(self) {
+        let Store {
+            scopes: _,
+            len: _,
+            high: _,
+        } = self;
+    }
 }
 
 impl Model for Store {
@@ -226,6 +236,19 @@ impl Store {
             return Ok(found.places);
         }
         Together::of(self.entries(), older.entries()).differing(self.allocator())
+    }
+
+    /// The places at which joining another store would change what is held, in place order: at which that store holds a
+    /// greater entry, or holds one where nothing is held yet.
+    ///
+    /// It reads both side by side once. Fails only if memory runs out, when the list grows, and copies no bytes.
+    pub fn news(&self, other: &Store) -> Result<Vec<Place>, AllocError>
+        ensures ascending { IfOk result (λ places. IsStrictlySortedBy place_cmp places.items) }
+        ensures exact { IfOk result (λ places. (p : PlaceParts) →
+            IsAmong p places.items ↔ (finmap.get (join self.now other.now) p ≢ finmap.get self.now p)) }
+        ensures without_memory { join self.now other.now ≡ self.now → IsOk result }
+    {
+        find_news(self, other)
     }
 
     // Whether all places of an older store are held too, where so many are held that it doesn't have.

@@ -11,19 +11,34 @@ use std::hash::{Hash, Hasher};
 use std::marker::Model;
 
 // Where the bytes are stored.
-#[derive(Debug, Drop)]
+#[derive(Debug)]
 enum Held {
     Short(ShortBytes),
     Shared(SharedBytes),
+}
+
+impl Drop for Held {
+    fn drop(self) {
+        match self {
+            Held::Short(_) => (),
+            Held::Shared(_) => (),
+        }
+    }
 }
 
 /// A byte string, not necessarily UTF-8, in lexicographic order of its bytes.
 ///
 /// Up to 22 bytes are stored inline, without an allocation; a longer string is shared by all its copies. So a copy
 /// allocates nothing and copies at most 22 bytes.
-#[derive(Debug, Drop)]
+#[derive(Debug)]
 pub struct Bytes {
     held: Held,
+}
+
+impl Drop for Bytes {
+    fn drop(self) {
+        let Bytes { held: _ } = self;
+    }
 }
 
 impl Model for Bytes {

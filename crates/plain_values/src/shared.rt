@@ -6,9 +6,15 @@ use std::marker::Model;
 use std::sync::Arc;
 
 /// A byte string whose copies all share its bytes, so that a copy takes constant time and no memory.
-#[derive(Debug, Drop)]
+#[derive(Debug)]
 pub struct SharedBytes {
     shared: Arc<Vec<u8>, Global>,
+}
+
+impl Drop for SharedBytes {
+    fn drop(self) {
+        let SharedBytes { shared: _ } = self;
+    }
 }
 
 impl Model for SharedBytes {

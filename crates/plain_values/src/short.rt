@@ -8,11 +8,21 @@ use std::marker::Model;
 pub const SHORT: usize = 22;
 
 /// At most 22 bytes, stored inline.
-#[derive(Debug, Drop)]
+#[derive(Debug)]
 pub struct ShortBytes {
     alloc: Global,
     len: u8,
     bytes: [u8; 22],
+}
+
+impl Drop for ShortBytes {
+    fn drop(self) {
+        let ShortBytes {
+            alloc: _,
+            len: _,
+            bytes: _,
+        } = self;
+    }
 }
 
 impl Model for ShortBytes {

@@ -1,6 +1,6 @@
 -- The causes of refusals, over bit sets and adjacency lists.
 use Rattle.std.proofs.Common.{◌<◌, ◌↔◌, ◌≡◌}
-use Rattle.plan_choice.proofs.Prelude.{AreBitsOf, AreInConflict, AreNeededConflicts, ArePairsOf, arith, Bool, case_of, count_of, false, get_or, Global, IndexedCase, IsAmong, IsClearBelow, IsFirstPair, IsIdle, IsLeast, IsMember, IsNeeded, IsTrue, IsUnloadedNeed, LacksRequisite, least_along, length, List, member_read, nat_cmp, non_members_read, successors-below, successors_from, true, Vec, ℕ}
+use Rattle.plan_choice.proofs.Prelude.{AreBitsOf, AreInConflict, AreNeededConflicts, ArePairsOf, arith, Bool, case_of, count_of, false, get_or, IndexedCase, IsAmong, IsClearBelow, IsFirstPair, IsIdle, IsLeast, IsMember, IsNeeded, IsTrue, IsUnloadedNeed, LacksRequisite, least_along, length, List, member_read, nat_cmp, non_members_read, successors-below, successors_from, true, ℕ}
 use Rattle.plan_choice.proofs.Fitting.{is_false, stable, untrue}
 
 pub pair_along : (R S : ℕ → ℕ → Type 0) → ((u v : ℕ) → R u v ↔ S u v) → (a b : ℕ) → IsFirstPair nat_cmp R a b → IsFirstPair nat_cmp S a b
@@ -44,7 +44,7 @@ module _ (p : IndexedCase) (needed : List Bool) (n : AreBitsOf (count_of p) (IsN
     pub all_run : ((u v : ℕ) → ¬ (IsMember needed u × IsAmong v (successors_from p.requisites u) × IsMember idle v)) → (u v : ℕ) → IsNeeded (case_of p) u → IsAmong v ((case_of p).requisites u) → IsTrue ((case_of p).is_running v)
     all_run none u v h a = stable ((case_of p).is_running v) (λ out. none u v ((lacking u v).1 (h, a, is_false ((case_of p).is_running v) out)))
 
-  module _ (conflicting : List (List (Vec ℕ Global))) (r : ArePairsOf (count_of p) (AreInConflict (case_of p)) conflicting) where
+  module _ (conflicting : List (List (List ℕ))) (r : ArePairsOf (count_of p) (AreInConflict (case_of p)) conflicting) where
     pub rivalry : (u v : ℕ) → (IsMember needed u × IsAmong v (successors_from conflicting u) × IsMember needed v) ↔ AreNeededConflicts nat_cmp (case_of p) u v
     rivalry u v = (
       λ h. ((n.sets u).0 h.0, (n.sets v).0 h.2, (r.pairs u v).0 h.1),

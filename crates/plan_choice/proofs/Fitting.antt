@@ -1,16 +1,16 @@
 -- Bit sets, adjacency lists and options, as the code reads them.
 use Rattle.std.proofs.Common.{◌<◌, ◌∷◌, ◌≡◌}
-use Rattle.plan_choice.proofs.Prelude.{[], All, All-neighbors, among_from_contains, AreAdjacencyOf, AreBitsOf, AreSameNodes, AreSameSuccessors, AreSuccessorsOf, arith, Bool, Contains-get_or, false, get_or, Global, is_some, IsAmong, IsReached, IsTrue, List, MatchOption, neighbors, None, not, Option, refl, same_reached, Some, subst, suc, sym, true, Vec, zero, ℕ}
+use Rattle.plan_choice.proofs.Prelude.{[], All, All-neighbors, among_from_contains, AreAdjacencyOf, AreBitsOf, AreSameNodes, AreSameSuccessors, AreSuccessorsOf, arith, Bool, Contains-get_or, false, get_or, is_some, IsAmong, IsReached, IsTrue, List, MatchOption, neighbors, None, not, Option, refl, same_reached, Some, subst, suc, sym, true, zero, ℕ}
 
 -- the nodes of an adjacency list are below the length of a bit set of n units
-pub neighbors_fits : (m n : ℕ) (adjacency : List (Vec ℕ Global)) (u : ℕ) (r : List ℕ) → r ≡ neighbors adjacency u → AreAdjacencyOf n adjacency → m ≡ n → All (λ v. v < m) r
+pub neighbors_fits : (m n : ℕ) (adjacency : List (List ℕ)) (u : ℕ) (r : List ℕ) → r ≡ neighbors adjacency u → AreAdjacencyOf n adjacency → m ≡ n → All (λ v. v < m) r
 neighbors_fits m n adjacency u r e well_formed f =
     let P : List ℕ → Type 0 = λ l. All (λ v. v < m) l in
     let Q : ℕ → Type 0 = λ k. All (λ v. v < k) (neighbors adjacency u) in
     subst P (sym e) (subst Q (sym f) (All-neighbors n adjacency u well_formed.within))
 
 -- edges between n units fit a bit set of n units
-pub successors_fit : (m n : ℕ) (successors : List (List (Vec ℕ Global))) → AreSuccessorsOf n successors → m ≡ n → AreSuccessorsOf m successors
+pub successors_fit : (m n : ℕ) (successors : List (List (List ℕ))) → AreSuccessorsOf n successors → m ≡ n → AreSuccessorsOf m successors
 successors_fit m n successors a e = let P : ℕ → Type 0 = λ k. AreSuccessorsOf k successors in subst P (sym e) a
 
 pub one_place : (n u : ℕ) → u < n → All (λ v. v < n) (u ∷ [])

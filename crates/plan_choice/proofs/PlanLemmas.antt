@@ -1,6 +1,6 @@
 -- What starts and what stops, over bit sets and adjacency lists.
 use Rattle.std.proofs.Common.{◌↔◌, ◌≡◌}
-use Rattle.plan_choice.proofs.Prelude.{AreBitsOf, AreInConflict, ArePairsOf, arith, Bool, CanStart, case_of, count_of, cycle_along, Global, IndexedCase, IsAmong, IsChosen, IsClearBelow, IsClosure, IsCycle, IsMember, IsOutside, IsStartList, IsStoppedByConflict, IsStuck, LeadsInside, least_along, List, Listed, nat_cmp, opposite_is, same_closure, Starts, subst, successors_from, TakesAlong, Vec, WaitsForever, ℕ}
+use Rattle.plan_choice.proofs.Prelude.{AreBitsOf, AreInConflict, ArePairsOf, arith, Bool, CanStart, case_of, count_of, cycle_along, IndexedCase, IsAmong, IsChosen, IsClearBelow, IsClosure, IsCycle, IsMember, IsOutside, IsStartList, IsStoppedByConflict, IsStuck, LeadsInside, least_along, List, Listed, nat_cmp, opposite_is, same_closure, Starts, subst, successors_from, TakesAlong, WaitsForever, ℕ}
 
 -- ---- the same chosen nodes have the same start list, the same stuck nodes and the same cycle
 module _ (s t : ℕ → Type 0) (before : ℕ → ℕ → Type 0) (same : (u : ℕ) → s u ↔ t u) where
@@ -44,7 +44,7 @@ module _ (p : IndexedCase) (chosen : List Bool) (c : AreBitsOf (count_of p) (IsC
       λ h. (left u).1 (h.runs, λ m. h.unchosen ((c.sets u).0 m)),
     )
 
-    pub stopped_is : (conflicting : List (List (Vec ℕ Global))) (stopped_by_conflict stops : List ℕ) → ArePairsOf (count_of p) (AreInConflict (case_of p)) conflicting
+    pub stopped_is : (conflicting : List (List (List ℕ))) (stopped_by_conflict stops : List ℕ) → ArePairsOf (count_of p) (AreInConflict (case_of p)) conflicting
         → ((u : ℕ) → IsAmong u stopped_by_conflict ↔ (IsMember outside u × ((v : ℕ) × (IsAmong v (successors_from conflicting u) × IsMember chosen v))))
         → IsClosure (Listed stopped_by_conflict) (LeadsInside outside p.takes_along) nat_cmp stops → IsClosure (IsStoppedByConflict nat_cmp (case_of p)) (TakesAlong nat_cmp (case_of p)) nat_cmp stops
     stopped_is conflicting stopped_by_conflict stops r o =

@@ -3,10 +3,19 @@
 use plain_values::Items;
 
 /// The units that stop, in ascending order, and then the units that start, in their start order.
-#[derive(Debug, Drop)]
+#[derive(Debug)]
 pub struct IndexedPlan {
     pub stops: Vec<usize>,
     pub starts: Vec<usize>,
+}
+
+impl Drop for IndexedPlan {
+    fn drop(self) {
+        let IndexedPlan {
+            stops: _,
+            starts: _,
+        } = self;
+    }
 }
 
 /// Why there is no plan, by indices or by names of units, in the order in which the causes are tested.

@@ -9,8 +9,7 @@ ghost use Rattle.plan_choice.specs.{Answers.{IsClearBelow, IsFirstPair, IsPlan, 
 use crate::answers::{IndexedPlan, PlanRefusal};
 use crate::cases::IndexedCase;
 use index_rows::{
-    Successors, empty_bits, first_member, members_of, neighbors, non_members, reached,
-    reached_inside, without,
+    Successors, empty_bits, first_member, members_of, non_members, reached, reached_inside, without,
 };
 use plain_values::Items;
 use start_order::start_order;
@@ -135,9 +134,9 @@ fn losers(alloc: Global, case: &IndexedCase, extra: &[bool]) -> Result<Vec<usize
     let mut named = empty_bits(alloc, extra.len())?;
     let mut units = Vec::new(alloc);
     for (unit, is_extra) in extra.iter().enumerate() {
-        set_bits(&mut named, neighbors(case.conflicts, unit), true);
-        let lost = loses(extra, &named, neighbors(case.conflicted_by, unit), unit);
-        set_bits(&mut named, neighbors(case.conflicts, unit), false);
+        set_bits(&mut named, case.conflicts.neighbors(unit), true);
+        let lost = loses(extra, &named, case.conflicted_by.neighbors(unit), unit);
+        set_bits(&mut named, case.conflicts.neighbors(unit), false);
         if lost && *is_extra {
             units.push(unit)?;
         }

@@ -2,7 +2,7 @@
 ghost use Rattle.std.specs.Prelude.{◌≡◌, ◌<◌, length};
 ghost use Rattle.index_rows.specs.{Adjacency.{AreAdjacencyOf, AreTransposed, neighbors as neighbors_of}, Successors.{AreOpposite, AreSuccessorsOf, successors_from}};
 
-use index_rows::Successors;
+use index_rows::{AdjacencyLists, Successors};
 
 /// What is known of units given by indices from 0, and the target. Each vector has one element for each unit. The
 /// adjacency lists are borrowed; they have units in any order, possibly repeated.
@@ -19,13 +19,13 @@ pub struct IndexedCase<'a> {
     pub wants: Successors<'a>,
     pub requisites: Successors<'a>,
     /// What each unit's own settings conflict with.
-    pub conflicts: &'a [Vec<usize>],
+    pub conflicts: &'a AdjacencyLists,
     /// The units whose own settings conflict with each unit.
-    pub conflicted_by: &'a [Vec<usize>],
+    pub conflicted_by: &'a AdjacencyLists,
     /// What is to start before each unit.
-    pub predecessors: &'a [Vec<usize>],
+    pub predecessors: &'a AdjacencyLists,
     /// What is to start after each unit.
-    pub successors: &'a [Vec<usize>],
+    pub successors: &'a AdjacencyLists,
     /// What each unit requires, has as requisite, binds to or is part of.
     pub stops_with: Successors<'a>,
     /// What requires each unit, has it as requisite, binds to it or is part of it.

@@ -28,10 +28,19 @@ pub enum EditFault {
 }
 
 /// A node's replica: its store, and the number under which it writes.
-#[derive(Debug, Drop)]
+#[derive(Debug)]
 pub struct Replica {
     writer: u32,
     store: Store,
+}
+
+impl Drop for Replica {
+    fn drop(self) {
+        let Replica {
+            writer: _,
+            store: _,
+        } = self;
+    }
 }
 
 impl Model for Replica {

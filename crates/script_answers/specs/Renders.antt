@@ -2,11 +2,12 @@
 -- Source: systemctl(1), "show", "list-dependencies", "start"; the texts are this project's own.
 use Rattle.std.proofs.Common.{◌≡◌}
 use Rattle.script_answers.specs.Prelude.{[], Answer, EntryMap, Err, IsAnswer, List, MatchResult, name_of, NameFault, Ok, Option, Outcome, Question, Result, Viewer, ℕ}
-use Rattle.script_answers.specs.{declared.requests.Inquiry.{Inquiry}, Files.{RefusesName}, Hosts.{ForHost}, Plans.{plan_text, RefusesPlan}, PulledLines.{pulled_text}, Requests.{request_of}, UnitLines.{unit_text}}
+use Rattle.script_answers.specs.{Files.{RefusesName}, Hosts.{ForHost}, Plans.{plan_text, RefusesPlan}, PulledLines.{pulled_text}, Requests.{request_of}, UnitLines.{unit_text}}
 use Rattle.script_commands.specs.declared.commands.LineRefusal.TheVariants as refusal
 use Rattle.fleet_answers.specs.declared.questions.Answer.TheVariants as answer
 use Rattle.fleet_answers.specs.declared.questions.Question.TheVariants as question
-use Rattle.script_answers.specs.declared.requests.Inquiry.TheVariants as inquiry
+use Rattle.script_commands.specs.declared.commands.Inquiry.{Inquiry}
+use Rattle.script_commands.specs.declared.commands.Inquiry.TheVariants as inquiry
 
 -- the outcome is the text of this answer, or its refusal
 abbrev pub IsOutcomeOf : Answer → Outcome → Type 0
@@ -55,15 +56,6 @@ question_asked (inquiry.Plan unit running) = plan_asked unit running
 -- the answer to the question that is made for it
 abbrev pub RendersFor : (Viewer → Result Question NameFault) → Option (List ℕ) → EntryMap → Outcome → Type 0
 RendersFor asks_for asked = ForHost asked (λ host. RendersWords (asks_for host))
-
-abbrev pub RendersUnit : Option (List ℕ) → List ℕ → EntryMap → Outcome → Type 0
-RendersUnit asked word = RendersFor (unit_asked word) asked
-
-abbrev pub RendersList : Option (List ℕ) → List ℕ → EntryMap → Outcome → Type 0
-RendersList asked word = RendersFor (pulled_asked word) asked
-
-abbrev pub RendersPlan : Option (List ℕ) → List ℕ → List (List ℕ) → EntryMap → Outcome → Type 0
-RendersPlan asked unit running = RendersFor (plan_asked unit running) asked
 
 -- the answer to what words ask
 abbrev pub RendersInquiry : Option (List ℕ) → Inquiry → EntryMap → Outcome → Type 0

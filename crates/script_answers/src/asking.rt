@@ -1,16 +1,17 @@
 //! Questions on a node's store, and how their answers are rendered.
+ghost use Rattle.std.specs.Prelude.{◌≡◌, ◌<◌, length, slice_index_or};
+ghost use Rattle.replica_store.specs.Replicas.{Replicated};
 ghost use Rattle.script_commands.specs.Outcomes.{IsSaid};
 ghost use Rattle.script_answers.specs.Renders.{IsOutcomeOf, RendersInquiry};
 
 use crate::plan_lines::plan_text;
 use crate::pulled_lines::pulled_text;
 use crate::refusals::fault_of_plan;
-use crate::requests::{Inquiry, read_question};
+use crate::requests::read_question;
 use crate::unit_lines::unit_text;
 use crate::worker_counts::WorkerCount;
-use fleet_answers::{Answer, AnswerFault, Snapshots, answer_again};
-use replica_store::Store;
-use script_commands::{Fault, LineRefusal, Word, read_host};
+use fleet_answers::{Answer, AnswerFault, SnapshotLimit, TrackedReplica};
+use script_commands::{Fault, Inquiry, LineRefusal, Word, read_host};
 use std::alloc::Global;
 use std::thread::Threads;
 use worker_rounds::OpenGate;
@@ -21,24 +22,27 @@ use worker_rounds::OpenGate;
 /// be loaded; and for a request without a plan, with the first cause that holds.
 ///
 /// It loads all units once, including all names that are asked for, with 1 to 64 workers; their number doesn't affect
-/// the answer. The load of the node's last question is refreshed, and cached for the next one; no answer depends on it.
+/// the answer. The node caches the load for its next question, which reads again only what was touched since. No
+/// answer depends on that.
 pub fn render_inquiry<R: Threads + Sync>(
     rt: &R,
     alloc: Global,
-    snapshots: &mut Snapshots,
+    snapshots: &mut SnapshotLimit,
+    nodes: &mut [TrackedReplica],
     node: usize,
-    store: &Store,
     host: Option<Word<'_>>,
     inquiry: Inquiry<'_>,
     workers: &WorkerCount,
 ) -> Result<Vec<u8>, Fault>
-    ensures rendered { IsSaid (λ text. text.items) result (RendersInquiry host.entry inquiry.entry store.now) }
+    requires within { node < length nodes.old }
+    ensures rendered { (d : Replicated) → IsSaid (λ text. text.items) result
+        (RendersInquiry host.entry inquiry.entry (slice_index_or nodes.old node d).store) }
+    ensures same { nodes.new ≡ nodes.old }
 {
     let host = read_host(alloc, host)?;
     let question = read_question(alloc, host, inquiry)?;
     let workers = workers.count() as usize;
-    let gate = OpenGate;
-    match answer_again(rt, alloc, snapshots, node, store, &question, workers, &gate) {
+    match snapshots.answer(rt, alloc, nodes, node, &question, workers, &OpenGate) {
         Ok(answer) => answer_text(alloc, answer),
         Err(AnswerFault::Workers) => unreachable!(),
         Err(AnswerFault::Memory) => Err(Fault::Memory),

@@ -28,5 +28,4 @@ pub use asking::render_inquiry;
 pub use crowding::render_crowd;
 pub use files::render_files;
 pub use laws::rendering_laws;
-pub use requests::Inquiry;
 pub use worker_counts::WorkerCount;

@@ -6,24 +6,10 @@ ghost use Rattle.script_answers.specs.{Requests.{IsNameFault, names_in, request_
 use fleet_answers::Question;
 use plain_values::Items;
 use replica_store::HostName;
-use script_commands::{Fault, Word, Words};
+use script_commands::{Fault, Inquiry, Words};
 use start_plan::Request;
 use std::alloc::Global;
 use unit_name::UnitName;
-
-/// What words ask of the units of a node.
-#[derive(Drop)]
-pub enum Inquiry<'a> {
-    /// The unit that a word names: its main name, status, names, drop-ins, values, dependencies in both directions, and
-    /// notes.
-    Unit(Word<'a>),
-    /// What the unit that a word names pulls, over what it requires, has as requisite, binds to and wants: each unit
-    /// once with its least distance, ordered by distance and then by name.
-    List(Word<'a>),
-    /// What stops, and then what starts and in which order, if the unit that a word names is to start while those that
-    /// other words name are running.
-    Plan(Word<'a>, Words<'a>),
-}
 
 /// Returns the question that words ask for a host or for the fleet. Fails with the first thing wrong with the first
 /// word that isn't a unit's name, or if memory runs out, which may replace any answer.

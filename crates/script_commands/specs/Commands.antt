@@ -2,7 +2,8 @@
 -- Source: this project's own.
 use Rattle.std.proofs.Common.{if◌then◌else◌, ◌&&◌, ◌∷◌}
 use Rattle.script_commands.specs.Prelude.{[], bytes_eq, codes, Err, is_name, List, nat_le, None, number_of, Ok, Option, Result, Some, text_after, words_of, ℕ}
-use Rattle.script_commands.specs.{declared.commands.{Command.{Command, TheVariants.{Cat, Crowd, Files, Link, List as ListUnits, Merge, Node, Part, Plan, Put, Remove, Same, Send, Show, Sweep, Workers}}, LineRefusal.{LineRefusal, TheVariants.{Arguments, UnknownCommand}}}, Hosts.{host_in, node_in}}
+use Rattle.script_commands.specs.{declared.commands.{Command.{Command, TheVariants.{Ask, Cat, Crowd, Files, Link, Merge, Node, Part, Put, Remove, Same, Send, Sweep, Workers}}, Inquiry.{Inquiry}, LineRefusal.{LineRefusal, TheVariants.{Arguments, UnknownCommand}}}, Hosts.{host_in, node_in}}
+use Rattle.script_commands.specs.declared.commands.Inquiry.TheVariants as inquiry
 
 -- a command with a name and a word
 abbrev pub with_name_and_word : (List ℕ → List ℕ → Command) → List (List ℕ) → Result Command LineRefusal
@@ -14,6 +15,10 @@ with_name_and_word command words = Err Arguments
 abbrev pub with_node_and_word : (List ℕ → Option (List ℕ) → List ℕ → Command) → List (List ℕ) → Result Command LineRefusal
 with_node_and_word command (first ∷ word ∷ []) = if is_name (node_in first) then Ok (command (node_in first) (host_in first) word) else Err Arguments
 with_node_and_word command words = Err Arguments
+
+-- a command that asks about a node's units, with a word
+abbrev pub asking : (List ℕ → Inquiry) → List ℕ → Option (List ℕ) → List ℕ → Command
+asking inquiry_of node host word = Ask node host (inquiry_of word)
 
 -- a command with two names
 abbrev pub with_two_names : (List ℕ → List ℕ → Command) → List (List ℕ) → Result Command LineRefusal
@@ -53,7 +58,7 @@ files_command words = Err Arguments
 -- the node and its host are one word, as in `with_node_and_word`; the running units are the remaining words; there may
 -- be none
 abbrev pub plan_command : List (List ℕ) → Result Command LineRefusal
-plan_command (first ∷ unit ∷ running) = if is_name (node_in first) then Ok (Plan (node_in first) (host_in first) unit running) else Err Arguments
+plan_command (first ∷ unit ∷ running) = if is_name (node_in first) then Ok (Ask (node_in first) (host_in first) (inquiry.Plan unit running)) else Err Arguments
 plan_command words = Err Arguments
 
 abbrev pub workers_with : Option ℕ → Result Command LineRefusal
@@ -78,8 +83,8 @@ crowd_command words = Err Arguments
 abbrev pub unit_question_of : List ℕ → List (List ℕ) → Result Command LineRefusal
 unit_question_of verb words =
     if bytes_eq verb (codes "cat") then with_node_and_word Cat words
-    else (if bytes_eq verb (codes "show") then with_node_and_word Show words
-    else (if bytes_eq verb (codes "list") then with_node_and_word ListUnits words
+    else (if bytes_eq verb (codes "show") then with_node_and_word (asking inquiry.Unit) words
+    else (if bytes_eq verb (codes "list") then with_node_and_word (asking inquiry.List) words
     else (if bytes_eq verb (codes "plan") then plan_command words
     else Err UnknownCommand)))
 

@@ -2,7 +2,8 @@
 -- it.
 use Rattle.std.proofs.Common.{◌&&◌, ◌∷◌, ◌≡◌, ◌⊎◌}
 use Rattle.script_commands.specs.Prelude.{[], and_from, and_parts, ap, Bool, bytes_eq, bytes_eq-Decides, codes, cond, cond-true, drop, Err, false, inl, inr, is_name, le-leb, leb-true, List, nat_le, None, number_of, Ok, Option, refl, Result, Some, subst, sym, text_after, true, true≢false, words_of, ℕ, ◌∙◌}
-use Rattle.script_commands.specs.{Commands.{command_of_words, crowd_command, crowd_with, files_command, link_command, node_command, node_with, part_command, plan_command, put_command, sweep_command, with_name_and_word, with_node_and_word, with_two_names, workers_command, workers_with}, declared.commands.{Command.{Command, TheVariants.{Cat, Crowd, Files, Link, List as ListUnits, Merge, Node, Part, Plan, Put, Remove, Same, Send, Show, Sweep, Workers}}, LineRefusal.{LineRefusal, TheVariants.{Arguments, UnknownCommand}}}, HostLaws.{node_word-read}, Hosts.{host_in, node_in, node_word}, WrittenLaws.{AreWordsOf, BeginsWithVerb, IsName, IsOneOf, JustItsWordsAreRead, node_word_is_cut, OthersAreRefused, verbs}}
+use Rattle.script_commands.specs.{Commands.{asking, command_of_words, crowd_command, crowd_with, files_command, link_command, node_command, node_with, part_command, plan_command, put_command, sweep_command, with_name_and_word, with_node_and_word, with_two_names, workers_command, workers_with}, declared.commands.{Command.{Command, TheVariants.{Ask, Cat, Crowd, Files, Link, Merge, Node, Part, Put, Remove, Same, Send, Sweep, Workers}}, LineRefusal.{LineRefusal, TheVariants.{Arguments, UnknownCommand}}}, HostLaws.{node_word-read}, Hosts.{host_in, node_in, node_word}, WrittenLaws.{AreWordsOf, BeginsWithVerb, IsName, IsOneOf, JustItsWordsAreRead, node_word_is_cut, OthersAreRefused, verbs}}
+use Rattle.script_commands.specs.declared.commands.Inquiry.TheVariants as inquiry
 
 -- No other words.
 
@@ -82,7 +83,7 @@ module _ (c : Command) (line : List ℕ) where
 
   plan_read : (words : List (List ℕ)) → plan_command words ≡ Ok c → AreWordsOf c (codes "plan" ∷ words) line
   plan_read (first ∷ unit ∷ running) e =
-      read_where (is_name (node_in first)) (Plan (node_in first) (host_in first) unit running) (codes "plan" ∷ first ∷ unit ∷ running)
+      read_where (is_name (node_in first)) (Ask (node_in first) (host_in first) (inquiry.Plan unit running)) (codes "plan" ∷ first ∷ unit ∷ running)
       (λ named. (ap (λ v. codes "plan" ∷ v ∷ unit ∷ running) (sym (node_word-read first)), named)) e
   plan_read words e = absurd (never Arguments c e)
 
@@ -136,10 +137,10 @@ module _ (c : Command) (line : List ℕ) where
       verb_or verb (codes "crowd") words (crowd_command words) _ e10 (crowd_read words) (λ e11.
       verb_or verb (codes "cat") words (with_node_and_word Cat words) _ e11
       (node_and_word_read (codes "cat") Cat (λ node host unit named. (refl, named)) words) (λ e12.
-      verb_or verb (codes "show") words (with_node_and_word Show words) _ e12
-      (node_and_word_read (codes "show") Show (λ node host unit named. (refl, named)) words) (λ e13.
-      verb_or verb (codes "list") words (with_node_and_word ListUnits words) _ e13
-      (node_and_word_read (codes "list") ListUnits (λ node host unit named. (refl, named)) words) (λ e14.
+      verb_or verb (codes "show") words (with_node_and_word (asking inquiry.Unit) words) _ e12
+      (node_and_word_read (codes "show") (asking inquiry.Unit) (λ node host unit named. (refl, named)) words) (λ e13.
+      verb_or verb (codes "list") words (with_node_and_word (asking inquiry.List) words) _ e13
+      (node_and_word_read (codes "list") (asking inquiry.List) (λ node host unit named. (refl, named)) words) (λ e14.
       verb_or verb (codes "plan") words (plan_command words) _ e14 (plan_read words) (λ e15.
       absurd (never UnknownCommand c e15)))))))))))))))))
 
@@ -158,12 +159,12 @@ read_as Sweep words line same = ap (λ v. command_of_words v line) same
 read_as (Files node) words line (same, named) = ap (λ v. command_of_words v line) same ∙ cond-true _ _ _ named
 read_as (Cat node host unit) words line (same, named) =
     ap (λ v. command_of_words v line) same ∙ node_word_is_cut node host (λ n h. Cat n h unit) named
-read_as (Show node host unit) words line (same, named) =
-    ap (λ v. command_of_words v line) same ∙ node_word_is_cut node host (λ n h. Show n h unit) named
-read_as (ListUnits node host unit) words line (same, named) =
-    ap (λ v. command_of_words v line) same ∙ node_word_is_cut node host (λ n h. ListUnits n h unit) named
-read_as (Plan node host unit running) words line (same, named) =
-    ap (λ v. command_of_words v line) same ∙ node_word_is_cut node host (λ n h. Plan n h unit running) named
+read_as (Ask node host (inquiry.Unit unit)) words line (same, named) =
+    ap (λ v. command_of_words v line) same ∙ node_word_is_cut node host (λ n h. Ask n h (inquiry.Unit unit)) named
+read_as (Ask node host (inquiry.List unit)) words line (same, named) =
+    ap (λ v. command_of_words v line) same ∙ node_word_is_cut node host (λ n h. Ask n h (inquiry.List unit)) named
+read_as (Ask node host (inquiry.Plan unit running)) words line (same, named) =
+    ap (λ v. command_of_words v line) same ∙ node_word_is_cut node host (λ n h. Ask n h (inquiry.Plan unit running)) named
 read_as (Workers count) words line (number, same, is) = ap (λ v. command_of_words v line) same ∙ ap workers_with is
 read_as (Same left right) words line (same, is, and) = ap (λ v. command_of_words v line) same ∙ cond-true _ _ _ (and_from _ _ is and)
 read_as (Crowd node seats edits) words line (first, second, same, is, and, named, few) =
@@ -229,7 +230,7 @@ module _ (r : LineRefusal) (line : List ℕ) where
   files_refused words e = same_refusal r Arguments e
 
   plan_refused : (words : List (List ℕ)) → plan_command words ≡ Err r → r ≡ Arguments
-  plan_refused (first ∷ unit ∷ running) e = refused_where (is_name (node_in first)) (Plan (node_in first) (host_in first) unit running) r e
+  plan_refused (first ∷ unit ∷ running) e = refused_where (is_name (node_in first)) (Ask (node_in first) (host_in first) (inquiry.Plan unit running)) r e
   plan_refused words e = same_refusal r Arguments e
 
   workers_refused : (words : List (List ℕ)) → workers_command words ≡ Err r → r ≡ Arguments
@@ -285,8 +286,8 @@ module _ (r : LineRefusal) (line : List ℕ) where
       refused_at verb (codes "same") (drop 11 verbs) (with_two_names Same words) _ e9 (two_names_refused Same words) (λ e10.
       refused_at verb (codes "crowd") (drop 12 verbs) (crowd_command words) _ e10 (crowd_refused words) (λ e11.
       refused_at verb (codes "cat") (drop 13 verbs) (with_node_and_word Cat words) _ e11 (node_and_word_refused Cat words) (λ e12.
-      refused_at verb (codes "show") (drop 14 verbs) (with_node_and_word Show words) _ e12 (node_and_word_refused Show words) (λ e13.
-      refused_at verb (codes "list") (drop 15 verbs) (with_node_and_word ListUnits words) _ e13 (node_and_word_refused ListUnits words) (λ e14.
+      refused_at verb (codes "show") (drop 14 verbs) (with_node_and_word (asking inquiry.Unit) words) _ e12 (node_and_word_refused (asking inquiry.Unit) words) (λ e13.
+      refused_at verb (codes "list") (drop 15 verbs) (with_node_and_word (asking inquiry.List) words) _ e13 (node_and_word_refused (asking inquiry.List) words) (λ e14.
       refused_at verb (codes "plan") (drop 16 verbs) (plan_command words) _ e14 (plan_refused words) (λ e15.
       inr (λ none. none, same_refusal r UnknownCommand e15)))))))))))))))))
 

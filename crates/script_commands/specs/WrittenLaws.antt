@@ -2,7 +2,8 @@
 use Rattle.std.proofs.Common.{◌&&◌, ◌++◌, ◌<◌, ◌^◌, ◌↔◌, ◌∷◌, ◌≡◌, ◌≢◌, ◌≤◌, ◌⊎◌}
 use Rattle.script_words.specs.Names.{is_name}
 use Rattle.script_commands.specs.Prelude.{[], All, All-append, All-cons, All-from_recursion, AllByRecursion, and_from, and_parts, ap, append_assoc, arith, Bool, codes, cond, cond-true, decimal, decimal_nonempty, digits_decimal, Err, false, is_ascii_alphanumeric, is_ascii_digit, IsDigitsTest, IsWord, join_with_byte, le-leb, length, length-append, length-decimal-le, List, list_all, nat_lt, nat_tests, None, number_of, number_of-decimal, numerals_by_value, Ok, Option, recursion_from_All, refl, Result, rules, Some, spaced, sym, text_after, text_after-last, text_after-spaced, true, true≢false, words_of, words_of-nil, words_of-spaced, words_of-word, words_of-word_space, ℕ, ◌∙◌}
-use Rattle.script_commands.specs.{Commands.{command_of, command_of_words, crowd_with, node_with, with_name_and_word, with_node_and_word, with_two_names, workers_with}, declared.commands.{Command.{Command, TheVariants.{Cat, Crowd, Files, Link, List as ListUnits, Merge, Node, Part, Plan, Put, Remove, Same, Send, Show, Sweep, Workers}}, LineRefusal.{LineRefusal, TheVariants.{Arguments, UnknownCommand}}}, HostLaws.{host_in-node_word, node_in-node_word}, Hosts.{host_in, node_in, node_word}}
+use Rattle.script_commands.specs.{Commands.{asking, command_of, command_of_words, crowd_with, node_with, with_name_and_word, with_node_and_word, with_two_names, workers_with}, declared.commands.{Command.{Command, TheVariants.{Ask, Cat, Crowd, Files, Link, Merge, Node, Part, Put, Remove, Same, Send, Sweep, Workers}}, LineRefusal.{LineRefusal, TheVariants.{Arguments, UnknownCommand}}}, HostLaws.{host_in-node_word, node_in-node_word}, Hosts.{host_in, node_in, node_word}}
+use Rattle.script_commands.specs.declared.commands.Inquiry.TheVariants as inquiry
 
 -- words with one space between them
 abbrev pub line_of : List (List ℕ) → List ℕ
@@ -78,16 +79,16 @@ abbrev pub CatIsReadBack : Type 0
 CatIsReadBack = NodeAndWordAreReadBack (codes "cat") Cat
 
 abbrev pub ShowIsReadBack : Type 0
-ShowIsReadBack = NodeAndWordAreReadBack (codes "show") Show
+ShowIsReadBack = NodeAndWordAreReadBack (codes "show") (asking inquiry.Unit)
 
 abbrev pub ListIsReadBack : Type 0
-ListIsReadBack = NodeAndWordAreReadBack (codes "list") ListUnits
+ListIsReadBack = NodeAndWordAreReadBack (codes "list") (asking inquiry.List)
 
 -- any number of running units, even none
 abbrev pub PlanIsReadBack : Type 0
 PlanIsReadBack = (node : List ℕ) (host : Option (List ℕ)) (unit : List ℕ) (running : List (List ℕ))
     → IsName node → HasNoSpace host → IsWord unit → All IsWord running
-    → command_of (line_of (codes "plan" ∷ node_word node host ∷ unit ∷ running)) ≡ Ok (Plan node host unit running)
+    → command_of (line_of (codes "plan" ∷ node_word node host ∷ unit ∷ running)) ≡ Ok (Ask node host (inquiry.Plan unit running))
 
 -- a 32-bit number in decimal
 abbrev pub WorkersIsReadBack : Type 0
@@ -117,9 +118,9 @@ AreWordsOf (Send piece node) words line = (words ≡ codes "send" ∷ piece ∷ 
 AreWordsOf Sweep words line = words ≡ codes "sweep" ∷ []
 AreWordsOf (Files node) words line = (words ≡ codes "files" ∷ node ∷ []) × IsName node
 AreWordsOf (Cat node host unit) words line = (words ≡ codes "cat" ∷ node_word node host ∷ unit ∷ []) × IsName node
-AreWordsOf (Show node host unit) words line = (words ≡ codes "show" ∷ node_word node host ∷ unit ∷ []) × IsName node
-AreWordsOf (ListUnits node host unit) words line = (words ≡ codes "list" ∷ node_word node host ∷ unit ∷ []) × IsName node
-AreWordsOf (Plan node host unit running) words line = (words ≡ codes "plan" ∷ node_word node host ∷ unit ∷ running) × IsName node
+AreWordsOf (Ask node host (inquiry.Unit unit)) words line = (words ≡ codes "show" ∷ node_word node host ∷ unit ∷ []) × IsName node
+AreWordsOf (Ask node host (inquiry.List unit)) words line = (words ≡ codes "list" ∷ node_word node host ∷ unit ∷ []) × IsName node
+AreWordsOf (Ask node host (inquiry.Plan unit running)) words line = (words ≡ codes "plan" ∷ node_word node host ∷ unit ∷ running) × IsName node
 AreWordsOf (Workers count) words line = (number : List ℕ) × (words ≡ codes "workers" ∷ number ∷ []) × (number_of number ≡ Some count)
 AreWordsOf (Same left right) words line = (words ≡ codes "same" ∷ left ∷ right ∷ []) × IsName left × IsName right
 AreWordsOf (Crowd node seats edits) words line =
@@ -309,16 +310,16 @@ pub cat_is_read_back : CatIsReadBack
 cat_is_read_back = node_and_word_are_read_back (codes "cat") Cat refl (λ words line. refl)
 
 pub show_is_read_back : ShowIsReadBack
-show_is_read_back = node_and_word_are_read_back (codes "show") Show refl (λ words line. refl)
+show_is_read_back = node_and_word_are_read_back (codes "show") (asking inquiry.Unit) refl (λ words line. refl)
 
 pub list_is_read_back : ListIsReadBack
-list_is_read_back = node_and_word_are_read_back (codes "list") ListUnits refl (λ words line. refl)
+list_is_read_back = node_and_word_are_read_back (codes "list") (asking inquiry.List) refl (λ words line. refl)
 
 pub plan_is_read_back : PlanIsReadBack
 plan_is_read_back node host unit running is free word all =
     let words : List (List ℕ) = codes "plan" ∷ node_word node host ∷ unit ∷ running in
     read_words words (is_verb (codes "plan") refl, (node_word_is_word node host is free, (word, recursion_from_All IsWord running all)))
-    ∙ node_word_is_cut node host (λ n h. Plan n h unit running) is
+    ∙ node_word_is_cut node host (λ n h. Ask n h (inquiry.Plan unit running)) is
 
 pub workers_is_read_back : WorkersIsReadBack
 workers_is_read_back count small =

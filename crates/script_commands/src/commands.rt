@@ -78,6 +78,20 @@ impl<'a> Words<'a> {
     }
 }
 
+/// What a command asks about the units of a node.
+#[derive(Drop)]
+pub enum Inquiry<'a> {
+    /// The unit that a word names: its main name, status, names, drop-ins, values, dependencies in both directions, and
+    /// notes.
+    Unit(Word<'a>),
+    /// What the unit that a word names pulls, over what it requires, has as requisite, binds to and wants: each unit
+    /// once with its least distance, ordered by distance and then by name.
+    List(Word<'a>),
+    /// What stops, and then what starts and in which order, if the unit that a word names is to start while those that
+    /// other words name are running.
+    Plan(Word<'a>, Words<'a>),
+}
+
 /// A command: what a line asks for.
 #[derive(Drop)]
 pub enum Command<'a> {
@@ -133,24 +147,11 @@ pub enum Command<'a> {
         host: Option<Word<'a>>,
         unit: Word<'a>,
     },
-    /// Shows a unit, evaluated from a node's files: its names, files, values, dependencies and notes.
-    Show {
+    /// Asks about the units of a node, evaluated from its files.
+    Ask {
         node: Word<'a>,
         host: Option<Word<'a>>,
-        unit: Word<'a>,
-    },
-    /// Lists everything that a unit pulls, evaluated from a node's files, each with its least distance.
-    List {
-        node: Word<'a>,
-        host: Option<Word<'a>>,
-        unit: Word<'a>,
-    },
-    /// Plans what stops and what starts if a unit is to start while others run, evaluated from a node's files.
-    Plan {
-        node: Word<'a>,
-        host: Option<Word<'a>>,
-        unit: Word<'a>,
-        running: Words<'a>,
+        inquiry: Inquiry<'a>,
     },
     /// Sets the number of workers for later loads.
     Workers {

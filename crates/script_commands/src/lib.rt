@@ -17,7 +17,7 @@ mod laws;
 mod parsing;
 mod place_words;
 
-pub use commands::{Command, Fault, LineRefusal, Word, Words};
+pub use commands::{Command, Fault, Inquiry, LineRefusal, Word, Words};
 pub use edit_counts::EditCount;
 pub use host_words::read_host;
 pub use laws::commands_read_back;

@@ -3,7 +3,7 @@ ghost use Rattle.std.specs.{Prelude.{◌≡◌}, Str.{bytes_eq}};
 ghost use Rattle.script_words.specs.Words.{words_of, text_after};
 ghost use Rattle.script_commands.specs.Commands.{change_of, command_of, exchange_of, question_of, unit_question_of};
 
-use crate::commands::{Command, LineRefusal};
+use crate::commands::{Command, Inquiry, LineRefusal};
 use crate::fields::Fields;
 
 /// Returns the command of a line, or why it isn't one. Linear in the line. Allocates nothing.
@@ -115,19 +115,27 @@ fn unit_question<'a>(verb: &[u8], mut fields: Fields<'a>) -> Result<Command<'a>,
         Ok(Command::Cat { node, host, unit })
     } else if is_same(verb, b"show") {
         let (node, host) = fields.node_and_host()?;
-        let unit = fields.last_word()?;
-        Ok(Command::Show { node, host, unit })
-    } else if is_same(verb, b"list") {
-        let (node, host) = fields.node_and_host()?;
-        let unit = fields.last_word()?;
-        Ok(Command::List { node, host, unit })
-    } else if is_same(verb, b"plan") {
-        let (node, host) = fields.node_and_host()?;
-        Ok(Command::Plan {
+        let inquiry = Inquiry::Unit(fields.last_word()?);
+        Ok(Command::Ask {
             node,
             host,
-            unit: fields.word()?,
-            running: fields.rest(),
+            inquiry,
+        })
+    } else if is_same(verb, b"list") {
+        let (node, host) = fields.node_and_host()?;
+        let inquiry = Inquiry::List(fields.last_word()?);
+        Ok(Command::Ask {
+            node,
+            host,
+            inquiry,
+        })
+    } else if is_same(verb, b"plan") {
+        let (node, host) = fields.node_and_host()?;
+        let inquiry = Inquiry::Plan(fields.word()?, fields.rest());
+        Ok(Command::Ask {
+            node,
+            host,
+            inquiry,
         })
     } else {
         Err(LineRefusal::UnknownCommand)

@@ -7,7 +7,7 @@ use std::alloc::AllocError;
 use std::fmt;
 
 /// An assignment in a section (systemd.syntax(7), "Introduction").
-#[derive(Debug, PartialEq, Eq, Drop)]
+#[derive(Debug, PartialEq, Eq)]
 pub struct Assignment {
     /// The name of the section. All assignments of a section share its bytes.
     pub section: Bytes,
@@ -17,6 +17,17 @@ pub struct Assignment {
     pub value: Bytes,
     /// The line number, from 1; for joined lines, that of the first.
     pub line: usize,
+}
+
+impl Drop for Assignment {
+    fn drop(self) {
+        let Assignment {
+            section: _,
+            key: _,
+            value: _,
+            line: _,
+        } = self;
+    }
 }
 
 /// Copies share the bytes of the texts.

@@ -14,12 +14,18 @@ use unit_name::UnitName;
 pub(crate) const UNIT: &[u8] = b"Unit";
 
 /// The units that a unit depends on, for one kind of dependency.
-#[derive(Debug, PartialEq, Eq, Drop)]
+#[derive(Debug, PartialEq, Eq)]
 pub struct DependencyList {
     /// The kind of dependency.
     pub kind: DepKind,
     /// The names of the units in byte order, without duplicates.
     pub names: Items<UnitName>,
+}
+
+impl Drop for DependencyList {
+    fn drop(self) {
+        let DependencyList { kind: _, names: _ } = self;
+    }
 }
 
 /// Copies share the bytes of the names.

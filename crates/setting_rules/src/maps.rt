@@ -9,9 +9,14 @@ use std::alloc::{AllocError, Global};
 use std::marker::Model;
 
 /// A map from keys to their values, in the order in which the keys were entered. Contracts see a list of pairs.
-#[derive(Drop)]
 pub struct SettingMap {
     entries: IndexMap<SettingKey, Items<Bytes>>,
+}
+
+impl Drop for SettingMap {
+    fn drop(self) {
+        let SettingMap { entries: _ } = self;
+    }
 }
 
 impl Model for SettingMap {

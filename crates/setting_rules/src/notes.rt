@@ -48,7 +48,7 @@ impl fmt::Display for SettingNoteKind {
 }
 
 /// A value, or a word of one, that doesn't count.
-#[derive(Debug, PartialEq, Eq, Drop)]
+#[derive(Debug, PartialEq, Eq)]
 pub struct SettingNote {
     /// The section of the key.
     pub section: Bytes,
@@ -56,6 +56,16 @@ pub struct SettingNote {
     pub key: Bytes,
     /// What is wrong with it.
     pub kind: SettingNoteKind,
+}
+
+impl Drop for SettingNote {
+    fn drop(self) {
+        let SettingNote {
+            section: _,
+            key: _,
+            kind: _,
+        } = self;
+    }
 }
 
 /// Copies share the bytes of the texts.

@@ -10,7 +10,7 @@ use std::alloc::{AllocError, Global};
 use unit_name::UnitName;
 
 /// An effective value of a key, with the specifiers of its unit's name expanded.
-#[derive(Debug, PartialEq, Eq, Drop)]
+#[derive(Debug, PartialEq, Eq)]
 pub struct Row {
     /// The section of the key.
     pub section: Bytes,
@@ -18,6 +18,16 @@ pub struct Row {
     pub key: Bytes,
     /// The value.
     pub value: Bytes,
+}
+
+impl Drop for Row {
+    fn drop(self) {
+        let Row {
+            section: _,
+            key: _,
+            value: _,
+        } = self;
+    }
 }
 
 /// Copies share the bytes of the texts.

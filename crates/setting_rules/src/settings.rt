@@ -14,12 +14,17 @@ use section_reader::Assignment;
 use std::alloc::{AllocError, Global};
 
 /// The effective settings of a unit.
-#[derive(Drop)]
 pub struct Settings {
     /// The effective values of each key, in the order of the keys' first assignments that count.
     pub map: SettingMap,
     /// What is wrong with values, in the order of the assignments.
     pub notes: Items<SettingNote>,
+}
+
+impl Drop for Settings {
+    fn drop(self) {
+        let Settings { map: _, notes: _ } = self;
+    }
 }
 
 /// Evaluates the assignments of a unit, given in one list: those of its fragment, then those of its drop-ins. Fails
@@ -47,10 +52,18 @@ pub fn apply(alloc: Global, assignments: &[Assignment]) -> Result<Settings, Allo
 }
 
 // The index of each family's first assignment that may count: after the last one that empties the family.
-#[derive(Drop)]
 struct FamilyStarts {
     conditions: usize,
     assertions: usize,
+}
+
+impl Drop for FamilyStarts {
+    fn drop(self) {
+        let FamilyStarts {
+            conditions: _,
+            assertions: _,
+        } = self;
+    }
 }
 
 impl FamilyStarts {

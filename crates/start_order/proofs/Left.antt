@@ -1,6 +1,6 @@
 -- The chosen nodes that a start list leaves over are the stuck ones.
 use Rattle.std.proofs.Common.{◌↔◌, ◌∷◌, ◌≡◌, ◌⊎◌}
-use Rattle.start_order.proofs.Prelude.{[], among_mapped, Bool, false, Global, inl, inr, IsAmong, IsMember, IsStartList, IsStuck, List, map, mapped_from, member_or_not, nat_cmp, neighbors, Precedes, refl, stuck_chosen, stuck_out, subst, suc, sym, true, Vec, zero, ℕ}
+use Rattle.start_order.proofs.Prelude.{[], among_mapped, Bool, false, inl, inr, IsAmong, IsMember, IsStartList, IsStuck, List, map, mapped_from, member_or_not, nat_cmp, neighbors, Precedes, refl, stuck_chosen, stuck_out, subst, suc, sym, true, zero, ℕ}
 
 -- the members of a set
 nodes_of : List Bool → List ℕ
@@ -41,12 +41,12 @@ waits_for chosen standing (x ∷ xs) h = elim (here chosen standing x) [
 ]
 
 -- `left` are the chosen nodes that a start list leaves over
-pub record IsLeft (chosen standing left : List Bool) (adjacency : List (Vec ℕ Global)) (list : List ℕ) : Type 0 where
+pub record IsLeft (chosen standing left : List Bool) (adjacency : List (List ℕ)) (list : List ℕ) : Type 0 where
   pub starts : IsStartList nat_cmp (IsMember chosen) (Precedes adjacency) list
   pub agree : (v : ℕ) → IsMember standing v ↔ IsAmong v list
   pub bits : (v : ℕ) → IsMember left v ↔ (IsMember chosen v × ¬ IsMember standing v)
 
-module _ (chosen standing left : List Bool) (adjacency : List (Vec ℕ Global)) (list : List ℕ) (h : IsLeft chosen standing left adjacency list) where
+module _ (chosen standing left : List Bool) (adjacency : List (List ℕ)) (list : List ℕ) (h : IsLeft chosen standing left adjacency list) where
   pub left_blocked : (u : ℕ) → IsMember left u → (v : ℕ) × (IsMember left v × Precedes adjacency v u)
   left_blocked u m =
       let mine = (h.bits u).0 m in
@@ -76,7 +76,7 @@ module _ (chosen standing left : List Bool) (adjacency : List (Vec ℕ Global)) 
   none_left none u m = elim (member_or_not standing u) [ inl k ↦ (h.agree u).0 k | inr out ↦ absurd (none u ((h.bits u).1 (m, out))) ]
 
 -- the same where the slices are other names of these lists
-pub left_is : (chosen standing given left read : List Bool) (adjacency : List (Vec ℕ Global)) (list : List ℕ) → IsStartList nat_cmp (IsMember chosen) (Precedes adjacency) list
+pub left_is : (chosen standing given left read : List Bool) (adjacency : List (List ℕ)) (list : List ℕ) → IsStartList nat_cmp (IsMember chosen) (Precedes adjacency) list
     → ((v : ℕ) → IsMember standing v ↔ IsAmong v list) → given ≡ standing → ((v : ℕ) → IsMember left v ↔ (IsMember chosen v × ¬ IsMember given v)) → read ≡ left → IsLeft chosen given read adjacency list
 left_is chosen standing given left read adjacency list starts agree e bits f =
     let P : List Bool → Type 0 = λ l. (v : ℕ) → IsMember l v ↔ IsAmong v list in

@@ -1,6 +1,6 @@
 -- How far the start list has come.
 use Rattle.std.proofs.Common.{◌++◌, ◌<◌, ◌↔◌, ◌∷◌, ◌≡◌, ◌≤◌, ◌⊎◌}
-use Rattle.start_order.proofs.Prelude.{[], ap, arith, Bool, can_start_along, CanStart, cmp_below, false, get_or, Global, inl, inr, IsAmong, IsLeast, IsLowered, IsMember, IsMember-none, IsMember-set, IsMember-set_other, IsMember-set_same, IsMember-within, IsStartList, length, length-replicate, length-set, List, Listed, nat_cmp, neighbors, Precedes, refl, replicate, set, subst, sym, times, times-in, times_cases, true, Vec, waiting, ℕ, ◌∙◌}
+use Rattle.start_order.proofs.Prelude.{[], ap, arith, Bool, can_start_along, CanStart, cmp_below, false, get_or, inl, inr, IsAmong, IsLeast, IsLowered, IsMember, IsMember-none, IsMember-set, IsMember-set_other, IsMember-set_same, IsMember-within, IsStartList, length, length-replicate, length-set, List, Listed, nat_cmp, neighbors, Precedes, refl, replicate, set, subst, sym, times, times-in, times_cases, true, waiting, ℕ, ◌∙◌}
 use Rattle.start_order.proofs.{Rings.{agree_push}, Waiting.{counted_all, waiting-none, waiting-ready, waiting-set}}
 
 -- where a list that grew by one is split
@@ -44,7 +44,7 @@ module _ (chosen : ℕ → Type 0) (before : ℕ → ℕ → Type 0) where
         | inr h ↦ p prefix u r.old h
       ]
 
-pub record IsState (chosen : List Bool) (before : List (Vec ℕ Global)) (standing : List Bool) (counts list keys : List ℕ) : Type 0 where
+pub record IsState (chosen : List Bool) (before : List (List ℕ)) (standing : List Bool) (counts list keys : List ℕ) : Type 0 where
   pub units : length standing ≡ length chosen
   pub slots : length counts ≡ length chosen
   pub agree : (v : ℕ) → IsMember standing v ↔ IsAmong v list
@@ -53,7 +53,7 @@ pub record IsState (chosen : List Bool) (before : List (Vec ℕ Global)) (standi
   pub settled : (v : ℕ) → IsMember standing v → get_or counts v 0 ≡ 0
   pub free : (v : ℕ) → IsAmong v keys ↔ (IsMember chosen v × ¬ IsMember standing v × (get_or counts v 0 ≡ 0))
 
-IsState-init : (chosen : List Bool) (before : List (Vec ℕ Global)) (counts keys : List ℕ) → length counts ≡ length chosen
+IsState-init : (chosen : List Bool) (before : List (List ℕ)) (counts keys : List ℕ) → length counts ≡ length chosen
     → ((v : ℕ) → get_or counts v 0 ≡ waiting chosen (replicate (length chosen) false) (neighbors before v)) → ((v : ℕ) → IsAmong v keys ↔ (IsMember chosen v × (get_or counts v 0 ≡ 0)))
     → IsState chosen before (replicate (length chosen) false) counts [] keys
 IsState-init chosen before counts keys slots counted free = record {
@@ -67,7 +67,7 @@ IsState-init chosen before counts keys slots counted free = record {
 }
 
 -- the same where the slices are other names of these lists
-pub IsState-begin : (chosen standing given : List Bool) (before : List (Vec ℕ Global)) (counts read list keys : List ℕ) → standing ≡ replicate (length chosen) false → given ≡ standing
+pub IsState-begin : (chosen standing given : List Bool) (before : List (List ℕ)) (counts read list keys : List ℕ) → standing ≡ replicate (length chosen) false → given ≡ standing
     → read ≡ counts → list ≡ [] → length before ≡ length chosen → length counts ≡ length chosen
     → ((v : ℕ) → v < length chosen → get_or counts v 0 ≡ waiting chosen given (neighbors before v)) → ((v : ℕ) → IsAmong v keys ↔ (IsMember chosen v × (get_or read v 0 ≡ 0)))
     → IsState chosen before standing counts list keys
@@ -79,7 +79,7 @@ IsState-begin chosen standing given before counts read list keys e f g h p q cou
     subst R (sym e)
     (subst S (sym h) (IsState-init chosen before counts keys q (counted_all chosen (replicate (length chosen) false) before counts (length chosen) p q (subst P (f ∙ e) counted)) (subst Q g free)))
 
-module _ (chosen : List Bool) (before : List (Vec ℕ Global)) (standing : List Bool) (counts list keys : List ℕ) (st : IsState chosen before standing counts list keys) where
+module _ (chosen : List Bool) (before : List (List ℕ)) (standing : List Bool) (counts list keys : List ℕ) (st : IsState chosen before standing counts list keys) where
   free_to : (v : ℕ) → IsAmong v keys → CanStart (IsMember chosen) (Precedes before) (IsMember standing) v
   free_to v h =
       let f = (st.free v).0 h in

@@ -1,6 +1,6 @@
 -- How many chosen nodes each node still waits for.
 use Rattle.std.proofs.Common.{◌&&◌, ◌++◌, ◌+◌, ◌<◌, ◌↔◌, ◌∷◌, ◌≡◌, ◌≤◌, ◌⊎◌}
-use Rattle.start_order.proofs.Prelude.{[], ap, arith, Bool, cases_eq, cases_lt, cond, count-push, eq-eqb, eqb, false, get_or, get_or-set_other, get_or-set_same, get_or_past, Global, inl, inr, IsAmong, IsAmong-append_left, IsAmong-push, IsAmong-push_cases, IsLowered, IsMember, IsMember-set_same, length, length-set, List, ne_eqb, neighbors, neighbors-past, not, refl, set, subst, suc, sym, take, take_more, times, times-push_other, times-push_same, true, Vec, waiting, waits, ℕ, ◌∙◌}
+use Rattle.start_order.proofs.Prelude.{[], ap, arith, Bool, cases_eq, cases_lt, cond, count-push, eq-eqb, eqb, false, get_or, get_or-set_other, get_or-set_same, get_or_past, inl, inr, IsAmong, IsAmong-append_left, IsAmong-push, IsAmong-push_cases, IsLowered, IsMember, IsMember-set_same, length, length-set, List, ne_eqb, neighbors, neighbors-past, not, refl, set, subst, suc, sym, take, take_more, times, times-push_other, times-push_same, true, waiting, waits, ℕ, ◌∙◌}
 
 -- ---- what waits
 
@@ -219,7 +219,7 @@ module _ (chosen : List Bool) (counts : List ℕ) (i : ℕ) where
       below_still v l ne = omega arith
 
 -- counts that are right below the number of units are right everywhere
-pub counted_all : (c s : List Bool) (before : List (Vec ℕ Global)) (counts : List ℕ) (n : ℕ) → length before ≡ n → length counts ≡ n
+pub counted_all : (c s : List Bool) (before : List (List ℕ)) (counts : List ℕ) (n : ℕ) → length before ≡ n → length counts ≡ n
     → ((v : ℕ) → v < n → get_or counts v 0 ≡ waiting c s (neighbors before v)) → (v : ℕ) → get_or counts v 0 ≡ waiting c s (neighbors before v)
 counted_all c s before counts n p q h v = elim (cases_lt v n) [
   | inl l ↦ h v l

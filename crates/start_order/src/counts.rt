@@ -4,7 +4,7 @@ ghost use Rattle.index_rows.specs.Adjacency.{AllBelow, times, neighbors as neigh
 ghost use Rattle.start_order.specs.Counts.{waiting as waiting_of, IsLowered};
 
 use crate::free::Free;
-use index_rows::neighbors;
+use index_rows::AdjacencyLists;
 use std::alloc::{AllocError, Global};
 
 // The number of chosen nodes in `nodes` that aren't started yet.
@@ -27,7 +27,7 @@ pub(crate) fn counts_of(
     alloc: Global,
     chosen: &[bool],
     standing: &[bool],
-    before: &[Vec<usize>],
+    before: &AdjacencyLists,
 ) -> Result<Vec<usize>, AllocError>
     requires units { length before.now ≡ length chosen.now }
     requires bits { length standing.now ≡ length chosen.now }
@@ -37,8 +37,8 @@ pub(crate) fn counts_of(
         → slice_index counts.items v ≡ waiting_of chosen.now standing.now (neighbors_of before.now v)) }
 {
     let mut counts = Vec::new(alloc);
-    for node in 0..before.len() {
-        counts.push(waiting(chosen, standing, neighbors(before, node)))?;
+    for node in 0..chosen.len() {
+        counts.push(waiting(chosen, standing, before.neighbors(node)))?;
     }
     Ok(counts)
 }

@@ -4,18 +4,18 @@ ghost use Rattle.list_laws.specs.Members.{IsAmong};
 ghost use Rattle.index_rows.specs.{Adjacency.{IsMember, AllBelow}, Least.{IsLeast}};
 ghost use Rattle.start_order.specs.{StartOrder.{IsBlocker, IsCycle}, Precedes.{Precedes}, Walks.{IsWalk}};
 
-use index_rows::{empty_bits, least_member, neighbors};
+use index_rows::{AdjacencyLists, empty_bits, least_member};
 use std::alloc::{AllocError, Global};
 
 // The least stuck node before a stuck one.
-fn blocker(stuck: &[bool], before: &[Vec<usize>], node: usize) -> usize
+fn blocker(stuck: &[bool], before: &AdjacencyLists, node: usize) -> usize
     requires units { length before.now ≡ length stuck.now }
     requires adjacency { AllBelow (length stuck.now) before.now }
     requires node { node < length stuck.now }
     requires blocked { (v : ℕ) × (IsMember stuck.now v × Precedes before.now v node) }
     ensures { IsBlocker nat_cmp (IsMember stuck.now) (Precedes before.now) result node }
 {
-    least_member(neighbors(before, node), stuck).unwrap()
+    least_member(before.neighbors(node), stuck).unwrap()
 }
 
 // Walks from the least stuck node, from each node to the least stuck node before it, until it meets a node again.
@@ -23,7 +23,7 @@ fn blocker(stuck: &[bool], before: &[Vec<usize>], node: usize) -> usize
 fn walk(
     alloc: Global,
     stuck: &[bool],
-    before: &[Vec<usize>],
+    before: &AdjacencyLists,
     start: usize,
 ) -> Result<(Vec<usize>, usize), AllocError>
     requires units { length before.now ≡ length stuck.now }
@@ -77,7 +77,7 @@ fn least_at(list: &[usize]) -> usize
 pub(crate) fn cycle_from(
     alloc: Global,
     stuck: &[bool],
-    before: &[Vec<usize>],
+    before: &AdjacencyLists,
     start: usize,
 ) -> Result<Vec<usize>, AllocError>
     requires units { length before.now ≡ length stuck.now }

@@ -7,15 +7,15 @@ ghost use Rattle.start_order.specs.{StartOrder.{IsStartList, IsStuck, IsCycle}, 
 use crate::counts::{counts_of, lower};
 use crate::cycles::cycle_from;
 use crate::free::{Free, ready};
-use index_rows::{empty_bits, first_member, neighbors, without};
+use index_rows::{AdjacencyLists, empty_bits, first_member, without};
 use std::alloc::{AllocError, Global};
 
 // Returns the start list, and the set of its nodes. `after` is the transposed graph of `before`.
 fn listed(
     alloc: Global,
     chosen: &[bool],
-    before: &[Vec<usize>],
-    after: &[Vec<usize>],
+    before: &AdjacencyLists,
+    after: &AdjacencyLists,
 ) -> Result<(Vec<usize>, Vec<bool>), AllocError>
     requires before { AreAdjacencyOf (length chosen.now) before.now }
     requires after { AreAdjacencyOf (length chosen.now) after.now }
@@ -31,7 +31,7 @@ fn listed(
     while let Some(node) = free.take_least() {
         list.push(node)?;
         standing[node] = true;
-        lower(chosen, &mut counts, &mut free, neighbors(after, node))?;
+        lower(chosen, &mut counts, &mut free, after.neighbors(node))?;
     }
     Ok((list, standing))
 }
@@ -43,8 +43,8 @@ fn listed(
 pub fn start_order(
     alloc: Global,
     chosen: &[bool],
-    before: &[Vec<usize>],
-    after: &[Vec<usize>],
+    before: &AdjacencyLists,
+    after: &AdjacencyLists,
 ) -> Result<Result<Vec<usize>, Vec<usize>>, AllocError>
     requires before { AreAdjacencyOf (length chosen.now) before.now }
     requires after { AreAdjacencyOf (length chosen.now) after.now }

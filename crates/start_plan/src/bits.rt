@@ -10,7 +10,7 @@ ghost use Rattle.start_plan.specs.{Requests.{has_fragment, is_loaded, is_manual}
 use index_rows::empty_bits;
 use parallel_load::{Loaded, NameLoad, Status};
 use std::alloc::{AllocError, Global};
-use unit_graph::Graph;
+use unit_graph::IndexedGraph;
 use unit_name::UnitName;
 
 // The sets of the units that are loaded, and of those that refuse to be started by hand.
@@ -68,7 +68,7 @@ fn is_manual(load: &NameLoad) -> bool
 // The set of the units that names resolve to.
 pub(crate) fn named_bits(
     alloc: Global,
-    graph: &Graph,
+    graph: &IndexedGraph,
     names: &[UnitName],
 ) -> Result<Vec<bool>, AllocError>
     ensures units { IfOk result (λ bits. length bits.items ≡ count_of graph.now.load) }

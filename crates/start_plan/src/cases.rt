@@ -15,7 +15,7 @@ use index_rows::Successors;
 use plan_choice::IndexedCase;
 use setting_rules::DepKind;
 use std::alloc::{AllocError, Global};
-use unit_graph::Graph;
+use unit_graph::IndexedGraph;
 
 /// The kinds of what a unit needs.
 const NEEDING: [DepKind; 2] = [DepKind::Requires, DepKind::BindsTo];
@@ -56,7 +56,7 @@ struct Asked<'b> {
 // The case of a request, by index. Its adjacency lists are borrowed from the graph.
 pub(crate) fn case_of<'b>(
     alloc: Global,
-    graph: &'b Graph,
+    graph: &'b IndexedGraph,
     request: &Request,
 ) -> Result<IndexedCase<'b>, AllocError>
     requires names { IsOfGraph graph.now.load request.now }
@@ -91,7 +91,7 @@ pub(crate) fn case_of<'b>(
 
 // The edges of these kinds, and those of their inverses.
 fn both_ways<'b>(
-    graph: &'b Graph,
+    graph: &'b IndexedGraph,
     kinds: &[DepKind],
     others: &[DepKind],
 ) -> Result<BothWays<'b>, AllocError>
@@ -111,7 +111,7 @@ fn both_ways<'b>(
 }
 
 // The edges to what units want, and to their requisites.
-fn asked_of<'b>(graph: &'b Graph) -> Result<Asked<'b>, AllocError>
+fn asked_of<'b>(graph: &'b IndexedGraph) -> Result<Asked<'b>, AllocError>
     ensures wants { IfOk result (λ asked. AreNamedSuccessors (count_of graph.now.load) (name_at graph.now.load)
         (Named (successors_from asked.wants)) (LeadsBy graph.now.edges (Wants ∷ []))) }
     ensures wants_within { IfOk result (λ asked. AreSuccessorsOf (count_of graph.now.load) asked.wants) }

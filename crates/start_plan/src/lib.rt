@@ -4,9 +4,9 @@
 //! Promise: the plan is exact.
 //!
 //! - `requests`: the types `Request`, `Plan` and `Refusal`.
-//! - `planning`: `plan`.
+//! - `planning`: `plan`, and `plan_by_index` for a graph by index.
 //! - `checks`: whether a request names templates.
-//! - `cases`, `marks`, `names`: a request by the indices of a graph, and the answer by name.
+//! - `cases`, `bits`, `names`: a request by the indices of a graph, and the answer by name.
 #![tactic(auto)]
 
 mod bits;
@@ -19,5 +19,5 @@ mod requests;
 
 pub use checks::has_template;
 pub use laws::plan_laws;
-pub use planning::plan;
+pub use planning::{plan, plan_by_index};
 pub use requests::{Plan, Refusal, Request};

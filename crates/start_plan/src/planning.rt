@@ -12,12 +12,12 @@ use crate::names::{named_plan, named_refusal};
 use crate::requests::{Plan, Refusal, Request};
 use plan_choice::{IndexedPlan, PlanRefusal, indexed_plan};
 use std::alloc::{AllocError, Global};
-use unit_graph::Graph;
+use unit_graph::{Graph, IndexedGraph};
 
 // The answer by index, for a request without templates.
 fn indexed_answer(
     alloc: Global,
-    graph: &Graph,
+    graph: &IndexedGraph,
     request: &Request,
 ) -> Result<Result<IndexedPlan, PlanRefusal<usize>>, AllocError>
     requires names { IsOfGraph graph.now.load request.now }
@@ -34,7 +34,7 @@ fn indexed_answer(
 // The same answer by name.
 fn named_answer(
     alloc: Global,
-    graph: &Graph,
+    graph: &IndexedGraph,
     request: &Request,
 ) -> Result<Result<Plan, Refusal>, AllocError>
     requires names { IsOfGraph graph.now.load request.now }
@@ -56,6 +56,20 @@ fn named_answer(
 /// what is chosen, and with them the units that stop along with them. Fails with `Memory` only if memory runs out.
 /// O(n log n + m), for n names and m edges, and O(log n) for each name of the request.
 pub fn plan(alloc: Global, graph: &Graph, request: &Request) -> Result<Plan, Refusal>
+    requires host { request.now.host ≡ graph.now.load.host }
+    requires names { IsOfGraph graph.now.load request.now }
+    ensures plan { IfOk result (IsPlanned graph.now.load graph.now.edges request.now) }
+    ensures refusal { IfErr result (IsRefusalOf graph.now.load graph.now.edges request.now) }
+{
+    plan_by_index(alloc, &graph.indexed(), request)
+}
+
+/// Returns the same for a graph by index.
+pub fn plan_by_index(
+    alloc: Global,
+    graph: &IndexedGraph,
+    request: &Request,
+) -> Result<Plan, Refusal>
     requires host { request.now.host ≡ graph.now.load.host }
     requires names { IsOfGraph graph.now.load request.now }
     ensures plan { IfOk result (IsPlanned graph.now.load graph.now.edges request.now) }

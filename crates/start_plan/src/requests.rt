@@ -5,7 +5,7 @@ use thiserror::Error;
 use unit_name::UnitName;
 
 /// A request to start a unit while others are running. Names may be aliases, and the running ones may repeat.
-#[derive(Debug, Drop)]
+#[derive(Debug)]
 pub struct Request {
     /// The host whose units are meant; none for the fleet's.
     pub host: Option<HostName>,
@@ -15,13 +15,29 @@ pub struct Request {
     pub running: Items<UnitName>,
 }
 
+impl Drop for Request {
+    fn drop(self) {
+        let Request {
+            host: _,
+            target: _,
+            running: _,
+        } = self;
+    }
+}
+
 /// What is to be done. Stops come before starts.
-#[derive(Debug, Drop)]
+#[derive(Debug)]
 pub struct Plan {
     /// The units that stop, in byte order.
     pub stop: Items<UnitName>,
     /// The units that start, in start order.
     pub start: Items<UnitName>,
+}
+
+impl Drop for Plan {
+    fn drop(self) {
+        let Plan { stop: _, start: _ } = self;
+    }
 }
 
 /// Why there is no plan: the first of these whose cause holds, in this order. `NotFound`, `Masked` and `Bad` are tested

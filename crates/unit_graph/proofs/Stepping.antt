@@ -1,9 +1,9 @@
 -- The graph's adjacency lists, and the edges that they give.
 use Rattle.std.proofs.Common.{◌++◌, ◌<◌, ◌∷◌, ◌≡◌, ◌⊎◌}
-use Rattle.unit_graph.proofs.Prelude.{[], All, among_from_contains, among_mapped, ap, AreAdjacencyBy, AreAdjacencyOf, AreEdges, AreNamedSuccessors, AreNames, arith, Bool, chains_named, closure_named, Contains-get_or, count_of, DepKind, distances_named, EdgeMap, edges_join_units, get_or, Global, GraphMap, HasInverses, inl, inr, inverse, inverses_are_one, IsAmong, IsAmong-append_left, IsAmong-append_right, IsAmong-push_cases, IsClosure, IsDistances, IsIndexFor, IsIndexing, IsTable, IsTrue, keys_length, LeadsBy, LeadToUnits, length, List, Listed, listed_either, load_indexing, LoadMap, map, mapped_from, Name, name_at, name_cmp, Named, names_along, names_in, nat_cmp, nat_list_cmp_total, neighbors, reached_named, refl, ResolvesTo, Some, sorted_by_keys, subst, successors_from, sym, Vec, ℕ, ◌∙◌}
+use Rattle.unit_graph.proofs.Prelude.{[], All, among_from_contains, among_mapped, ap, AreAdjacencyBy, AreAdjacencyOf, AreEdges, AreNamedSuccessors, AreNames, arith, Bool, chains_named, closure_named, Contains-get_or, count_of, DepKind, distances_named, EdgeMap, edges_join_units, get_or, GraphMap, HasInverses, inl, inr, inverse, inverses_are_one, IsAmong, IsAmong-append_left, IsAmong-append_right, IsAmong-push_cases, IsClosure, IsDistances, IsIndexFor, IsIndexing, IsTable, IsTrue, keys_length, LeadsBy, LeadToUnits, length, List, Listed, listed_either, load_indexing, LoadMap, map, mapped_from, Name, name_at, name_cmp, Named, names_along, names_in, nat_cmp, nat_list_cmp_total, neighbors, reached_named, refl, ResolvesTo, Some, sorted_by_keys, subst, successors_from, sym, ℕ, ◌∙◌}
 
 -- the adjacency lists of edges are those of their load
-pub table_of_adjacency : (load : LoadMap) (edges : EdgeMap) (dep : DepKind) (adjacency : List (Vec ℕ Global)) → AreEdges load edges → AreAdjacencyBy edges dep adjacency → IsTable load edges dep adjacency
+pub table_of_adjacency : (load : LoadMap) (edges : EdgeMap) (dep : DepKind) (adjacency : List (List ℕ)) → AreEdges load edges → AreAdjacencyBy edges dep adjacency → IsTable load edges dep adjacency
 table_of_adjacency load edges dep adjacency are r =
     let count : length edges ≡ count_of load = sym (keys_length edges) ∙ ap length are.names ∙ keys_length load.names in
     let P : ℕ → Type 0 = λ n. AreAdjacencyOf n adjacency in
@@ -32,13 +32,13 @@ graph_indexing load graph same edges are =
     subst P same (load_indexing load (subst Q (sorted_by_keys name_cmp edges load.names are.names) are.in_order))
 
 -- no kinds have no edges
-pub no_kinds : (load : LoadMap) (edges : EdgeMap) (successors : List (List (Vec ℕ Global))) → successors ≡ [] → AreNamedSuccessors (count_of load) (name_at load) (Named (successors_from successors)) (LeadsBy edges [])
+pub no_kinds : (load : LoadMap) (edges : EdgeMap) (successors : List (List (List ℕ))) → successors ≡ [] → AreNamedSuccessors (count_of load) (name_at load) (Named (successors_from successors)) (LeadsBy edges [])
 no_kinds load edges successors e =
-    let P : List (List (Vec ℕ Global)) → Type 0 = λ ks. AreNamedSuccessors (count_of load) (name_at load) (Named (successors_from ks)) (LeadsBy edges []) in
+    let P : List (List (List ℕ)) → Type 0 = λ ks. AreNamedSuccessors (count_of load) (name_at load) (Named (successors_from ks)) (LeadsBy edges []) in
     subst P (sym e) (λ i l. record { within = λ j h. absurd h; named = λ j h. absurd h; indexed = λ u h. absurd h.1.0 })
 
 -- the edges of one adjacency list
-pub table_neighbors : (load : LoadMap) (edges : EdgeMap) (dep : DepKind) (adjacency : List (Vec ℕ Global)) → IsTable load edges dep adjacency → (i : ℕ) → i < count_of load → (is : List ℕ) → is ≡ neighbors adjacency i
+pub table_neighbors : (load : LoadMap) (edges : EdgeMap) (dep : DepKind) (adjacency : List (List ℕ)) → IsTable load edges dep adjacency → (i : ℕ) → i < count_of load → (is : List ℕ) → is ≡ neighbors adjacency i
     → ((v : ℕ) → IsAmong v (neighbors adjacency i) → v < count_of load) → AreNames (count_of load) (name_at load) (Listed is) (λ v. IsAmong v (names_in edges dep (name_at load i)))
 table_neighbors load edges dep adjacency t i l is e below =
     let P : List ℕ → Type 0 = λ js. AreNames (count_of load) (name_at load) (Listed js) (λ v. IsAmong v (names_in edges dep (name_at load i))) in
@@ -130,3 +130,8 @@ module _ (load : LoadMap) (order : IsIndexing (count_of load) (name_at load) nam
   depths_named ps d main s =
       distances_named (count_of load) (name_at load) name_cmp nat_list_cmp_total order (Listed (i ∷ [])) (Listed (main ∷ [])) (Named next) (LeadsBy edges deps)
       (one_source load from main i s n) successors ps d
+
+-- a graph is its load and its edges
+pub same_graph : (g h : GraphMap) → g.load ≡ h.load → g.edges ≡ h.edges → g ≡ h
+same_graph g h e f =
+    ap (λ (l : LoadMap). let x : GraphMap = record { load = l; edges = g.edges } in x) e ∙ ap (λ (es : EdgeMap). let x : GraphMap = record { load = h.load; edges = es } in x) f

@@ -3,12 +3,15 @@
 //!
 //! Promise: the universe and its graph are exact.
 //!
-//! - `graph`: `Graph`, which borrows a load and its edges: adjacency lists, reachability, distances, and the names of all
-//!   units.
+//! - `graph`: `Graph`, which borrows a load and its edges by name.
+//! - `indexed_graph`: `IndexedGraph`, which borrows a load and its edges by index: adjacency lists, reachability and
+//!   distances.
 #![tactic(auto)]
 
 mod graph;
+mod indexed_graph;
 mod laws;
 
 pub use graph::Graph;
+pub use indexed_graph::IndexedGraph;
 pub use laws::graph_laws;

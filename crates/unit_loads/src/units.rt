@@ -10,7 +10,7 @@ use std::alloc::AllocError;
 use unit_name::UnitName;
 
 /// What was found for a unit (systemd.unit(5), "Unit File Load Path").
-#[derive(Debug, PartialEq, Eq, Drop)]
+#[derive(Debug, PartialEq, Eq)]
 pub enum Status {
     /// The file at this place, which is the unit's fragment.
     Loaded(Place),
@@ -20,6 +20,17 @@ pub enum Status {
     Masked,
     /// A link that a unit can't have, or too many aliases in a chain.
     Bad(Cause),
+}
+
+impl Drop for Status {
+    fn drop(self) {
+        match self {
+            Status::Loaded(_) => (),
+            Status::NotFound => (),
+            Status::Masked => (),
+            Status::Bad(_) => (),
+        }
+    }
 }
 
 impl TryClone for Status {
@@ -34,12 +45,21 @@ impl TryClone for Status {
 }
 
 /// What is wrong in a unit's files, or with what they set.
-#[derive(Debug, PartialEq, Eq, Drop)]
+#[derive(Debug, PartialEq, Eq)]
 pub enum UnitNote {
     /// A fault in a line of the file at this place.
     File(Place, Note),
     /// A fault in a value, in a word of one, or in the name of a link.
     Setting(SettingNote),
+}
+
+impl Drop for UnitNote {
+    fn drop(self) {
+        match self {
+            UnitNote::File(_, _) => (),
+            UnitNote::Setting(_) => (),
+        }
+    }
 }
 
 impl TryClone for UnitNote {
@@ -52,7 +72,7 @@ impl TryClone for UnitNote {
 }
 
 /// A unit of a store. A unit that isn't loaded has no drop-ins, values or notes, and names no other unit.
-#[derive(Debug, PartialEq, Eq, Drop)]
+#[derive(Debug, PartialEq, Eq)]
 pub struct Unit {
     /// The main name.
     pub name: UnitName,
@@ -71,6 +91,21 @@ pub struct Unit {
     pub notes: Items<UnitNote>,
     /// Whether it refuses to be started by hand.
     pub manual: bool,
+}
+
+impl Drop for Unit {
+    fn drop(self) {
+        let Unit {
+            name: _,
+            names: _,
+            status: _,
+            dropins: _,
+            values: _,
+            deps: _,
+            notes: _,
+            manual: _,
+        } = self;
+    }
 }
 
 /// Returns an equal unit, whose texts share their bytes. Linear in its lists.

@@ -46,9 +46,15 @@ pub enum NameFault {
 /// A name of 1 to 255 bytes: a stem, a dot and the suffix of a kind (systemd.unit(5), "Description"). Names are ordered
 /// by bytes; a proper prefix of a name is less. Methods that inspect a name are linear in its bytes and allocate
 /// nothing.
-#[derive(Debug, PartialEq, Eq, PartialOrd, Drop)]
+#[derive(Debug, PartialEq, Eq, PartialOrd)]
 pub struct UnitName {
     bytes: Bytes,
+}
+
+impl Drop for UnitName {
+    fn drop(self) {
+        let UnitName { bytes: _ } = self;
+    }
 }
 
 impl Model for UnitName {

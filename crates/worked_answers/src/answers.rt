@@ -1,10 +1,12 @@
 //! The answers to lines.
-use crate::asking::{again, ask, world};
+use crate::asking::{ask, world};
 use crate::edits::{Asked, Done, Viewer, asked_of};
 use crate::graphs::graph;
 use crate::refreshing::{footprint, refresh};
 use crate::rendering::{append_load, append_looked_up, append_unit, is_same_load};
+use crate::tracking::{Taking, again, far};
 use parallel_load::{LoadFault, Loaded, load_fleet, load_here, load_one};
+use std::alloc::Global;
 use std::thread::Threads;
 use std::time::Clock;
 use unit_name::UnitName;
@@ -13,15 +15,21 @@ use worker_rounds::{Gate, OpenGate};
 
 // Writes a load with what it has for some names, or why there is no load.
 fn append_here(out: &mut Answer, here: &Result<Loaded, LoadFault>, looked: &[UnitName]) -> Done {
-    let load = match here {
-        Ok(load) => load,
-        Err(fault) => return out.print(fault),
-    };
-    append_load(out, load)?;
-    for name in looked {
-        append_looked_up(out, load, name)?;
+    match here {
+        Ok(load) => {
+            append_load(out, load)?;
+            append_looked(out, load, looked);
+        }
+        Err(fault) => out.print(fault),
     }
     Ok(())
+}
+
+// Writes what a load has for some names.
+fn append_looked(out: &mut Answer, load: &Loaded, looked: &[UnitName]) {
+    for name in looked {
+        append_looked_up(out, load, name);
+    }
 }
 
 // Writes how a load by workers compares with that by one thread, or why there is none.
@@ -31,13 +39,40 @@ fn append_compared(
     fleet: &Result<Loaded, LoadFault>,
 ) -> Done {
     match (here, fleet) {
-        (Ok(here), Ok(fleet)) => {
-            let is_same = is_same_load(here, fleet)?;
-            out.either(is_same, b"the same", b"another")
-        }
+        (Ok(here), Ok(fleet)) => out.either(is_same_load(here, fleet)?, b"the same", b"another"),
         (Err(_), Ok(_)) => out.write(b"a load"),
         (_, Err(fault)) => out.print(fault),
     }
+    Ok(())
+}
+
+// The load by so many workers.
+fn load_by<R: Threads + Sync, G: Gate + Sync>(
+    rt: &R,
+    alloc: Global,
+    asked: &Asked,
+    workers: usize,
+    gate: &G,
+) -> Result<Loaded, LoadFault> {
+    let host = asked.host.as_ref();
+    load_fleet(rt, alloc, &asked.store, host, &asked.names, workers, gate)
+}
+
+// Loads by each number of workers, and writes how that compares with the load by one thread.
+fn append_each<R: Threads + Sync, G: Gate + Sync>(
+    rt: &R,
+    out: &mut Answer,
+    asked: &Asked,
+    here: &Result<Loaded, LoadFault>,
+    workers: &[usize],
+    gate: &G,
+) -> Done {
+    for count in workers {
+        let fleet = load_by(rt, out.alloc, asked, *count, gate);
+        out.line_made(format!(in out.alloc; "{count} workers: "));
+        append_compared(out, here, &fleet)?;
+    }
+    Ok(())
 }
 
 // Loads by one thread, looks up names, and writes how the loads by each number of workers compare with it.
@@ -49,23 +84,9 @@ fn load_by_each<R: Threads + Sync, G: Gate + Sync>(
     workers: &[usize],
     gate: &G,
 ) -> Done {
-    let host = asked.host.as_ref();
-    let here = load_here(out.alloc, &asked.store, host, &asked.names);
+    let here = load_here(out.alloc, &asked.store, asked.host.as_ref(), &asked.names);
     append_here(out, &here, looked)?;
-    for count in workers {
-        let fleet = load_fleet(
-            rt,
-            out.alloc,
-            &asked.store,
-            host,
-            &asked.names,
-            *count,
-            gate,
-        );
-        out.line(format!(in out.alloc; "{count} workers: ")?.as_bytes())?;
-        append_compared(out, &here, &fleet)?;
-    }
-    Ok(())
+    append_each(rt, out, asked, &here, workers, gate)
 }
 
 // Loads by one thread and by each number of workers.
@@ -83,8 +104,9 @@ fn gate<R: Threads + Sync>(rt: &R, words: &mut Words, host: Viewer, out: &mut An
     let workers = words.numbers()?;
     let asked = asked_of(words, host)?;
     load_by_each(rt, out, &asked, &[], &workers, &gate)?;
-    out.line(b"the gate was asked for")?;
-    gate.append_to(out)
+    out.line(b"the gate was asked for");
+    gate.append_to(out);
+    Ok(())
 }
 
 // Loads by two workers that wait for each other.
@@ -95,15 +117,15 @@ fn meet<R: Threads + Clock + Sync>(
     out: &mut Answer,
 ) -> Done {
     let asked = asked_of(words, host)?;
-    let host = asked.host.as_ref();
     let gate = Meeting::new(rt);
-    let fleet = load_fleet(rt, words.alloc, &asked.store, host, &asked.names, 2, &gate);
+    let fleet = load_by(rt, words.alloc, &asked, 2, &gate);
     append_here(out, &fleet, &[])?;
     out.line(if gate.were_together() {
         b"both pieces worked at the same time"
     } else {
         b"no two pieces worked at the same time"
-    })
+    });
+    Ok(())
 }
 
 // Loads the unit of each name by itself.
@@ -111,9 +133,9 @@ fn one(words: &mut Words, host: Viewer, out: &mut Answer) -> Done {
     let asked = asked_of(words, host)?;
     for name in &asked.names {
         let unit = load_one(words.alloc, &asked.store, asked.host.as_ref(), name)?;
-        out.line(name.bytes())?;
-        out.write(b": ")?;
-        append_unit(out, &unit)?;
+        out.line(name.bytes());
+        out.write(b": ");
+        append_unit(out, &unit);
     }
     Ok(())
 }
@@ -130,7 +152,9 @@ pub fn answer<R: Threads + Clock + Sync>(rt: &R, words: &mut Words, out: &mut An
         b"refresh" => refresh(words, host, out),
         b"footprint" => footprint(words, host, out),
         b"ask" => ask(rt, words, host, out),
-        b"again" => again(rt, words, host, out),
+        b"again" => again(rt, words, host, Taking::Edits, out),
+        b"merged" => again(rt, words, host, Taking::Merge, out),
+        b"far" => far(rt, words, host, out),
         b"world" => world(rt, words, host, out),
     )
 }

@@ -1,19 +1,20 @@
 //! Questions of stores and of nodes of worlds, in words.
 use crate::edits::{Asked, Done, Viewer, asked_of};
 use crate::graphs::append_far;
-use crate::refreshing::store_of;
 use crate::rendering::{append_plan, append_unit};
 use delta_gossip::Event;
 use fleet_answers::{
-    Answer as Returned, AnswerFault, LinkedUnit, Question, Snapshots, answer_again, answer_here,
-    answer_in_world, answer_question,
+    Answer as Returned, AnswerFault, LinkedUnit, Question, answer_here, answer_in_world,
+    answer_question,
 };
 use plain_values::Items;
 use replica_store::{Edit, Store};
 use setting_rules::DependencyList;
 use start_plan::Request;
 use std::alloc::{AllocError, Global};
+use std::slice::from_ref;
 use std::thread::Threads;
+use unit_name::UnitName;
 use worked_lines::{Answer, LineFault, Words, is};
 use worker_rounds::OpenGate;
 
@@ -43,79 +44,82 @@ fn question_of(words: &mut Words, host: Viewer) -> Result<Question, LineFault> {
 }
 
 // Writes a list of edges, if there are some.
-fn append_edges(out: &mut Answer, list: &DependencyList) -> Done {
-    if list.names.as_slice().is_empty() {
-        return Ok(());
+fn append_edges(out: &mut Answer, list: &DependencyList) {
+    if !list.names.as_slice().is_empty() {
+        out.write(b"; ");
+        out.write(list.kind.word().as_bytes());
+        out.names(list.names.as_slice());
     }
-    out.write(b"; ")?;
-    out.write(list.kind.word().as_bytes())?;
-    out.names(list.names.as_slice())
 }
 
 // Writes a unit and its edges.
-fn append_linked(out: &mut Answer, linked: &LinkedUnit) -> Done {
+fn append_linked(out: &mut Answer, linked: &LinkedUnit) {
     let unit = linked.unit.get();
-    out.write(unit.name.bytes())?;
-    out.write(b" ")?;
-    append_unit(out, unit)?;
+    out.write(unit.name.bytes());
+    out.write(b" ");
+    append_unit(out, unit);
     for list in linked.edges.as_slice() {
-        append_edges(out, list)?;
+        append_edges(out, list);
     }
-    Ok(())
 }
 
 // Writes what a question was answered.
-fn append_returned(out: &mut Answer, returned: &Returned) -> Done {
+fn append_returned(out: &mut Answer, returned: &Returned) {
     match returned {
         Returned::Template => out.write(b"a template"),
         Returned::TooManyUnits => out.write(b"too many units"),
         Returned::Unit(linked) => append_linked(out, linked),
         Returned::Pulled(pairs) => {
-            out.write(b"pulls")?;
-            append_far(out, pairs.as_slice())
+            out.write(b"pulls");
+            append_far(out, pairs.as_slice());
         }
         Returned::Planned(plan) => append_plan(out, plan),
         Returned::Refused(refusal) => out.print(refusal),
     }
 }
 
-// The text of an answer, if there was a node to ask, or of why there is none, unless memory ran out.
-fn text_of(
+/// The text of an answer, if there was a node to ask, or of why there is none, unless memory ran out.
+pub fn text_of(
     alloc: Global,
     returned: Result<Option<Returned>, AnswerFault>,
 ) -> Result<Vec<u8>, LineFault> {
     let mut out = Answer::new(alloc);
     match returned {
-        Ok(Some(returned)) => append_returned(&mut out, &returned)?,
-        Ok(None) => out.write(b"none")?,
-        Err(AnswerFault::Workers) => out.write(b"L1 Workers")?,
+        Ok(Some(returned)) => append_returned(&mut out, &returned),
+        Ok(None) => out.write(b"none"),
+        Err(AnswerFault::Workers) => out.write(b"L1 Workers"),
         Err(AnswerFault::Memory) => return Err(LineFault::Memory(AllocError)),
     }
-    Ok(out.bytes)
+    out.finish()
 }
 
 // Writes a text, or that it is the same as the one before.
-fn append_beside(out: &mut Answer, text: &[u8], before: &[u8]) -> Done {
-    out.either(text == before, b"the same", text)
+fn append_beside(out: &mut Answer, text: &[u8], before: &[u8]) {
+    out.either(text == before, b"the same", text);
 }
 
-// A question, and the numbers of workers by which it is answered.
+/// A question and numbers, as the numbers of workers by which it is answered.
 #[derive(Drop)]
-struct Asking {
-    question: Question,
-    counts: Vec<usize>,
+pub struct Asking {
+    pub question: Question,
+    pub counts: Vec<usize>,
 }
 
-// A question and numbers of workers, with which a line ends.
-fn asking_of(words: &mut Words, host: Viewer) -> Result<Asking, LineFault> {
+/// A question and numbers, with which a line ends.
+pub fn asking_of(words: &mut Words, host: Viewer) -> Result<Asking, LineFault> {
     let question = question_of(words, host)?;
     let counts = words.numbers()?;
     Ok(Asking { question, counts })
 }
 
-// The answer from a store, by one thread.
-fn returned_here(alloc: Global, asked: &Asked, question: &Question) -> Result<Vec<u8>, LineFault> {
-    let returned = answer_here(alloc, &asked.store, &asked.names, question)?;
+/// The answer from a store, by one thread.
+pub fn returned_here(
+    alloc: Global,
+    store: &Store,
+    names: &[UnitName],
+    question: &Question,
+) -> Result<Vec<u8>, LineFault> {
+    let returned = answer_here(alloc, store, names, question)?;
     text_of(alloc, Ok(Some(returned)))
 }
 
@@ -132,16 +136,27 @@ fn returned_by<R: Threads + Sync>(
     text_of(alloc, returned.map(Some))
 }
 
-// Writes the answer from a store by one thread, and then by each number of workers.
-fn append_all<R: Threads + Sync>(rt: &R, out: &mut Answer, asked: &Asked, asking: &Asking) -> Done {
-    let here = returned_here(out.alloc, asked, &asking.question)?;
-    out.write(&here)?;
+// Writes the answers from a store by each number of workers, beside the one by one thread.
+fn append_each<R: Threads + Sync>(
+    rt: &R,
+    out: &mut Answer,
+    asked: &Asked,
+    asking: &Asking,
+    here: &[u8],
+) -> Done {
     for count in &asking.counts {
         let text = returned_by(rt, out.alloc, asked, &asking.question, *count)?;
-        out.line(format!(in out.alloc; "{count} workers: ")?.as_bytes())?;
-        append_beside(out, &text, &here)?;
+        out.line_made(format!(in out.alloc; "{count} workers: "));
+        append_beside(out, &text, here);
     }
     Ok(())
+}
+
+// Writes the answer from a store by one thread, and then by each number of workers.
+fn append_all<R: Threads + Sync>(rt: &R, out: &mut Answer, asked: &Asked, asking: &Asking) -> Done {
+    let here = returned_here(out.alloc, &asked.store, &asked.names, &asking.question)?;
+    out.write(&here);
+    append_each(rt, out, asked, asking, &here)
 }
 
 /// Answers a question from a store by one thread, and then by each number of workers.
@@ -151,57 +166,22 @@ pub fn ask<R: Threads + Sync>(rt: &R, words: &mut Words, host: Viewer, out: &mut
     append_all(rt, out, &asked, &asking)
 }
 
-// The answer from a store by one worker, with no names besides the question's; the snapshot of the answer before is refreshed.
-fn returned_again<R: Threads + Sync>(
-    rt: &R,
-    alloc: Global,
-    snapshots: &mut Snapshots,
-    store: &Store,
-    question: &Question,
-) -> Result<Vec<u8>, LineFault> {
-    let returned = answer_again(rt, alloc, snapshots, 0, store, question, 1, &OpenGate);
-    text_of(alloc, returned.map(Some))
+// The first node puts an edit.
+fn put_of(edit: &Edit) -> Result<Event, AllocError> {
+    let edit = edit.try_clone()?;
+    Ok(Event::Put { node: 0, edit })
 }
 
-// Writes the answer from the store of the first `count` edits, and whether it is the one by one thread.
-fn append_again<R: Threads + Sync>(
-    rt: &R,
-    out: &mut Answer,
-    snapshots: &mut Snapshots,
-    edits: &[Edit],
-    question: &Question,
-    count: usize,
-) -> Done {
-    out.line(format!(in out.alloc; "of {count} edits: ")?.as_bytes())?;
-    let store = store_of(out.alloc, edits, count)?;
-    let text = returned_again(rt, out.alloc, snapshots, &store, question)?;
-    let here = text_of(
-        out.alloc,
-        Ok(Some(answer_here(out.alloc, &store, &[], question)?)),
-    )?;
-    out.write(&text)?;
-    out.either(text == here, b"", b", and not what is answered here")
-}
-
-/// Answers a question from the store of each of several numbers of first edits, one after another.
-pub fn again<R: Threads + Sync>(rt: &R, words: &mut Words, host: Viewer, out: &mut Answer) -> Done {
-    let edits = words.edits()?;
-    let asking = asking_of(words, host)?;
-    let mut snapshots = Snapshots::new(out.alloc);
-    for count in &asking.counts {
-        append_again(rt, out, &mut snapshots, &edits, &asking.question, *count)?;
+// The first node puts edits.
+fn add_puts(events: &mut Vec<Event>, edits: &[Edit]) -> Result<(), AllocError> {
+    for edit in edits {
+        events.push(put_of(edit)?)?;
     }
     Ok(())
 }
 
-// The first node puts edits, and then the second is given all that it lacks, by the exchange with this number.
-fn add_events(events: &mut Vec<Event>, edits: &[Edit], number: usize) -> Done {
-    for edit in edits {
-        events.push(Event::Put {
-            node: 0,
-            edit: edit.try_clone()?,
-        })?;
-    }
+// The second node is given all that it lacks, by the exchange with this number.
+fn add_exchange(events: &mut Vec<Event>, number: usize) -> Result<(), AllocError> {
     events.push(Event::Ask { node: 1 })?;
     events.push(Event::Cut {
         node: 0,
@@ -212,6 +192,13 @@ fn add_events(events: &mut Vec<Event>, edits: &[Edit], number: usize) -> Done {
         piece: number,
         node: 1,
     })?;
+    Ok(())
+}
+
+// The first node puts edits, and then the second is given all that it lacks, by the exchange with this number.
+fn add_events(events: &mut Vec<Event>, edits: &[Edit], number: usize) -> Done {
+    add_puts(events, edits)?;
+    add_exchange(events, number)?;
     Ok(())
 }
 
@@ -249,8 +236,8 @@ fn append_nodes<R: Threads + Sync>(
     let mut first = Vec::new(out.alloc);
     for node in 0..3 {
         let text = returned_at(rt, out.alloc, events, node, question, workers)?;
-        out.line(format!(in out.alloc; "{workers} workers, node {node}: ")?.as_bytes())?;
-        append_beside(out, &text, &first)?;
+        out.line_made(format!(in out.alloc; "{workers} workers, node {node}: "));
+        append_beside(out, &text, &first);
         if node == 0 {
             first = text;
         }
@@ -278,11 +265,11 @@ fn append_moments<R: Threads + Sync>(
     edits: &[Edit],
     asking: &Asking,
 ) -> Done {
-    let before_last = edits.len().checked_sub(1).ok_or(LineFault::Words)?;
+    let (last, before) = edits.split_last().ok_or(LineFault::Words)?;
     let mut events = Vec::new(out.alloc);
-    add_events(&mut events, &edits[..before_last], 0)?;
+    add_events(&mut events, before, 0)?;
     append_moment(rt, out, &events, asking)?;
-    add_events(&mut events, &edits[before_last..], 1)?;
+    add_events(&mut events, from_ref(last), 1)?;
     append_moment(rt, out, &events, asking)
 }
 

@@ -1,12 +1,12 @@
 //! Graphs of loads in words.
 ghost use Rattle.unit_graph.specs.Graphs.{IsKnown};
 
-use crate::edits::{Done, Viewer, asked_of};
-use crate::rendering::append_status;
+use crate::edits::{Asked, Done, Viewer, asked_of};
+use crate::rendering::{append_fault, append_status};
 use inverse_deps::edges;
-use parallel_load::{LoadFault, Loaded, load_here};
+use parallel_load::{Loaded, load_here};
 use setting_rules::DepKind;
-use std::alloc::{AllocError, Global};
+use std::alloc::Global;
 use unit_graph::Graph;
 use unit_name::UnitName;
 use worked_lines::{Answer, LineFault, Words, each_of};
@@ -19,74 +19,92 @@ fn kind_of(_alloc: Global, word: &[u8]) -> Result<DepKind, LineFault> {
 }
 
 // Writes what stands for a unit, and whether a person may start it.
-fn append_main(out: &mut Answer, graph: &Graph, main: &UnitName) -> Done {
-    out.write(main.bytes())?;
+fn append_main(out: &mut Answer, graph: &Graph, main: &UnitName) {
+    out.write(main.bytes());
     if let Some(status) = graph.status(main) {
-        out.write(b", ")?;
-        append_status(out, status)?;
+        out.write(b", ");
+        append_status(out, status);
     }
     if graph.manual(main) == Some(true) {
-        out.write(b", not by hand")?;
+        out.write(b", not by hand");
     }
-    Ok(())
 }
 
 /// Writes the units to which edges of each kind lead from a unit.
-pub fn append_steps(out: &mut Answer, graph: &Graph, kinds: &[DepKind], main: &UnitName) -> Done {
+pub fn append_steps(out: &mut Answer, graph: &Graph, kinds: &[DepKind], main: &UnitName) {
     for kind in kinds {
-        out.line(kind.word().as_bytes())?;
-        out.names(graph.of(*kind, main))?;
+        out.line(kind.word().as_bytes());
+        out.names(graph.of(*kind, main));
     }
-    Ok(())
 }
 
 /// Writes names, each behind its distance.
-pub fn append_far(out: &mut Answer, pairs: &[(u64, UnitName)]) -> Done {
+pub fn append_far(out: &mut Answer, pairs: &[(u64, UnitName)]) {
     for (distance, name) in pairs {
-        out.write(format!(in out.alloc; " {distance} ")?.as_bytes())?;
-        out.write(name.bytes())?;
+        out.write_made(format!(in out.alloc; " {distance} "));
+        out.write(name.bytes());
     }
-    Ok(())
 }
 
 // Writes what is reached from a name that stands for a unit.
 fn append_reached(out: &mut Answer, graph: &Graph, kinds: &[DepKind], name: &UnitName) -> Done
     requires known { IsKnown graph.now.load name.now }
 {
-    out.line(b"reach")?;
-    out.names(&graph.reach(kinds, name)?)?;
-    out.line(b"depths")?;
-    append_far(out, &graph.depths(name)?)
+    out.line(b"reach");
+    out.names(&graph.reach(kinds, name)?);
+    out.line(b"depths");
+    append_far(out, &graph.depths(name)?);
+    Ok(())
 }
 
 // Writes what a graph has from a name.
 fn append_from(out: &mut Answer, graph: &Graph, kinds: &[DepKind], name: &UnitName) -> Done {
-    out.line(name.bytes())?;
+    out.line(name.bytes());
     if !graph.has(name) {
-        return out.write(b": no unit");
+        out.write(b": no unit");
+        return Ok(());
     }
-    out.write(b": ")?;
+    out.write(b": ");
     if let Some(main) = graph.main(name) {
-        append_main(out, graph, main)?;
-        append_steps(out, graph, kinds, main)?;
+        append_main(out, graph, main);
+        append_steps(out, graph, kinds, main);
     }
     append_reached(out, graph, kinds, name)
+}
+
+// Writes for which host a graph is, if for one, and its units.
+fn append_members(out: &mut Answer, graph: &Graph) -> Done {
+    if let Some(host) = graph.host() {
+        out.line(b"for ");
+        out.write(host.bytes());
+    }
+    out.line(b"members");
+    out.names(&graph.members()?);
+    Ok(())
+}
+
+// Writes what a graph has from each of several names.
+fn append_views(out: &mut Answer, graph: &Graph, kinds: &[DepKind], names: &[UnitName]) -> Done {
+    for name in names {
+        append_from(out, graph, kinds, name)?;
+    }
+    Ok(())
 }
 
 // Makes the graph of a load, and writes its units, and what it has from each of several names.
 fn append_graph(out: &mut Answer, load: &Loaded, kinds: &[DepKind], names: &[UnitName]) -> Done {
     let edges = edges(out.alloc, load)?;
     let graph = Graph::build(load, &edges);
-    if let Some(host) = graph.host() {
-        out.line(b"for ")?;
-        out.write(host.bytes())?;
+    append_members(out, &graph)?;
+    append_views(out, &graph, kinds, names)
+}
+
+// Loads a store, and writes what its graph has.
+fn append_asked(out: &mut Answer, asked: &Asked, kinds: &[DepKind], names: &[UnitName]) -> Done {
+    match load_here(out.alloc, &asked.store, asked.host.as_ref(), &asked.names) {
+        Ok(load) => append_graph(out, &load, kinds, names),
+        Err(fault) => append_fault(out, &fault),
     }
-    out.line(b"members")?;
-    out.names(&graph.members()?)?;
-    for name in names {
-        append_from(out, &graph, kinds, name)?;
-    }
-    Ok(())
 }
 
 /// Makes the graph of a load, and looks at it from each of several names.
@@ -94,9 +112,5 @@ pub fn graph(words: &mut Words, host: Viewer, out: &mut Answer) -> Done {
     let asked = asked_of(words, host)?;
     let kinds = each_of(words.alloc, &words.list()?, kind_of)?;
     let names = words.names()?;
-    match load_here(words.alloc, &asked.store, asked.host.as_ref(), &asked.names) {
-        Ok(load) => append_graph(out, &load, &kinds, &names),
-        Err(LoadFault::Memory) => Err(LineFault::Memory(AllocError)),
-        Err(fault) => out.print(&fault),
-    }
+    append_asked(out, &asked, &kinds, &names)
 }

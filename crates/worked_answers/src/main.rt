@@ -19,8 +19,11 @@
 //!   the first; and then the same where the one before is changed in its place, if it can be;
 //! - `footprint EDITS + ASKED + NAMES`: the first components of all paths that say something of the unit of each name;
 //! - `ask EDITS + ASKED + QUESTION + WORKERS`: what a store answers by one thread, and by each number of workers;
-//! - `again EDITS + QUESTION + COUNTS`: what the store of each of these numbers of first edits answers, one after another, where
-//!   what was loaded for one is refreshed for the next; it says so where that isn't what the store answers by one thread;
+//! - `again EDITS + QUESTION + COUNTS`: what a node answers that took each of these numbers of first edits, one number after
+//!   another, where only what it took since is read again; it says so where that isn't what its store answers by one thread;
+//! - `merged EDITS + QUESTION + COUNTS`: the same, where the node takes by merges what it lacks;
+//! - `far EDITS + QUESTION + COUNTS`: what a node answers that took all edits but the last, and what behind each of these
+//!   numbers of edits elsewhere, and the last;
 //! - `world EDITS + QUESTION + WORKERS`: what two nodes of a world answer, by each number of workers, once the second took
 //!   what the first put: at a moment before the last edit, and at one behind it; and that there is no third node.
 //!
@@ -40,6 +43,7 @@ mod edits;
 mod graphs;
 mod refreshing;
 mod rendering;
+mod tracking;
 mod universes;
 
 use std::alloc::AllocError;

@@ -7,7 +7,7 @@ ghost use Rattle.path_maps.specs.HostViews.{host_view_of};
 ghost use Rattle.parallel_load.specs.Loads.{IsLoad};
 
 use crate::edits::{Done, Viewer, asked_of};
-use crate::rendering::{append_places, is_same_load};
+use crate::rendering::{append_fault, append_places, is_same_load};
 use crate::universes::universe_of;
 use parallel_load::{LoadFault, Loaded, Refreshed, load_here, refresh_in_place};
 use replica_store::{Edit, HostName, Place, Store};
@@ -56,8 +56,8 @@ impl LoadedStore {
     }
 }
 
-/// The store of so many first edits.
-pub fn store_of(alloc: Global, edits: &[Edit], count: usize) -> Result<Store, LineFault> {
+// The store of so many first edits.
+fn store_of(alloc: Global, edits: &[Edit], count: usize) -> Result<Store, LineFault> {
     if count > edits.len() {
         return Err(LineFault::Words);
     }
@@ -65,42 +65,42 @@ pub fn store_of(alloc: Global, edits: &[Edit], count: usize) -> Result<Store, Li
 }
 
 // Writes from how many edits a store is made.
-fn append_count(out: &mut Answer, count: usize) -> Done {
-    out.line(format!(in out.alloc; "of {count} edits: ")?.as_bytes())
+fn append_count(out: &mut Answer, count: usize) {
+    out.line_made(format!(in out.alloc; "of {count} edits: "));
 }
 
 // Writes how many units were read for a load.
-fn append_fresh(out: &mut Answer, load: &Loaded) -> Done {
-    out.print(&load.fresh())?;
-    out.write(b" read")
+fn append_fresh(out: &mut Answer, load: &Loaded) {
+    out.print(&load.fresh());
+    out.write(b" read");
 }
 
-// Writes why there is no load, unless memory ran out.
-fn append_fault(out: &mut Answer, fault: LoadFault) -> Done {
-    match fault {
-        LoadFault::Memory => Err(LineFault::Memory(AllocError)),
-        fault => out.print(&fault),
-    }
+// Whether what two loads come to is the same.
+fn is_same_universe(alloc: Global, one: &Loaded, other: &Loaded) -> Result<bool, LineFault> {
+    let text = universe_of(alloc, one)?;
+    Ok(text == universe_of(alloc, other)?)
 }
 
 // Compares a load with the one by one thread: what it has, and its edges and plan.
 fn append_beside(out: &mut Answer, load: &Loaded, here: &Loaded) -> Done {
     if !is_same_load(load, here)? {
-        return out.write(b", another");
+        out.write(b", another");
+        return Ok(());
     }
-    let text = universe_of(out.alloc, load)?;
-    let is_same = text == universe_of(out.alloc, here)?;
-    out.either(is_same, b", the same", b", with other edges or plans")
+    let is_same = is_same_universe(out.alloc, load, here)?;
+    out.either(is_same, b", the same", b", with other edges or plans");
+    Ok(())
 }
 
 // Writes how many units were read for a load, and how it compares with the one by one thread.
 fn append_compared(out: &mut Answer, load: &Loaded, here: &Result<Loaded, LoadFault>) -> Done {
-    append_fresh(out, load)?;
+    append_fresh(out, load);
     match here {
-        Ok(here) => append_beside(out, load, here),
-        Err(LoadFault::Memory) => Err(LineFault::Memory(AllocError)),
+        Ok(here) => append_beside(out, load, here)?,
+        Err(LoadFault::Memory) => return Err(LineFault::Memory(AllocError)),
         Err(_) => out.write(b", where there is none"),
     }
+    Ok(())
 }
 
 // Writes whether a load that was given away was refreshed in place, how many units were read for that, and how the result
@@ -112,16 +112,52 @@ fn append_given_away(
 ) -> Done {
     match refreshed {
         Ok(Refreshed::InPlace(load)) => {
-            out.write(b"; in place ")?;
-            append_compared(out, load, here)
+            out.write(b"; in place ");
+            append_compared(out, load, here)?;
         }
         Ok(Refreshed::Anew(_, load)) => {
-            out.write(b"; anew ")?;
-            append_compared(out, load, here)
+            out.write(b"; anew ");
+            append_compared(out, load, here)?;
         }
-        Err(LoadFault::Memory) => Err(LineFault::Memory(AllocError)),
+        Err(LoadFault::Memory) => return Err(LineFault::Memory(AllocError)),
         Err(_) => out.write(b"; and none"),
     }
+    Ok(())
+}
+
+// Writes why a load wasn't refreshed, and whether there is one by one thread.
+fn append_refused(out: &mut Answer, fault: &LoadFault, here: &Result<Loaded, LoadFault>) -> Done {
+    append_fault(out, fault)?;
+    out.either(here.is_ok(), b", where there is one", b"");
+    Ok(())
+}
+
+// Writes the places at which a store shows something else than the one before it.
+fn append_changed(out: &mut Answer, changed: &[Place]) {
+    out.write(b"changed");
+    append_places(out, changed);
+    out.write(b"; ");
+}
+
+// The load of a store by one thread, as another load was made.
+fn load_like(alloc: Global, store: &Store, load: &Loaded) -> Result<Loaded, LoadFault> {
+    load_here(alloc, store, load.host(), load.extra())
+}
+
+// Writes how a refreshed load compares with the one by one thread, and how the load before, given away, does.
+fn append_both(
+    out: &mut Answer,
+    before: LoadedStore,
+    store: &Store,
+    changed: &[Place],
+    load: &Loaded,
+    here: &Result<Loaded, LoadFault>,
+) -> Done
+    requires load { IsLoad (host_view_of before.store before.load.host) before.load.extra before.load }
+    requires changed { (p : PlaceParts) → IsAmong p changed.now ↔ (visible_at store.now p ≢ visible_at before.store p) }
+{
+    append_compared(out, load, here)?;
+    append_given_away(out, &before.given_away(store, changed), here)
 }
 
 // Writes the places at which a store shows something else than the one before it, and how many units are read when its load
@@ -135,20 +171,15 @@ fn append_refreshed(
     ensures load { IfOk result (λ made. IsLoad (host_view_of made.store made.load.host) made.load.extra made.load) }
 {
     let changed = store.changed(&before.store)?;
-    out.write(b"changed")?;
-    append_places(out, &changed)?;
-    out.write(b"; ")?;
-    let load = &before.load;
-    let here = load_here(out.alloc, &store, load.host(), load.extra());
+    append_changed(out, &changed);
+    let here = load_like(out.alloc, &store, &before.load);
     match before.refreshed(&store, &changed) {
         Ok(load) => {
-            append_compared(out, &load, &here)?;
-            append_given_away(out, &before.given_away(&store, &changed), &here)?;
+            append_both(out, before, &store, &changed, &load, &here)?;
             Ok(LoadedStore { store, load })
         }
         Err(fault) => {
-            append_fault(out, fault)?;
-            out.either(here.is_ok(), b", where there is one", b"")?;
+            append_refused(out, &fault, &here)?;
             Ok(before)
         }
     }
@@ -160,40 +191,60 @@ fn append_later(out: &mut Answer, first: LoadedStore, edits: &[Edit], counts: &[
 {
     let mut held = first;
     for count in counts {
-        append_count(out, *count)?;
+        append_count(out, *count);
         let store = store_of(out.alloc, edits, *count)?;
         held = append_refreshed(out, held, store)?;
     }
     Ok(())
 }
 
-/// Loads the store of the first edits, as many as the first number says, and refreshes that load for each later number.
+// Loads the store of the first edits, as many as the first number says, and refreshes that load for each later number.
+fn append_counts(
+    out: &mut Answer,
+    host: Option<&HostName>,
+    edits: &[Edit],
+    names: &[UnitName],
+    counts: &[usize],
+) -> Done {
+    let (first, later) = counts.split_first().ok_or(LineFault::Words)?;
+    append_count(out, *first);
+    let store = store_of(out.alloc, edits, *first)?;
+    match LoadedStore::of(out.alloc, store, host, names) {
+        Ok(held) => {
+            append_fresh(out, &held.load);
+            append_later(out, held, edits, later)
+        }
+        Err(fault) => append_fault(out, &fault),
+    }
+}
+
+/// Loads a store of first edits, and refreshes its load for other numbers of first edits.
 pub fn refresh(words: &mut Words, host: Viewer, out: &mut Answer) -> Done {
     let counts = words.numbers()?;
     let edits = words.edits()?;
     let names = words.names()?;
-    let (first, later) = counts.split_first().ok_or(LineFault::Words)?;
-    append_count(out, *first)?;
-    let store = store_of(out.alloc, &edits, *first)?;
-    match LoadedStore::of(out.alloc, store, host.as_ref(), &names) {
-        Ok(held) => {
-            append_fresh(out, &held.load)?;
-            append_later(out, held, &edits, later)
-        }
-        Err(fault) => append_fault(out, fault),
-    }
+    append_counts(out, host.as_ref(), &edits, &names, &counts)
 }
 
 // Writes the footprint of the unit of a main name.
 fn append_footprint(out: &mut Answer, load: &Loaded, name: &UnitName) -> Done {
-    out.line(name.bytes())?;
-    out.write(b":")?;
+    out.line(name.bytes());
+    out.write(b":");
     if load.unit(name).is_none() {
-        return out.write(b" no unit");
+        out.write(b" no unit");
+        return Ok(());
     }
     for part in &parallel_load::footprint(load, name)? {
-        out.write(b" ")?;
-        out.write(part.as_slice())?;
+        out.write(b" ");
+        out.write(part.as_slice());
+    }
+    Ok(())
+}
+
+// Writes the footprints of the units of several main names.
+fn append_footprints(out: &mut Answer, load: &Loaded, names: &[UnitName]) -> Done {
+    for name in names {
+        append_footprint(out, load, name)?;
     }
     Ok(())
 }
@@ -203,12 +254,7 @@ pub fn footprint(words: &mut Words, host: Viewer, out: &mut Answer) -> Done {
     let asked = asked_of(words, host)?;
     let looked = words.names()?;
     match load_here(words.alloc, &asked.store, asked.host.as_ref(), &asked.names) {
-        Ok(load) => {
-            for name in &looked {
-                append_footprint(out, &load, name)?;
-            }
-            Ok(())
-        }
-        Err(fault) => append_fault(out, fault),
+        Ok(load) => append_footprints(out, &load, &looked),
+        Err(fault) => append_fault(out, &fault),
     }
 }

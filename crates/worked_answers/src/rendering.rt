@@ -1,58 +1,53 @@
 //! How loads and units are written.
 use crate::edits::Done;
-use parallel_load::{Loaded, NameLoad, Status, Unit};
+use parallel_load::{LoadFault, Loaded, NameLoad, Status, Unit};
 use replica_store::Place;
 use start_plan::Plan;
+use std::alloc::AllocError;
 use unit_name::UnitName;
 use worked_lines::{Answer, LineFault};
 
-// Writes a word behind a space.
-fn append_word(out: &mut Answer, word: &[u8]) -> Done {
-    out.write(b" ")?;
-    out.write(word)
-}
-
 // Writes the names of a load, each with the main name of which it is an alias.
-fn append_loads(out: &mut Answer, names: &[(UnitName, NameLoad)]) -> Done {
+fn append_loads(out: &mut Answer, names: &[(UnitName, NameLoad)]) {
     for (name, load) in names {
-        append_word(out, name.bytes())?;
+        out.write(b" ");
+        out.write(name.bytes());
         if let NameLoad::Alias(main) = load {
-            out.write(b">")?;
-            out.write(main.bytes())?;
+            out.write(b">");
+            out.write(main.bytes());
         }
     }
-    Ok(())
 }
 
 // Writes the names of units.
-fn append_units(out: &mut Answer, units: &[&Unit]) -> Done {
+fn append_units(out: &mut Answer, units: &[&Unit]) {
     for unit in units {
-        append_word(out, unit.name.bytes())?;
+        out.write(b" ");
+        out.write(unit.name.bytes());
     }
-    Ok(())
 }
 
 /// Writes for which host the load is, if for one, what was asked for, all names with what they stand for, and the units.
 pub fn append_load(out: &mut Answer, load: &Loaded) -> Done {
     if let Some(host) = load.host() {
-        out.line(b"for ")?;
-        out.write(host.bytes())?;
+        out.line(b"for ");
+        out.write(host.bytes());
     }
-    out.line(b"asked")?;
-    out.names(load.extra())?;
-    out.line(b"names")?;
-    append_loads(out, load.names())?;
-    out.line(b"units")?;
-    append_units(out, &load.units()?)
+    out.line(b"asked");
+    out.names(load.extra());
+    out.line(b"names");
+    append_loads(out, load.names());
+    out.line(b"units");
+    append_units(out, &load.units()?);
+    Ok(())
 }
 
 /// Writes places, each behind a space.
-pub fn append_places(out: &mut Answer, places: &[Place]) -> Done {
+pub fn append_places(out: &mut Answer, places: &[Place]) {
     for place in places {
-        out.write(b" ")?;
-        place.append_to(&mut out.bytes)?;
+        out.write(b" ");
+        out.place_in_full(place);
     }
-    Ok(())
 }
 
 /// Whether two loads are for the same host, with the same names asked for, the same names, dependencies and units.
@@ -62,50 +57,59 @@ pub fn is_same_load(one: &Loaded, other: &Loaded) -> Result<bool, LineFault> {
     Ok(is_same_asked && is_same_map && one.units()? == other.units()?)
 }
 
+/// Writes why there is no load, unless memory ran out.
+pub fn append_fault(out: &mut Answer, fault: &LoadFault) -> Done {
+    if matches!(fault, LoadFault::Memory) {
+        return Err(LineFault::Memory(AllocError));
+    }
+    out.print(fault);
+    Ok(())
+}
+
 /// Writes what stands for a unit.
-pub fn append_status(out: &mut Answer, status: &Status) -> Done {
+pub fn append_status(out: &mut Answer, status: &Status) {
     match status {
         Status::Loaded(place) => {
-            out.write(b"loaded from ")?;
-            Ok(place.append_to(&mut out.bytes)?)
+            out.write(b"loaded from ");
+            out.place_in_full(place);
         }
         Status::NotFound => out.write(b"not found"),
         Status::Masked => out.write(b"masked"),
         Status::Bad(cause) => {
-            out.write(b"bad ")?;
-            out.print(cause)
+            out.write(b"bad ");
+            out.print(cause);
         }
     }
 }
 
 /// Writes which units stop and which start.
-pub fn append_plan(out: &mut Answer, plan: &Plan) -> Done {
-    out.write(b"stops")?;
-    out.names(plan.stop.as_slice())?;
-    out.write(b", starts")?;
-    out.names(plan.start.as_slice())
+pub fn append_plan(out: &mut Answer, plan: &Plan) {
+    out.write(b"stops");
+    out.names(plan.stop.as_slice());
+    out.write(b", starts");
+    out.names(plan.start.as_slice());
 }
 
 /// Writes what stands for a unit, its names, the main name first, and its drop-ins.
-pub fn append_unit(out: &mut Answer, unit: &Unit) -> Done {
-    append_status(out, &unit.status)?;
-    out.write(b", names")?;
-    out.names(unit.names.as_slice())?;
+pub fn append_unit(out: &mut Answer, unit: &Unit) {
+    append_status(out, &unit.status);
+    out.write(b", names");
+    out.names(unit.names.as_slice());
     if !unit.dropins.as_slice().is_empty() {
-        out.write(b", drop-ins")?;
+        out.write(b", drop-ins");
     }
-    append_places(out, unit.dropins.as_slice())
+    append_places(out, unit.dropins.as_slice());
 }
 
 /// Writes the main name of a name of a load, and the unit whose main name it is.
-pub fn append_looked_up(out: &mut Answer, load: &Loaded, name: &UnitName) -> Done {
-    out.line(name.bytes())?;
-    out.write(b": main ")?;
+pub fn append_looked_up(out: &mut Answer, load: &Loaded, name: &UnitName) {
+    out.line(name.bytes());
+    out.write(b": main ");
     match load.main(name) {
-        Some(main) => out.write(main.bytes())?,
-        None => out.write(b"none")?,
+        Some(main) => out.write(main.bytes()),
+        None => out.write(b"none"),
     }
-    out.write(b", unit ")?;
+    out.write(b", unit ");
     match load.unit(name) {
         Some(unit) => append_unit(out, unit),
         None => out.write(b"none"),

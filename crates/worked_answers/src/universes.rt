@@ -36,19 +36,25 @@ fn append_started(out: &mut Answer, graph: &Graph, target: &UnitName) -> Done
     };
     match plan(out.alloc, graph, &request) {
         Ok(plan) => append_plan(out, &plan),
-        Err(Refusal::Memory) => Err(LineFault::Memory(AllocError)),
+        Err(Refusal::Memory) => return Err(LineFault::Memory(AllocError)),
         Err(refusal) => out.print(&refusal),
+    }
+    Ok(())
+}
+
+// Writes members of a graph, and the edges of each kind from each of them.
+fn append_edges(out: &mut Answer, graph: &Graph, members: &[UnitName]) {
+    out.names(members);
+    for member in members {
+        out.line(member.bytes());
+        append_steps(out, graph, DepKind::all(), member);
     }
 }
 
 // Writes what a graph has: its members, the edges of each kind from each of them, and the plan of the first.
 fn append_universe(out: &mut Answer, graph: &Graph) -> Done {
     let members = graph.members()?;
-    out.names(&members)?;
-    for member in &members {
-        out.line(member.bytes())?;
-        append_steps(out, graph, DepKind::all(), member)?;
-    }
+    append_edges(out, graph, &members);
     match members.first() {
         Some(first) if graph.has(first) => append_started(out, graph, first),
         _ => Ok(()),
@@ -61,5 +67,5 @@ pub fn universe_of(alloc: Global, load: &Loaded) -> Result<Vec<u8>, LineFault> {
     let graph = Graph::build(load, &edges);
     let mut out = Answer::new(alloc);
     append_universe(&mut out, &graph)?;
-    Ok(out.bytes)
+    out.finish()
 }

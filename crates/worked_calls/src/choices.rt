@@ -10,9 +10,20 @@ use worked_lines::{Answer, LineFault, Words, asked_of, match_word};
 pub fn answer(words: &mut Words, out: &mut Answer) -> Result<(), LineFault> {
     let (call, host) = asked_of(words.alloc, words.word()?)?;
     let store = words.store()?;
+    of_store(call, &store, host.as_ref(), words, out)
+}
+
+// The answer to a call on a store, and on one name or several.
+fn of_store(
+    call: &[u8],
+    store: &Store,
+    host: Option<&HostName>,
+    words: &mut Words,
+    out: &mut Answer,
+) -> Result<(), LineFault> {
     match_word!(call;
-        b"index" => append_indexed(out, &store, host.as_ref(), &words.spelled_names()?),
-        _ => returned(call, &store, host.as_ref(), &words.name()?, out),
+        b"index" => append_indexed(out, store, host, &words.spelled_names()?),
+        _ => returned(call, store, host, &words.name()?, out),
     )
 }
 
@@ -25,14 +36,20 @@ fn returned(
     out: &mut Answer,
 ) -> Result<(), LineFault> {
     match_word!(call;
-        b"choose" => append_choice(out, &choose(out.alloc, store, host, name)?),
-        b"resolve" => append_resolution(out, &resolve(out.alloc, store, host, name)?),
+        b"choose" => {
+            append_choice(out, &choose(out.alloc, store, host, name)?);
+            Ok(())
+        },
+        b"resolve" => {
+            append_resolution(out, &resolve(out.alloc, store, host, name)?);
+            Ok(())
+        },
         b"names" => append_names_of(out, store, host, name),
     )
 }
 
 // Writes a choice.
-fn append_choice(out: &mut Answer, choice: &Choice) -> Result<(), LineFault> {
+fn append_choice(out: &mut Answer, choice: &Choice) {
     match choice {
         Choice::NotFound => out.write(b"not found"),
         Choice::Masked => out.write(b"masked"),
@@ -43,10 +60,10 @@ fn append_choice(out: &mut Answer, choice: &Choice) -> Result<(), LineFault> {
 }
 
 // Writes the main name and its choice.
-fn append_resolution(out: &mut Answer, end: &Resolution) -> Result<(), LineFault> {
-    out.write(end.main.bytes())?;
-    out.write(b" ")?;
-    append_choice(out, &end.choice)
+fn append_resolution(out: &mut Answer, end: &Resolution) {
+    out.write(end.main.bytes());
+    out.write(b" ");
+    append_choice(out, &end.choice);
 }
 
 // Writes the names of the unit, if this is its main name.
@@ -57,10 +74,11 @@ fn append_names_of(
     name: &UnitName,
 ) -> Result<(), LineFault> {
     if resolve(out.alloc, store, host, name)?.main.bytes() == name.bytes() {
-        append_names(out, &names_of(out.alloc, store, host, name)?)
+        append_names(out, &names_of(out.alloc, store, host, name)?);
     } else {
-        out.write(b"no main name")
+        out.write(b"no main name");
     }
+    Ok(())
 }
 
 // Writes the names of those units of a list that are given by their main name, found with one index.
@@ -72,10 +90,16 @@ fn append_indexed(
 ) -> Result<(), LineFault> {
     let index = AliasIndex::of(out.alloc, store, host)?;
     for unit in units {
-        if index.resolve(out.alloc, unit)?.main.bytes() == unit.bytes() {
-            out.part(b" +")?;
-            append_names(out, &index.names_of(out.alloc, unit)?)?;
-        }
+        append_unit(out, &index, unit)?;
+    }
+    Ok(())
+}
+
+// Writes the names of a unit that is given by its main name, found with an index.
+fn append_unit(out: &mut Answer, index: &AliasIndex, unit: &UnitName) -> Result<(), LineFault> {
+    if index.resolve(out.alloc, unit)?.main.bytes() == unit.bytes() {
+        out.part(b" +");
+        append_names(out, &index.names_of(out.alloc, unit)?);
     }
     Ok(())
 }

@@ -6,11 +6,23 @@ use worked_lines::{Answer, LineFault, Words, edit_of, match_word};
 /// Writes the answer to a call on contents.
 pub fn answer(words: &mut Words, out: &mut Answer) -> Result<(), LineFault> {
     match_word!(words.word()?;
-        b"file" => made(out, Content::file(words.text()?)),
-        b"link" => made(out, Content::link(words.text()?)),
-        b"filled_file" => counted(out, Content::file(filled(words)?)),
-        b"filled_link" => counted(out, Content::link(filled(words)?)),
-        b"copy" => append_edit(out, &edit_of(words.alloc, words.word()?)?.try_clone()?),
+        b"file" => {
+            append_made(out, &Content::file(words.text()?));
+            Ok(())
+        },
+        b"link" => {
+            append_made(out, &Content::link(words.text()?));
+            Ok(())
+        },
+        b"filled_file" => {
+            append_count(out, &Content::file(filled(words)?));
+            Ok(())
+        },
+        b"filled_link" => {
+            append_count(out, &Content::link(filled(words)?));
+            Ok(())
+        },
+        b"copy" => copied(words, out),
     )
 }
 
@@ -21,21 +33,28 @@ fn filled(words: &mut Words) -> Result<Vec<u8>, LineFault> {
 }
 
 // Writes the content, or why there is none.
-fn made(out: &mut Answer, content: Result<Content, ContentFault>) -> Result<(), LineFault> {
+fn append_made(out: &mut Answer, content: &Result<Content, ContentFault>) {
     match content {
-        Ok(content) => append_content(out, &content),
-        Err(fault) => out.print(&fault),
+        Ok(content) => append_content(out, content),
+        Err(fault) => out.print(fault),
     }
 }
 
 // Writes how many bytes the content has, or why there is none.
-fn counted(out: &mut Answer, content: Result<Content, ContentFault>) -> Result<(), LineFault> {
+fn append_count(out: &mut Answer, content: &Result<Content, ContentFault>) {
     let count = match content {
         Ok(Content::File(file)) => file.bytes().len(),
         Ok(Content::Link(target)) => target.bytes().len(),
         Ok(Content::Gone) => 0,
-        Err(fault) => return out.print(&fault),
+        Err(fault) => return out.print(fault),
     };
-    out.print(&count)?;
-    out.write(b" bytes")
+    out.print(&count);
+    out.write(b" bytes");
+}
+
+// A copy of an edit.
+fn copied(words: &mut Words, out: &mut Answer) -> Result<(), LineFault> {
+    let edit = edit_of(words.alloc, words.word()?)?;
+    append_edit(out, &edit.try_clone()?);
+    Ok(())
 }

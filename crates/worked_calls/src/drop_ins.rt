@@ -10,7 +10,10 @@ use worked_lines::{Answer, LineFault, Words, asked_of, match_word};
 pub fn answer(words: &mut Words, out: &mut Answer) -> Result<(), LineFault> {
     let call = words.word()?;
     match_word!(call;
-        b"folders" => append_names(out, &folders(words.alloc, &words.spelled_names()?)?),
+        b"folders" => {
+            append_names(out, &folders(words.alloc, &words.spelled_names()?)?);
+            Ok(())
+        },
         _ => asked(call, words, out),
     )
 }
@@ -31,17 +34,32 @@ fn returned(
     out: &mut Answer,
 ) -> Result<(), LineFault> {
     match_word!(call;
-        b"order" => append_places(out, &order(out.alloc, store, host, names)?),
+        b"order" => {
+            append_places(out, &order(out.alloc, store, host, names)?);
+            Ok(())
+        },
         b"lend" => append_borrowed(out, &store.host_view(host), names),
-        b"wants" => append_names(out, &links(out.alloc, store, host, names, Folder::Wants)?),
-        b"requires" => append_names(out, &links(out.alloc, store, host, names, Folder::Requires)?),
+        b"wants" => append_links(out, store, host, names, Folder::Wants),
+        b"requires" => append_links(out, store, host, names, Folder::Requires),
     )
+}
+
+// Writes the names of the links in one of the unit's link folders.
+fn append_links(
+    out: &mut Answer,
+    store: &Store,
+    host: Option<&HostName>,
+    names: &[UnitName],
+    folder: Folder,
+) -> Result<(), LineFault> {
+    append_names(out, &links(out.alloc, store, host, names, folder)?);
+    Ok(())
 }
 
 // Writes the folders of the unit, and then its drop-ins with their contents.
 fn append_borrowed(out: &mut Answer, view: &HostView, names: &[UnitName]) -> Result<(), LineFault> {
     let folders = UnitFolders::of(out.alloc, names)?;
-    append_names(out, folders.names())?;
+    append_names(out, folders.names());
     for entry in &folders.drop_ins(out.alloc, view)? {
         append_viewed(out, view, entry)?;
     }

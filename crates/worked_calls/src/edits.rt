@@ -7,51 +7,48 @@ use unit_name::UnitName;
 use worked_lines::{Answer, LineFault};
 
 /// Writes a version.
-pub fn append_version(out: &mut Answer, version: Version) -> Result<(), LineFault> {
-    out.print(&version.counter)?;
-    out.write(b".")?;
-    out.print(&version.writer)
+pub fn append_version(out: &mut Answer, version: Version) {
+    out.print(&version.counter);
+    out.write(b".");
+    out.print(&version.writer);
 }
 
 /// Writes a content as it follows a path.
-pub fn append_content(out: &mut Answer, content: &Content) -> Result<(), LineFault> {
+pub fn append_content(out: &mut Answer, content: &Content) {
     match content {
-        Content::Gone => Ok(()),
+        Content::Gone => {}
         Content::File(file) => out.spell_quoted(&[(b'=', file.bytes())]),
         Content::Link(target) => out.spell_quoted(&[(b'>', target.bytes())]),
     }
 }
 
 // Writes a content after its version and its place.
-fn append_at(
-    out: &mut Answer,
-    version: Version,
-    place: &Place,
-    content: &Content,
-) -> Result<(), LineFault> {
-    append_version(out, version)?;
-    out.write(b":")?;
-    out.write_place(place)?;
-    append_content(out, content)
+fn append_at(out: &mut Answer, version: Version, place: &Place, content: &Content) {
+    append_version(out, version);
+    out.write(b":");
+    out.write_place(place);
+    append_content(out, content);
 }
 
 /// Writes an edit.
-pub fn append_edit(out: &mut Answer, edit: &Edit) -> Result<(), LineFault> {
-    append_at(out, edit.version, &edit.place, &edit.content)
+pub fn append_edit(out: &mut Answer, edit: &Edit) {
+    append_at(out, edit.version, &edit.place, &edit.content);
 }
 
 /// Writes an entry with its place, after a space unless nothing is written yet.
 pub fn append_placed(out: &mut Answer, placed: &Placed) -> Result<(), LineFault> {
     let entry = placed.entry();
-    out.part(b" ")?;
-    append_at(out, entry.version, &placed.place()?, &entry.content)
+    out.part(b" ");
+    append_at(out, entry.version, &placed.place()?, &entry.content);
+    Ok(())
 }
 
 /// Writes entries, each after a space unless nothing is written yet; `nothing` if there are none.
 pub fn append_entries(out: &mut Answer, mut entries: Entries<'_>) -> Result<(), LineFault> {
     let Some(first) = entries.next_entry() else {
-        out.part(b" ")?;
-        return out.write(b"nothing");
+        out.part(b" ");
+        out.write(b"nothing");
+        return Ok(());
     };
     append_placed(out, &first)?;
     while let Some(placed) = entries.next_entry() {
@@ -67,8 +64,9 @@ pub fn append_viewed(
     placed: &HostViewEntry,
 ) -> Result<(), LineFault> {
     let entry = placed.entry();
-    out.part(b" ")?;
-    append_at(out, entry.version, &view.place(placed)?, &entry.content)
+    out.part(b" ");
+    append_at(out, entry.version, &view.place(placed)?, &entry.content);
+    Ok(())
 }
 
 /// Writes entries that a host sees, each after a space unless nothing is written yet; `nothing` if there are none.
@@ -78,8 +76,9 @@ pub fn append_all_viewed(
     mut entries: HostViewEntries<'_>,
 ) -> Result<(), LineFault> {
     let Some(first) = entries.next_entry() else {
-        out.part(b" ")?;
-        return out.write(b"nothing");
+        out.part(b" ");
+        out.write(b"nothing");
+        return Ok(());
     };
     append_viewed(out, view, &first)?;
     while let Some(placed) = entries.next_entry() {
@@ -94,19 +93,19 @@ pub fn append_store(out: &mut Answer, store: &Store) -> Result<(), LineFault> {
 }
 
 /// Writes places, separated by spaces.
-pub fn append_places(out: &mut Answer, places: &[Place]) -> Result<(), LineFault> {
+pub fn append_places(out: &mut Answer, places: &[Place]) {
     for place in places {
-        out.part(b" ")?;
-        out.write_place(place)?;
+        out.part(b" ");
+        out.write_place(place);
     }
-    out.or(b"none")
+    out.or(b"none");
 }
 
 /// Writes names, each after a space unless nothing is written yet.
-pub fn append_names(out: &mut Answer, names: &[UnitName]) -> Result<(), LineFault> {
+pub fn append_names(out: &mut Answer, names: &[UnitName]) {
     for name in names {
-        out.part(b" ")?;
-        out.write(name.bytes())?;
+        out.part(b" ");
+        out.write(name.bytes());
     }
-    out.or(b"none")
+    out.or(b"none");
 }

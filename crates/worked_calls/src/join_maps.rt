@@ -15,7 +15,7 @@ type Tree = JoinMap<u8, JoinMap<u8, Numbers>>;
 pub fn answer(words: &mut Words, out: &mut Answer) -> Result<(), LineFault> {
     let call = words.word()?;
     match_word!(call;
-        b"deep" => append_trees(out, &tree(words)?, &tree(words)?),
+        b"deep" => deep(words, out),
         b"last" => last(words, out),
         _ => returned(call, &map(words)?, words, out),
     )
@@ -32,7 +32,10 @@ fn returned(
         b"join" => append_joined(out, first, &map(words)?),
         b"at" => joined_at(first, words, out),
         b"keys" => append_keys(out, first),
-        b"get" => append_found(out, first, byte_of(words.word()?)?),
+        b"get" => {
+            append_found(out, first, byte_of(words.word()?)?);
+            Ok(())
+        },
     )
 }
 
@@ -53,29 +56,28 @@ pub fn map(words: &mut Words) -> Result<Numbers, LineFault> {
 }
 
 // Writes the pairs of a map, each key after those of the maps that contain it.
-fn append_pairs(out: &mut Answer, outer: &str, map: &Numbers) -> Result<(), LineFault> {
+fn append_pairs(out: &mut Answer, outer: &Answer, map: &Numbers) {
     for (key, value) in map.pairs() {
-        out.part(b",")?;
-        out.write(outer.as_bytes())?;
-        out.print(key)?;
-        out.write(b":")?;
-        append_value(out, value)?;
+        out.part(b",");
+        out.append(outer);
+        out.print(key);
+        out.write(b":");
+        append_value(out, value);
     }
-    Ok(())
 }
 
 /// Writes a map.
-pub fn append_map(out: &mut Answer, map: &Numbers) -> Result<(), LineFault> {
-    append_pairs(out, "", map)?;
-    out.or(b"none")
+pub fn append_map(out: &mut Answer, map: &Numbers) {
+    append_pairs(out, &Answer::new(out.alloc), map);
+    out.or(b"none");
 }
 
 // Writes a map, its length, and whether it is unchanged.
-fn append_outcome(out: &mut Answer, old: &Numbers, new: &Numbers) -> Result<(), LineFault> {
-    append_map(out, new)?;
-    out.write(b" ")?;
-    out.print(&new.len())?;
-    out.either(old.same(new), b" unchanged", b"")
+fn append_outcome(out: &mut Answer, old: &Numbers, new: &Numbers) {
+    append_map(out, new);
+    out.write(b" ");
+    out.print(&new.len());
+    out.either(old.same(new), b" unchanged", b"");
 }
 
 // A map that copies of another's pairs are joined to.
@@ -88,12 +90,10 @@ fn with_copies(left: &Numbers, right: &Numbers) -> Result<Numbers, LineFault> {
 // Writes the join of two maps, and whether copies of the second's pairs give the same.
 fn append_joined(out: &mut Answer, left: &Numbers, right: &Numbers) -> Result<(), LineFault> {
     let whole = joined(left, right)?;
-    append_outcome(out, left, &whole)?;
-    out.either(
-        whole.same(&with_copies(left, right)?),
-        b"",
-        b" but not by copies",
-    )
+    append_outcome(out, left, &whole);
+    let is_same = whole.same(&with_copies(left, right)?);
+    out.either(is_same, b"", b" but not by copies");
+    Ok(())
 }
 
 // A map to which one value is joined.
@@ -102,20 +102,21 @@ fn joined_at(old: &Numbers, words: &mut Words, out: &mut Answer) -> Result<(), L
     let value = versioned(words.word()?)?;
     let mut new = old.try_clone()?;
     new.join_at(key, value)?;
-    append_outcome(out, old, &new)
+    append_outcome(out, old, &new);
+    Ok(())
 }
 
 // Writes the keys of a map.
 fn append_keys(out: &mut Answer, map: &Numbers) -> Result<(), LineFault> {
     for key in map.keys()? {
-        out.part(b",")?;
-        out.print(key)?;
+        out.part(b",");
+        out.print(key);
     }
     Ok(())
 }
 
 // Writes the value at a key.
-fn append_found(out: &mut Answer, map: &Numbers, key: u8) -> Result<(), LineFault> {
+fn append_found(out: &mut Answer, map: &Numbers, key: u8) {
     match map.get(&key) {
         Some(value) => append_value(out, value),
         None => out.write(b"none"),
@@ -126,12 +127,12 @@ fn append_found(out: &mut Answer, map: &Numbers, key: u8) -> Result<(), LineFaul
 fn last(words: &mut Words, out: &mut Answer) -> Result<(), LineFault> {
     let mut map = map(words)?;
     let popped = map.pop_last();
-    append_map(out, &map)?;
-    let Some((key, _)) = popped else {
-        return Ok(());
-    };
-    out.write(b" ")?;
-    out.print(&key)
+    append_map(out, &map);
+    if let Some((key, _)) = popped {
+        out.write(b" ");
+        out.print(&key);
+    }
+    Ok(())
 }
 
 // Joins the pair that a word writes to a map of maps of maps.
@@ -164,27 +165,35 @@ fn tree(words: &mut Words) -> Result<Tree, LineFault> {
 }
 
 // Writes the maps at a key.
-fn append_maps(out: &mut Answer, outer: u8, maps: &JoinMap<u8, Numbers>) -> Result<(), LineFault> {
+fn append_maps(out: &mut Answer, outer: u8, maps: &JoinMap<u8, Numbers>) {
     for (middle, map) in maps.pairs() {
-        let keys = format!(in out.alloc; "{outer}/{middle}/")?;
-        append_pairs(out, keys.as_str(), map)?;
+        let mut keys = Answer::new(out.alloc);
+        keys.write_made(format!(in out.alloc; "{outer}/{middle}/"));
+        append_pairs(out, &keys, map);
     }
-    Ok(())
 }
 
 // Writes a map of maps of maps, and how many keys its outermost map has.
-fn append_tree(out: &mut Answer, tree: &Tree) -> Result<(), LineFault> {
+fn append_tree(out: &mut Answer, tree: &Tree) {
     for (outer, maps) in tree.pairs() {
-        append_maps(out, *outer, maps)?;
+        append_maps(out, *outer, maps);
     }
-    out.or(b"none")?;
-    out.write(b" ")?;
-    out.print(&tree.len())
+    out.or(b"none");
+    out.write(b" ");
+    out.print(&tree.len());
+}
+
+// The join of two maps of maps of maps.
+fn deep(words: &mut Words, out: &mut Answer) -> Result<(), LineFault> {
+    let first = tree(words)?;
+    append_trees(out, &first, &tree(words)?)
 }
 
 // Writes the join of two maps of maps of maps, and whether it is the same in both orders.
 fn append_trees(out: &mut Answer, left: &Tree, right: &Tree) -> Result<(), LineFault> {
     let whole = joined(left, right)?;
-    append_tree(out, &whole)?;
-    out.either(whole.same(&joined(right, left)?), b" both ways", b"")
+    append_tree(out, &whole);
+    let is_same = whole.same(&joined(right, left)?);
+    out.either(is_same, b" both ways", b"");
+    Ok(())
 }

@@ -9,8 +9,14 @@ use worked_lines::{Answer, LineFault, Words, byte_of, cut_at, is, match_word, ve
 pub fn answer(words: &mut Words, out: &mut Answer) -> Result<(), LineFault> {
     match_word!(words.word()?;
         b"join" => append_compared(out, &versioned(words.word()?)?, &versioned(words.word()?)?),
-        b"bottom" => out.either(versioned(words.word()?)?.is_bottom(), b"yes", b"no"),
-        b"copy_key" => out.print(&TryClone::try_clone(&byte_of(words.word()?)?)?),
+        b"bottom" => {
+            out.either(versioned(words.word()?)?.is_bottom(), b"yes", b"no");
+            Ok(())
+        },
+        b"copy_key" => {
+            out.print(&TryClone::try_clone(&byte_of(words.word()?)?)?);
+            Ok(())
+        },
     )
 }
 
@@ -38,21 +44,22 @@ fn append_compared(
     left: &Versioned<u8>,
     right: &Versioned<u8>,
 ) -> Result<(), LineFault> {
-    append_value(out, &joined(left, right)?)?;
+    append_value(out, &joined(left, right)?);
     out.write(match left.rank(right) {
         Ordering::Less => b" less",
         Ordering::Equal => b" equal",
         Ordering::Greater => b" greater",
-    })?;
-    out.either(left.same(right), b" same", b"")
+    });
+    out.either(left.same(right), b" same", b"");
+    Ok(())
 }
 
 /// Writes a value.
-pub fn append_value(out: &mut Answer, value: &Versioned<u8>) -> Result<(), LineFault> {
+pub fn append_value(out: &mut Answer, value: &Versioned<u8>) {
     let Some(entry) = value.entry() else {
         return out.write(b"never");
     };
-    append_version(out, entry.version)?;
-    out.write(b"=")?;
-    out.print(&entry.content)
+    append_version(out, entry.version);
+    out.write(b"=");
+    out.print(&entry.content);
 }

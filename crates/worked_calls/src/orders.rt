@@ -1,6 +1,6 @@
 //! How values are ordered.
 use std::cmp::Ordering;
-use worked_lines::{Answer, LineFault};
+use worked_lines::Answer;
 
 // How one value compares to another, by all tests that there are.
 fn sign<T: Ord>(low: &T, high: &T) -> u8 {
@@ -13,18 +13,16 @@ fn sign<T: Ord>(low: &T, high: &T) -> u8 {
 }
 
 // Writes how a value compares to each of these.
-fn append_row<T: Ord>(out: &mut Answer, low: &T, values: &[T]) -> Result<(), LineFault> {
+fn append_row<T: Ord>(out: &mut Answer, low: &T, values: &[T]) {
     for high in values {
-        out.write(&[sign(low, high)])?;
+        out.write(&[sign(low, high)]);
     }
-    Ok(())
 }
 
 /// Writes a word of `<`, `=` and `>` for each value: how it compares to each of them.
-pub fn append_signs<T: Ord>(out: &mut Answer, values: &[T]) -> Result<(), LineFault> {
+pub fn append_signs<T: Ord>(out: &mut Answer, values: &[T]) {
     for low in values {
-        out.part(b" ")?;
-        append_row(out, low, values)?;
+        out.part(b" ");
+        append_row(out, low, values);
     }
-    Ok(())
 }

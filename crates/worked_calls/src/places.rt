@@ -10,9 +10,15 @@ pub fn answer(words: &mut Words, out: &mut Answer) -> Result<(), LineFault> {
     let call = words.word()?;
     match_word!(call;
         b"host" => host(words, out),
-        b"hosts" => append_signs(out, &each_of(words.alloc, &words.list()?, host_of)?),
+        b"hosts" => {
+            append_signs(out, &each_of(words.alloc, &words.list()?, host_of)?);
+            Ok(())
+        },
         b"parse" => parse(words, out),
-        b"order" => append_signs(out, &each_of(words.alloc, &words.list()?, full_of::<Place>)?),
+        b"order" => {
+            append_signs(out, &each_of(words.alloc, &words.list()?, full_of::<Place>)?);
+            Ok(())
+        },
         _ => of_place(call, &full_of(words.alloc, words.word()?)?, out),
     )
 }
@@ -20,8 +26,11 @@ pub fn answer(words: &mut Words, out: &mut Answer) -> Result<(), LineFault> {
 // The answer to a call on one place.
 fn of_place(call: &[u8], place: &Place, out: &mut Answer) -> Result<(), LineFault> {
     match_word!(call;
-        b"text" => append_text(out, place),
-        b"clone" => append_clone(out, place),
+        b"text" => {
+            append_text(out, place);
+            Ok(())
+        },
+        b"clone" => append_copy(out, &place.try_clone()?, place),
     )
 }
 
@@ -29,9 +38,10 @@ fn of_place(call: &[u8], place: &Place, out: &mut Answer) -> Result<(), LineFaul
 fn host(words: &mut Words, out: &mut Answer) -> Result<(), LineFault> {
     match HostName::parse(words.alloc, &words.text()?) {
         Ok(host) => out.write(host.try_clone()?.bytes()),
-        Err(HostFault::Memory) => Err(LineFault::Memory(AllocError)),
+        Err(HostFault::Memory) => return Err(LineFault::Memory(AllocError)),
         Err(fault) => out.print(&fault),
     }
+    Ok(())
 }
 
 // The host that a word spells.
@@ -43,15 +53,16 @@ fn host_of(alloc: Global, word: &[u8]) -> Result<HostName, LineFault> {
 fn parse(words: &mut Words, out: &mut Answer) -> Result<(), LineFault> {
     match Place::parse(words.alloc, &words.text()?) {
         Ok(place) => out.write_place(&place),
-        Err(PlaceFault::Memory) => Err(LineFault::Memory(AllocError)),
+        Err(PlaceFault::Memory) => return Err(LineFault::Memory(AllocError)),
         Err(fault) => out.print(&fault),
     }
+    Ok(())
 }
 
 // Writes a clone of a place, and whether it and its scope are the same.
-fn append_clone(out: &mut Answer, place: &Place) -> Result<(), LineFault> {
-    let copy = place.try_clone()?;
-    out.write_place(&copy)?;
-    out.either(copy == *place, b" same", b" other")?;
-    out.either(copy.scope.try_clone()? == place.scope, b" same", b" other")
+fn append_copy(out: &mut Answer, copy: &Place, place: &Place) -> Result<(), LineFault> {
+    out.write_place(copy);
+    out.either(*copy == *place, b" same", b" other");
+    out.either(copy.scope.try_clone()? == place.scope, b" same", b" other");
+    Ok(())
 }

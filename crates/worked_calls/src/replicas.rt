@@ -1,7 +1,7 @@
 //! Calls on replicas.
 use crate::edits::{append_store, append_version};
 use crate::stores::append_changed;
-use replica_store::{EditFault, Replica, Version};
+use replica_store::{Content, EditFault, Place, Replica, Store, Version};
 use std::alloc::AllocError;
 use worked_lines::{Answer, LineFault, Words, match_word, placed_of};
 
@@ -31,7 +31,7 @@ pub fn replica(writer: u32, words: &mut Words) -> Result<Replica, LineFault> {
 fn append_whole(out: &mut Answer, replica: Replica) -> Result<(), LineFault> {
     let writer = replica.writer();
     let high = replica.high();
-    out.write(format!(in out.alloc; "writer {writer}, high {high}:")?.as_bytes())?;
+    out.write_made(format!(in out.alloc; "writer {writer}, high {high}:"));
     append_store(out, &replica.into_store())
 }
 
@@ -43,12 +43,15 @@ fn append_edited(
 ) -> Result<(), LineFault> {
     match version {
         Ok(version) => {
-            append_version(out, version)?;
-            out.write(b":")?;
+            append_version(out, version);
+            out.write(b":");
             append_store(out, replica.store())
         }
         Err(EditFault::Memory) => Err(LineFault::Memory(AllocError)),
-        Err(fault) => out.print(&fault),
+        Err(fault) => {
+            out.print(&fault);
+            Ok(())
+        }
     }
 }
 
@@ -61,13 +64,33 @@ pub fn put(
     between: &mut Answer,
 ) -> Result<(), LineFault> {
     let (place, content) = placed_of(words.alloc, words.word()?)?;
-    let mut replica = replica(writer, words)?;
-    let mut version = replica.put(place.try_clone()?, content.try_clone()?);
+    append_put(&mut replica(writer, words)?, &place, &content, out, between)
+}
+
+// Writes a replica that puts a content at a path.
+fn append_put(
+    replica: &mut Replica,
+    place: &Place,
+    content: &Content,
+    out: &mut Answer,
+    between: &mut Answer,
+) -> Result<(), LineFault> {
+    let mut version = put_copy(replica, place, content)?;
     if let Err(EditFault::Memory) = version {
         append_store(between, replica.store())?;
-        version = replica.put(place, content);
+        version = put_copy(replica, place, content)?;
     }
-    append_edited(out, version, &replica)
+    append_edited(out, version, replica)
+}
+
+// The version of an edit that puts a copy of a content at a path, or why the edit was refused.
+fn put_copy(
+    replica: &mut Replica,
+    place: &Place,
+    content: &Content,
+) -> Result<Result<Version, EditFault>, AllocError> {
+    let place = place.try_clone()?;
+    Ok(replica.put(place, content.try_clone()?))
 }
 
 /// A replica that removes what is visible at a place, twice if memory runs out the first time; then what it holds
@@ -79,25 +102,44 @@ pub fn removed(
     between: &mut Answer,
 ) -> Result<(), LineFault> {
     let place = words.place()?;
-    let mut replica = replica(writer, words)?;
+    append_removed(&mut replica(writer, words)?, &place, out, between)
+}
+
+// Writes a replica that removes what is visible at a place.
+fn append_removed(
+    replica: &mut Replica,
+    place: &Place,
+    out: &mut Answer,
+    between: &mut Answer,
+) -> Result<(), LineFault> {
     let mut version = replica.remove(place.try_clone()?);
     if let Err(EditFault::Memory) = version {
         append_store(between, replica.store())?;
-        version = replica.remove(place);
+        version = replica.remove(place.try_clone()?);
     }
-    append_edited(out, version, &replica)
+    append_edited(out, version, replica)
 }
 
 // A replica that a store is merged into.
 fn merged(writer: u32, words: &mut Words, out: &mut Answer) -> Result<(), LineFault> {
     let mut replica = replica(writer, words)?;
-    let count = replica.merge(&words.store()?)?;
+    append_merged(out, &mut replica, &words.store()?)
+}
+
+// Merges a store into a replica, and writes what changed.
+fn append_merged(out: &mut Answer, replica: &mut Replica, other: &Store) -> Result<(), LineFault> {
+    let count = replica.merge(other)?;
     append_changed(out, count, replica.store())
 }
 
 // A replica that absorbs a store.
 fn absorbed(writer: u32, words: &mut Words, out: &mut Answer) -> Result<(), LineFault> {
     let mut replica = replica(writer, words)?;
-    let count = replica.absorb(words.store()?)?;
+    append_absorbed(out, &mut replica, words.store()?)
+}
+
+// Lets a replica absorb a store, and writes what changed.
+fn append_absorbed(out: &mut Answer, replica: &mut Replica, other: Store) -> Result<(), LineFault> {
+    let count = replica.absorb(other)?;
     append_changed(out, count, replica.store())
 }

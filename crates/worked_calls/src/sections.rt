@@ -20,9 +20,15 @@ pub fn answer(words: &mut Words, out: &mut Answer) -> Result<(), LineFault> {
 // The answer to a call on one file.
 fn returned(call: &[u8], sections: &Sections, out: &mut Answer) -> Result<(), LineFault> {
     match_word!(call;
-        b"read" => append_sections(out, sections),
-        b"codes" => append_codes(out, sections),
-        b"clone" => append_clone(out, sections),
+        b"read" => {
+            append_sections(out, sections);
+            Ok(())
+        },
+        b"codes" => {
+            append_codes(out, sections);
+            Ok(())
+        },
+        b"clone" => append_copy(out, &sections.try_clone()?, sections),
     )
 }
 
@@ -37,41 +43,40 @@ fn read_next(words: &mut Words) -> Result<Sections, LineFault> {
 }
 
 // Writes an assignment.
-fn append_item(out: &mut Answer, item: &Assignment) -> Result<(), LineFault> {
-    out.part(b" ")?;
-    out.print(&item.line)?;
+fn append_item(out: &mut Answer, item: &Assignment) {
+    out.part(b" ");
+    out.print(&item.line);
     out.spell_quoted(&[
         (b':', item.section.as_slice()),
         (b'.', item.key.as_slice()),
         (b'=', item.value.as_slice()),
-    ])
+    ]);
 }
 
 // Writes a note on a line.
-fn append_note<T: Display>(out: &mut Answer, line: usize, noted: &T) -> Result<(), LineFault> {
-    out.part(b" ")?;
-    out.print(&line)?;
-    out.write(b":")?;
-    out.print(noted)
+fn append_note<T: Display>(out: &mut Answer, line: usize, noted: &T) {
+    out.part(b" ");
+    out.print(&line);
+    out.write(b":");
+    out.print(noted);
 }
 
 // Writes the sections of a file: its assignments, and then its notes.
-fn append_sections(out: &mut Answer, sections: &Sections) -> Result<(), LineFault> {
+fn append_sections(out: &mut Answer, sections: &Sections) {
     for item in sections.items.as_slice() {
-        append_item(out, item)?;
+        append_item(out, item);
     }
     for note in sections.notes.as_slice() {
-        append_note(out, note.line, &note.kind)?;
+        append_note(out, note.line, &note.kind);
     }
-    out.or(b"nothing")
+    out.or(b"nothing");
 }
 
 // Writes the codes of a file's notes.
-fn append_codes(out: &mut Answer, sections: &Sections) -> Result<(), LineFault> {
+fn append_codes(out: &mut Answer, sections: &Sections) {
     for note in sections.notes.as_slice() {
-        append_note(out, note.line, &note.kind.code())?;
+        append_note(out, note.line, &note.kind.code());
     }
-    Ok(())
 }
 
 // A file with one value.
@@ -94,7 +99,8 @@ fn long(words: &mut Words, out: &mut Answer) -> Result<(), LineFault> {
     let count = words.index()?;
     let value = vec![in words.alloc; b'v'; count]?;
     let sections = read(words.alloc, &file_with(words.alloc, &value)?)?;
-    out.either(is_read(&sections, &value), b"same", b"other")
+    out.either(is_read(&sections, &value), b"same", b"other");
+    Ok(())
 }
 
 // Whether clones of all assignments are the same as the assignments.
@@ -107,30 +113,26 @@ fn are_items_same(sections: &Sections) -> Result<bool, AllocError> {
 }
 
 // Writes whether the whole, the assignments and the notes are the same.
-fn append_verdict(
-    out: &mut Answer,
-    is_same: bool,
-    are_items_same: bool,
-    are_notes_same: bool,
-) -> Result<(), LineFault> {
-    out.either(is_same, b"all same", b"all other")?;
-    out.either(are_items_same, b" items same", b" items other")?;
-    out.either(are_notes_same, b" notes same", b" notes other")
+fn append_verdict(out: &mut Answer, is_same: bool, are_items_same: bool, are_notes_same: bool) {
+    out.either(is_same, b"all same", b"all other");
+    out.either(are_items_same, b" items same", b" items other");
+    out.either(are_notes_same, b" notes same", b" notes other");
 }
 
 // Writes a clone of a file's sections, and whether it and clones of its parts are the same.
-fn append_clone(out: &mut Answer, sections: &Sections) -> Result<(), LineFault> {
-    let copy = sections.try_clone()?;
+fn append_copy(out: &mut Answer, copy: &Sections, sections: &Sections) -> Result<(), LineFault> {
     let are_items = are_items_same(sections)?;
     let are_notes = sections.notes.try_clone()? == sections.notes;
-    append_sections(out, &copy)?;
-    out.write(b" ")?;
-    append_verdict(out, copy == *sections, are_items, are_notes)
+    append_sections(out, copy);
+    out.write(b" ");
+    append_verdict(out, *copy == *sections, are_items, are_notes);
+    Ok(())
 }
 
 // Whether two files have the same sections, and whether their parts are the same.
 fn compare(words: &mut Words, out: &mut Answer) -> Result<(), LineFault> {
     let x = read_next(words)?;
     let y = read_next(words)?;
-    append_verdict(out, x == y, x.items == y.items, x.notes == y.notes)
+    append_verdict(out, x == y, x.items == y.items, x.notes == y.notes);
+    Ok(())
 }

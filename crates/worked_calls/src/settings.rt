@@ -17,16 +17,25 @@ use worked_lines::{Answer, LineFault, Words, match_word};
 pub fn answer(words: &mut Words, out: &mut Answer) -> Result<(), LineFault> {
     let call = words.word()?;
     match_word!(call;
-        b"kinds" => append_kinds(out),
-        b"key" => append_kind_of(out, &words.text()?),
+        b"kinds" => {
+            append_kinds(out);
+            Ok(())
+        },
+        b"key" => {
+            append_kind_of(out, &words.text()?);
+            Ok(())
+        },
         b"for" => returned_name(words, out),
-        b"apply" | b"manual" => of_files(call, &settings(words)?, out),
+        b"apply" | b"manual" => {
+            of_files(call, &settings(words)?, out);
+            Ok(())
+        },
         _ => returned(call, words, out),
     )
 }
 
 // The answer to a call on files alone.
-fn of_files(call: &[u8], settings: &Settings, out: &mut Answer) -> Result<(), LineFault> {
+fn of_files(call: &[u8], settings: &Settings, out: &mut Answer) {
     match_word!(call;
         b"apply" => append_settings(out, settings),
         _ => out.either(refuses_manual_start(settings), b"refused", b"allowed"),
@@ -47,8 +56,14 @@ fn of_unit(
     out: &mut Answer,
 ) -> Result<(), LineFault> {
     match_word!(call;
-        b"values" => append_values(out, &values(out.alloc, settings, unit)?),
-        b"dependencies" => append_dependencies(out, &dependencies(out.alloc, settings, unit)?),
+        b"values" => {
+            append_values(out, &values(out.alloc, settings, unit)?);
+            Ok(())
+        },
+        b"dependencies" => {
+            append_dependencies(out, &dependencies(out.alloc, settings, unit)?);
+            Ok(())
+        },
     )
 }
 
@@ -68,82 +83,75 @@ fn settings(words: &mut Words) -> Result<Settings, LineFault> {
 }
 
 // Writes a key of a section, after a space unless nothing is written yet.
-fn append_key(out: &mut Answer, section: &Bytes, key: &Bytes) -> Result<(), LineFault> {
-    out.part(b" ")?;
-    out.spell(section.as_slice())?;
-    out.spell_quoted(&[(b'.', key.as_slice())])
+fn append_key(out: &mut Answer, section: &Bytes, key: &Bytes) {
+    out.part(b" ");
+    out.spell(section.as_slice());
+    out.spell_quoted(&[(b'.', key.as_slice())]);
 }
 
 // Writes notes, or `nothing` if nothing is written at all.
-fn append_notes(out: &mut Answer, notes: &[SettingNote]) -> Result<(), LineFault> {
+fn append_notes(out: &mut Answer, notes: &[SettingNote]) {
     for note in notes {
-        out.part(b" ")?;
-        out.print(&note.kind)?;
-        append_key(out, &note.section, &note.key)?;
+        out.part(b" ");
+        out.print(&note.kind);
+        append_key(out, &note.section, &note.key);
     }
-    out.or(b"nothing")
+    out.or(b"nothing");
 }
 
 // Writes a key with its values.
-fn append_entry(
-    out: &mut Answer,
-    section: &Bytes,
-    key: &Bytes,
-    texts: &[Bytes],
-) -> Result<(), LineFault> {
-    append_key(out, section, key)?;
-    out.write(b"=")?;
+fn append_entry(out: &mut Answer, section: &Bytes, key: &Bytes, texts: &[Bytes]) {
+    append_key(out, section, key);
+    out.write(b"=");
     for text in texts {
-        out.spell(text.as_slice())?;
-        out.write(b",")?;
+        out.spell(text.as_slice());
+        out.write(b",");
     }
-    Ok(())
 }
 
 // Writes each key with its values, and the notes.
-fn append_settings(out: &mut Answer, settings: &Settings) -> Result<(), LineFault> {
+fn append_settings(out: &mut Answer, settings: &Settings) {
     for place in 0..settings.map.len() {
         let (key, texts) = settings.map.entry(place);
-        append_entry(out, &key.section, &key.key, texts)?;
+        append_entry(out, &key.section, &key.key, texts);
     }
-    append_notes(out, settings.notes.as_slice())
+    append_notes(out, settings.notes.as_slice());
 }
 
 // Writes rows, and the notes.
-fn append_values(out: &mut Answer, values: &Values) -> Result<(), LineFault> {
+fn append_values(out: &mut Answer, values: &Values) {
     for row in values.rows.as_slice() {
-        append_key(out, &row.section, &row.key)?;
-        out.spell_quoted(&[(b'=', row.value.as_slice())])?;
+        append_key(out, &row.section, &row.key);
+        out.spell_quoted(&[(b'=', row.value.as_slice())]);
     }
-    append_notes(out, values.notes.as_slice())
+    append_notes(out, values.notes.as_slice());
 }
 
 // Writes the lists of dependencies that aren't empty, and the notes.
-fn append_dependencies(out: &mut Answer, all: &Dependencies) -> Result<(), LineFault> {
+fn append_dependencies(out: &mut Answer, all: &Dependencies) {
     for list in all.lists.as_slice() {
         if !list.names.as_slice().is_empty() {
-            out.part(b" ")?;
-            out.write(list.kind.word().as_bytes())?;
-            out.write(b":")?;
-            append_names(out, list.names.as_slice())?;
+            out.part(b" ");
+            out.write(list.kind.word().as_bytes());
+            out.write(b":");
+            append_names(out, list.names.as_slice());
         }
     }
-    append_notes(out, all.notes.as_slice())
+    append_notes(out, all.notes.as_slice());
 }
 
 // Writes all kinds, each with its inverse.
-fn append_kinds(out: &mut Answer) -> Result<(), LineFault> {
+fn append_kinds(out: &mut Answer) {
     for kind in DepKind::all() {
-        out.part(b" ")?;
-        out.write(kind.word().as_bytes())?;
-        out.write(b"/")?;
-        out.write(kind.inverse().word().as_bytes())?;
+        out.part(b" ");
+        out.write(kind.word().as_bytes());
+        out.write(b"/");
+        out.write(kind.inverse().word().as_bytes());
     }
-    Ok(())
 }
 
 // Writes the kind that a key sets.
-fn append_kind_of(out: &mut Answer, key: &[u8]) -> Result<(), LineFault> {
+fn append_kind_of(out: &mut Answer, key: &[u8]) {
     match DepKind::of_key(key) {
         Some(kind) => out.write(kind.word().as_bytes()),
         None => out.write(b"none"),
@@ -153,6 +161,12 @@ fn append_kind_of(out: &mut Answer, key: &[u8]) -> Result<(), LineFault> {
 // The unit that a unit means by a name.
 fn returned_name(words: &mut Words, out: &mut Answer) -> Result<(), LineFault> {
     let unit = words.name()?;
-    let name = words.name()?;
-    out.spell_name(for_unit(&unit, name)?)
+    append_name_for(out, &unit, words.name()?)
+}
+
+// Writes the unit that a unit means by a name.
+fn append_name_for(out: &mut Answer, unit: &UnitName, name: UnitName) -> Result<(), LineFault> {
+    let meant = for_unit(unit, name)?;
+    out.spell_name(meant.as_ref());
+    Ok(())
 }

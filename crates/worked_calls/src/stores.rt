@@ -4,7 +4,7 @@
 use crate::edits::{
     append_all_viewed, append_content, append_places, append_store, append_version, append_viewed,
 };
-use replica_store::{Content, Entry, HostName, HostView, HostViewEntry, Store};
+use replica_store::{Content, Edit, Entry, HostName, HostView, HostViewEntry, Place, Store};
 use worked_lines::{Answer, LineFault, Words, asked_of, byte_of, cut_at, edit_of, match_word};
 
 /// Writes the answer to a call on stores.
@@ -34,54 +34,86 @@ fn returned(
     match_word!(call;
         b"of" => append_store(out, first),
         b"copy" => append_store(out, &first.try_clone()?),
-        b"same" => out.either(first.same(&words.store()?), b"yes", b"no"),
-        b"changed" => append_places(out, &first.changed(&words.store()?)?),
-        b"high" => out.print(&first.high()),
-        b"len" => append_sizes(out, first),
-        b"list" => append_places(out, &first.list()?),
+        b"same" => {
+            out.either(first.same(&words.store()?), b"yes", b"no");
+            Ok(())
+        },
+        b"changed" => append_differing(out, first, &words.store()?),
+        b"high" => {
+            out.print(&first.high());
+            Ok(())
+        },
+        b"len" => {
+            append_sizes(out, first);
+            Ok(())
+        },
+        b"list" => {
+            append_places(out, &first.list()?);
+            Ok(())
+        },
     )
+}
+
+// Writes the places at which two stores differ.
+fn append_differing(out: &mut Answer, first: &Store, second: &Store) -> Result<(), LineFault> {
+    append_places(out, &first.changed(second)?);
+    Ok(())
 }
 
 // A store that one edit is joined to.
 fn joined(words: &mut Words, out: &mut Answer) -> Result<(), LineFault> {
     let edit = edit_of(words.alloc, words.word()?)?;
-    let mut store = words.store()?;
+    append_with(out, &mut words.store()?, edit)
+}
+
+// Joins an edit to a store, and writes the store.
+fn append_with(out: &mut Answer, store: &mut Store, edit: Edit) -> Result<(), LineFault> {
     store.join_edit(edit)?;
-    append_store(out, &store)
+    append_store(out, store)
 }
 
 /// Writes how many paths changed, and what a store then holds, with its greatest counter.
 pub fn append_changed(out: &mut Answer, count: u64, store: &Store) -> Result<(), LineFault> {
-    out.print(&count)?;
-    out.write(b" changed, high ")?;
-    out.print(&store.high())?;
-    out.write(b":")?;
+    out.print(&count);
+    out.write(b" changed, high ");
+    out.print(&store.high());
+    out.write(b":");
     append_store(out, store)
 }
 
 // A store that another is merged into.
 fn merged(words: &mut Words, out: &mut Answer) -> Result<(), LineFault> {
     let mut first = words.store()?;
-    let count = first.merge(&words.store()?)?;
-    append_changed(out, count, &first)
+    append_merged(out, &mut first, &words.store()?)
+}
+
+// Merges a store into another, and writes what changed.
+fn append_merged(out: &mut Answer, first: &mut Store, second: &Store) -> Result<(), LineFault> {
+    let count = first.merge(second)?;
+    append_changed(out, count, first)
 }
 
 // A store that absorbs another.
 fn absorbed(words: &mut Words, out: &mut Answer) -> Result<(), LineFault> {
     let mut first = words.store()?;
-    let count = first.absorb(words.store()?)?;
-    append_changed(out, count, &first)
+    append_absorbed(out, &mut first, words.store()?)
+}
+
+// Lets a store absorb another, and writes what changed.
+fn append_absorbed(out: &mut Answer, first: &mut Store, second: Store) -> Result<(), LineFault> {
+    let count = first.absorb(second)?;
+    append_changed(out, count, first)
 }
 
 // Writes how many places a store holds, and in how many scopes they are.
-fn append_sizes(out: &mut Answer, store: &Store) -> Result<(), LineFault> {
-    out.print(&store.len())?;
-    out.write(b" in ")?;
-    out.print(&store.maps().len())
+fn append_sizes(out: &mut Answer, store: &Store) {
+    out.print(&store.len());
+    out.write(b" in ");
+    out.print(&store.maps().len());
 }
 
 // Writes a content, or that there is none.
-fn append_visible(out: &mut Answer, content: Option<&Content>) -> Result<(), LineFault> {
+fn append_visible(out: &mut Answer, content: Option<&Content>) {
     match content {
         Some(content) => append_content(out, content),
         None => out.write(b"nothing"),
@@ -89,21 +121,26 @@ fn append_visible(out: &mut Answer, content: Option<&Content>) -> Result<(), Lin
 }
 
 // Writes a version and a content, or that there are none.
-fn append_entry(out: &mut Answer, entry: Option<&Entry>) -> Result<(), LineFault> {
+fn append_entry(out: &mut Answer, entry: Option<&Entry>) {
     let Some(entry) = entry else {
         return out.write(b"nothing");
     };
-    append_version(out, entry.version)?;
-    append_content(out, &entry.content)
+    append_version(out, entry.version);
+    append_content(out, &entry.content);
 }
 
 // What a store holds at a place, or what is visible there.
 fn at_place(call: &[u8], words: &mut Words, out: &mut Answer) -> Result<(), LineFault> {
     let place = words.place()?;
-    let store = words.store()?;
+    append_at(call, out, &words.store()?, &place);
+    Ok(())
+}
+
+// Writes what a store holds at a place, or what is visible there.
+fn append_at(call: &[u8], out: &mut Answer, store: &Store, place: &Place) {
     match_word!(call;
-        b"visible" => append_visible(out, store.visible(&place)),
-        _ => append_entry(out, store.get(&place)),
+        b"visible" => append_visible(out, store.visible(place)),
+        _ => append_entry(out, store.get(place)),
     )
 }
 
@@ -125,7 +162,8 @@ fn viewed_at(
 ) -> Result<(), LineFault> {
     let place = words.place()?;
     let store = words.store()?;
-    append_visible(out, store.host_view(host).visible(&place))
+    append_visible(out, store.host_view(host).visible(&place));
+    Ok(())
 }
 
 // The level that a word writes.
@@ -145,8 +183,17 @@ fn in_folder(
     let level = level_of(words.word()?)?;
     let folder = words.text()?;
     let store = words.store()?;
-    let view = store.host_view(host);
-    append_all_viewed(out, &view, view.entries_in(level, &folder))
+    append_seen(out, &store.host_view(host), level, &folder)
+}
+
+// Writes the entries that are seen in a folder of a level.
+fn append_seen(
+    out: &mut Answer,
+    view: &HostView,
+    level: u8,
+    folder: &[u8],
+) -> Result<(), LineFault> {
+    append_all_viewed(out, view, view.entries_in(level, folder))
 }
 
 // The places of a folder of a scope.
@@ -154,7 +201,8 @@ fn of_folder(words: &mut Words, out: &mut Answer) -> Result<(), LineFault> {
     let scope = words.scope()?;
     let rank = byte_of(words.word()?)?;
     let folder = words.text()?;
-    append_places(out, &words.store()?.folder(&scope, rank, &folder)?)
+    append_places(out, &words.store()?.folder(&scope, rank, &folder)?);
+    Ok(())
 }
 
 // What is seen at the path of these parts.
@@ -174,8 +222,9 @@ fn append_held(
     held: Option<HostViewEntry>,
 ) -> Result<(), LineFault> {
     let Some(placed) = held else {
-        return out.write(b"nothing");
+        out.write(b"nothing");
+        return Ok(());
     };
-    out.write(placed.name().as_slice())?;
+    out.write(placed.name().as_slice());
     append_viewed(out, view, &placed)
 }

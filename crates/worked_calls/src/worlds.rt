@@ -31,7 +31,7 @@ fn exchanged(words: &mut Words, out: &mut Answer) -> Result<(), LineFault> {
 // Exchanges, and writes how many paths changed in each of two replicas, and then both.
 fn append_exchange(out: &mut Answer, a: &mut Replica, b: &mut Replica) -> Result<(), LineFault> {
     let (first, second) = exchange(a, b)?;
-    out.write(format!(in out.alloc; "{first} and {second} changed; ")?.as_bytes())?;
+    out.write_made(format!(in out.alloc; "{first} and {second} changed; "));
     append_both(out, a, b)
 }
 
@@ -56,15 +56,15 @@ pub fn swept(words: &mut Words, out: &mut Answer, between: &mut Answer) -> Resul
 
 // Writes what a replica holds, after its writer.
 fn append_replica(out: &mut Answer, replica: &Replica) -> Result<(), LineFault> {
-    out.print(&replica.writer())?;
-    out.write(b" has")?;
+    out.print(&replica.writer());
+    out.write(b" has");
     append_store(out, replica.store())
 }
 
 /// Writes two replicas.
 pub fn append_both(out: &mut Answer, a: &Replica, b: &Replica) -> Result<(), LineFault> {
     append_replica(out, a)?;
-    out.write(b" | ")?;
+    out.write(b" | ");
     append_replica(out, b)
 }
 
@@ -72,7 +72,7 @@ pub fn append_both(out: &mut Answer, a: &Replica, b: &Replica) -> Result<(), Lin
 fn append_replicas(out: &mut Answer, replicas: &[Replica]) -> Result<(), LineFault> {
     let mut is_first = true;
     for replica in replicas {
-        out.either(is_first, b"", b" | ")?;
+        out.either(is_first, b"", b" | ");
         is_first = false;
         append_replica(out, replica)?;
     }
@@ -81,21 +81,30 @@ fn append_replicas(out: &mut Answer, replicas: &[Replica]) -> Result<(), LineFau
 
 // The world of the writers in the next word, after the events of the following words.
 fn run(words: &mut Words, out: &mut Answer) -> Result<(), LineFault> {
+    let writers = writers(words)?;
+    append_run(out, &writers, &each_of(words.alloc, &words.list()?, event)?)
+}
+
+// The writers in the next word.
+fn writers(words: &mut Words) -> Result<Vec<u32>, LineFault> {
     let parts = parts_of(words.alloc, words.word()?)?;
-    let writers = each_of(words.alloc, &parts, |_, part| writer_of(part))?;
-    let events = each_of(words.alloc, &words.list()?, event)?;
-    append_world(out, &run_world(words.alloc, &writers, &events)?)
+    each_of(words.alloc, &parts, |_, part| writer_of(part))
+}
+
+// Writes the world of these writers after these events.
+fn append_run(out: &mut Answer, writers: &[u32], events: &[Event]) -> Result<(), LineFault> {
+    append_world(out, &run_world(out.alloc, writers, events)?)
 }
 
 // Writes how many asks there are, how many paths each piece carries, and what each replica holds.
 fn append_world(out: &mut Answer, world: &World) -> Result<(), LineFault> {
     let asks = world.asks.len();
-    out.write(format!(in out.alloc; "asks {asks}; pieces")?.as_bytes())?;
+    out.write_made(format!(in out.alloc; "asks {asks}; pieces"));
     for piece in &world.pieces {
-        out.write(b" ")?;
-        out.print(&piece.len())?;
+        out.write(b" ");
+        out.print(&piece.len());
     }
-    out.write(b"; ")?;
+    out.write(b"; ");
     append_replicas(out, &world.replicas)
 }
 

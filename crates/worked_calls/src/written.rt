@@ -1,7 +1,7 @@
 //! Paths and places, written in full.
 use load_path::Path;
 use replica_store::Place;
-use std::alloc::{AllocError, Global};
+use std::alloc::Global;
 use worked_lines::{Answer, LineFault, text_of};
 
 /// A value that a text writes in full.
@@ -9,8 +9,8 @@ pub trait Written: Sized + Drop {
     /// Returns the value that this text writes.
     fn read(alloc: Global, text: &[u8]) -> Result<Self, LineFault>;
 
-    /// Appends its text.
-    fn write_to(&self, out: &mut Vec<u8>) -> Result<(), AllocError>;
+    /// Writes its text.
+    fn write_to(&self, out: &mut Answer);
 }
 
 impl Written for Path {
@@ -18,8 +18,8 @@ impl Written for Path {
         Ok(Path::parse(alloc, text)?)
     }
 
-    fn write_to(&self, out: &mut Vec<u8>) -> Result<(), AllocError> {
-        self.append_to(out)
+    fn write_to(&self, out: &mut Answer) {
+        out.path_in_full(self);
     }
 }
 
@@ -28,8 +28,8 @@ impl Written for Place {
         Ok(Place::parse(alloc, text)?)
     }
 
-    fn write_to(&self, out: &mut Vec<u8>) -> Result<(), AllocError> {
-        self.append_to(out)
+    fn write_to(&self, out: &mut Answer) {
+        out.place_in_full(self);
     }
 }
 
@@ -39,7 +39,7 @@ pub fn full_of<T: Written>(alloc: Global, word: &[u8]) -> Result<T, LineFault> {
 }
 
 /// Writes a value's text in full, after `> `.
-pub fn append_text<T: Written>(out: &mut Answer, it: &T) -> Result<(), LineFault> {
-    out.write(b"> ")?;
-    Ok(it.write_to(&mut out.bytes)?)
+pub fn append_text<T: Written>(out: &mut Answer, it: &T) {
+    out.write(b"> ");
+    it.write_to(out);
 }

@@ -1,6 +1,5 @@
 //! A gate at which two workers wait for each other, and one that counts how often it is asked.
 use crate::answers::Answer;
-use crate::faults::LineFault;
 use std::alloc::{AllocError, Global};
 use std::sync::atomic::{AtomicBool, AtomicUsize, Ordering};
 use std::thread;
@@ -76,14 +75,13 @@ impl CountingGate {
     }
 
     /// Writes each number that the gate was asked for, with its count, in ascending order.
-    pub fn append_to(&self, out: &mut Answer) -> Result<(), LineFault> {
+    pub fn append_to(&self, out: &mut Answer) {
         for (number, count) in self.asked.iter().enumerate() {
             let often = count.load(Ordering::SeqCst);
             if often > 0 {
-                out.write(format!(in out.alloc; " {number}:{often}")?.as_bytes())?;
+                out.write_made(format!(in out.alloc; " {number}:{often}"));
             }
         }
-        Ok(())
     }
 }
 

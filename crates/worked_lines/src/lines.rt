@@ -21,7 +21,7 @@ fn answer_line<F: Fn(&mut Words, &mut Answer) -> Result<(), LineFault>>(
     let mut out = Answer::new(alloc);
     answer(&mut words, &mut out)?;
     words.end()?;
-    Ok(out.bytes)
+    out.finish()
 }
 
 // Writes the answer to a line, or why it has none.

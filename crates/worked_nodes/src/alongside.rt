@@ -117,25 +117,18 @@ fn lent<N: NodeName>(
     Some((holder, writer, bench.lend(third)?))
 }
 
-/// One seat holds a view, so that another seat's edits wait for it under the lock. A third seat views meanwhile.
-pub fn alongside<N: NodeName + Send + Sync, R: Threads + Wait + Clock + Sync>(
+// The three seats with these numbers hold a view, edit and view.
+fn alongside_at<N: NodeName + Send + Sync, R: Threads + Wait + Clock + Sync>(
     rt: &R,
+    alloc: Global,
     node: &Node<N>,
     bench: &mut Bench<N>,
-    words: &mut Words,
-) -> Result<(), LineFault> {
-    let (first, second, third) = (words.index()?, words.index()?, words.index()?);
+    (first, second, third): (usize, usize, usize),
+) {
     let Some((holder, writer, viewer)) = lent(bench, first, second, third) else {
         return bench.write("no seat");
     };
-    let (holder, writer, viewer, is_fine) = work_alongside(
-        rt,
-        words.alloc,
-        node,
-        holder,
-        writer,
-        viewer,
-    );
+    let (holder, writer, viewer, is_fine) = work_alongside(rt, alloc, node, holder, writer, viewer);
     bench.put_back(first, holder);
     bench.put_back(second, writer);
     bench.put_back(third, viewer);
@@ -143,5 +136,17 @@ pub fn alongside<N: NodeName + Send + Sync, R: Threads + Wait + Clock + Sync>(
         "views were answered while a publish waited"
     } else {
         "no views were answered while a publish waited"
-    })
+    });
+}
+
+/// One seat holds a view, so that another seat's edits wait for it under the lock. A third seat views meanwhile.
+pub fn alongside<N: NodeName + Send + Sync, R: Threads + Wait + Clock + Sync>(
+    rt: &R,
+    node: &Node<N>,
+    bench: &mut Bench<N>,
+    words: &mut Words,
+) -> Result<(), LineFault> {
+    let seats = (words.index()?, words.index()?, words.index()?);
+    alongside_at(rt, words.alloc, node, bench, seats);
+    Ok(())
 }

@@ -37,6 +37,23 @@ fn work_steps<N: NodeName + Send + Sync, R: Threads + Wait + Clock + Sync>(
     Ok(false)
 }
 
+// Closes a node whose steps were executed, without its last seat first if they end with `short`.
+fn close_worked<N: NodeName, R: Wait>(
+    rt: &R,
+    node: Node<N>,
+    bench: &mut Bench<N>,
+    worked: Result<bool, LineFault>,
+) -> Result<(), LineFault> {
+    match worked {
+        Ok(true) => close_short(rt, node, bench),
+        Ok(false) => close(rt, node, bench),
+        Err(fault) => {
+            node.end(rt);
+            Err(fault)
+        }
+    }
+}
+
 // Executes a line at the node of this blank, and closes the node.
 fn work_node<N: NodeName + Send + Sync, R: Threads + Wait + Clock + Sync>(
     rt: &R,
@@ -50,16 +67,11 @@ fn work_node<N: NodeName + Send + Sync, R: Threads + Wait + Clock + Sync>(
 {
     let node = Node::<N>::open(blank);
     let mut bench = Bench::new(words.alloc);
-    let closed = match work_steps(rt, &node, &mut bench, words) {
-        Ok(true) => close_short(rt, node, &mut bench),
-        Ok(false) => close(rt, node, &mut bench),
-        Err(fault) => {
-            node.end(rt);
-            Err(fault)
-        }
-    };
-    closed?;
-    out.line(&bench.out.bytes)
+    let worked = work_steps(rt, &node, &mut bench, words);
+    close_worked(rt, node, &mut bench, worked)?;
+    out.part(b"\n  ");
+    out.append(&bench.out);
+    Ok(())
 }
 
 // Executes a line at the node of this blank, under a name of its own.
@@ -70,6 +82,17 @@ fn work_blank<R: Threads + Wait + Clock + Sync>(
     out: &mut Answer,
 ) -> Result<(), LineFault> {
     work_node::<Brand, R>(rt, blank, words, out)
+}
+
+// Writes why there is no blank, unless memory ran out.
+fn append_refused(out: &mut Answer, fault: &BlankFault) -> Result<(), LineFault> {
+    match fault {
+        BlankFault::Seats => {
+            out.line(b"A1 Seats");
+            Ok(())
+        }
+        BlankFault::Memory(_) => Err(LineFault::Memory(AllocError)),
+    }
 }
 
 // Executes a line at a node over this replica. If memory runs out for the blank, makes it again from the replica that
@@ -83,16 +106,25 @@ fn work_over<R: Threads + Wait + Clock + Sync>(
 ) -> Result<(), LineFault> {
     let blank = match Blank::new(rt, replica, seats) {
         Err(BlankFault::Memory(rest)) => {
-            out.line(b"no blank: out of memory")?;
+            out.line(b"no blank: out of memory");
             Blank::new(rt, rest, seats)
         }
         made => made,
     };
     match blank {
         Ok(blank) => work_blank(rt, blank, words, out),
-        Err(BlankFault::Seats) => out.line(b"A1 Seats"),
-        Err(BlankFault::Memory(_)) => Err(LineFault::Memory(AllocError)),
+        Err(fault) => append_refused(out, &fault),
     }
+}
+
+// The replica of a writer that is empty, or holds the edit that words write.
+fn replica_of(words: &mut Words, writer: u32, over_edit: bool) -> Result<Replica, LineFault> {
+    if !over_edit {
+        return Ok(Replica::new(words.alloc, writer));
+    }
+    let edit = one_edit(words)?;
+    let store = Store::from_edits(words.alloc, from_ref(&edit))?;
+    Ok(Replica::from_store(writer, store))
 }
 
 // The answer to a line of a node, over an empty replica or over one edit.
@@ -104,12 +136,7 @@ fn answer_node<R: Threads + Wait + Clock + Sync>(
 ) -> Result<(), LineFault> {
     let writer = words.writer()?;
     let seats = words.index()?;
-    let replica = if over_edit {
-        let edit = one_edit(words)?;
-        Replica::from_store(writer, Store::from_edits(words.alloc, from_ref(&edit))?)
-    } else {
-        Replica::new(words.alloc, writer)
-    };
+    let replica = replica_of(words, writer, over_edit)?;
     work_over(rt, replica, seats, words, out)
 }
 
@@ -126,8 +153,7 @@ fn answer_threads<R: Threads + Wait + Sync>(
     };
     match Blank::new(rt, Replica::new(words.alloc, writer), seats) {
         Ok(blank) => work_threads::<Brand, R>(rt, blank, plan, out),
-        Err(BlankFault::Seats) => out.line(b"A1 Seats"),
-        Err(BlankFault::Memory(_)) => Err(LineFault::Memory(AllocError)),
+        Err(fault) => append_refused(out, &fault),
     }
 }
 

@@ -5,7 +5,7 @@ use replica_store::{Place, Store};
 use shared_node::{Seat, Told};
 use std::alloc::Global;
 use std::fmt::Display;
-use worked_lines::{Answer, LineFault};
+use worked_lines::Answer;
 
 /// The seats that a node gave, by number, the last token that it returned, and the answers so far.
 #[derive(Drop)]
@@ -43,45 +43,53 @@ impl<N: NodeName> Bench<N> {
     }
 
     /// Writes an answer.
-    pub fn write(&mut self, answer: &str) -> Result<(), LineFault> {
-        self.out.line(answer.as_bytes())
+    pub fn write(&mut self, answer: &str) {
+        self.out.line(answer.as_bytes());
     }
 
     /// Writes a name and a number.
-    pub fn write_number(&mut self, name: &str, number: u64) -> Result<(), LineFault> {
-        self.write(format!(in self.out.alloc; "{name} {number}")?.as_str())
+    pub fn write_number(&mut self, name: &str, number: u64) {
+        let line = format!(in self.out.alloc; "{name} {number}");
+        self.out.line_made(line);
     }
 
     /// Writes what a value prints.
-    pub fn write_value<T: Display>(&mut self, value: &T) -> Result<(), LineFault> {
-        self.write("")?;
-        self.out.print(value)
+    pub fn write_value<T: Display>(&mut self, value: &T) {
+        self.write("");
+        self.out.print(value);
     }
 }
 
-/// Writes the number of takes, and the versions and names of what a store holds.
-pub fn append_store(out: &mut Answer, takes: u64, store: &Store) -> Result<(), LineFault> {
-    out.write(format!(in out.alloc; "takes {takes}")?.as_bytes())?;
-    for place in &store.list()? {
-        append_held(out, store, place)?;
+/// Writes the number of takes, and the versions and names of what a store holds, unless memory runs out for the list of
+/// its places.
+pub fn append_store(out: &mut Answer, takes: u64, store: &Store) {
+    out.write_made(format!(in out.alloc; "takes {takes}"));
+    match store.list() {
+        Ok(places) => append_places(out, store, &places),
+        Err(fault) => out.write_made(Err(fault)),
     }
-    Ok(())
+}
+
+// Writes what a store holds at each of these places.
+fn append_places(out: &mut Answer, store: &Store, places: &[Place]) {
+    for place in places {
+        append_held(out, store, place);
+    }
 }
 
 // Writes what a store holds at a place.
-fn append_held(out: &mut Answer, store: &Store, place: &Place) -> Result<(), LineFault> {
-    let Some(entry) = store.get(place) else {
-        return Ok(());
-    };
-    out.write(b" ")?;
-    out.write(place.path.name())?;
-    out.write(b" ")?;
-    append_version(out, entry.version)
+fn append_held(out: &mut Answer, store: &Store, place: &Place) {
+    if let Some(entry) = store.get(place) {
+        out.write(b" ");
+        out.write(place.path.name());
+        out.write(b" ");
+        append_version(out, entry.version);
+    }
 }
 
 /// Writes a version.
-pub fn append_version(out: &mut Answer, version: Version) -> Result<(), LineFault> {
-    out.print(&version.counter)?;
-    out.write(b".")?;
-    out.print(&version.writer)
+pub fn append_version(out: &mut Answer, version: Version) {
+    out.print(&version.counter);
+    out.write(b".");
+    out.print(&version.writer);
 }

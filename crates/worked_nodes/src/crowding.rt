@@ -20,13 +20,23 @@ fn append_crowd<R: Threads + Wait + Sync, G: Gate + Sync>(
     if edits > MOST_EDITS || replica.high() > u64::MAX - ROOM {
         return Err(LineFault::Words);
     }
-    match crowd(rt, out.alloc, &replica, seats, edits, gate) {
+    let counted = crowd(rt, out.alloc, &replica, seats, edits, gate);
+    append_counted(out, &counted)
+}
+
+// Writes what a crowd came to.
+fn append_counted(
+    out: &mut Answer,
+    counted: &Result<Counted, CrowdFault>,
+) -> Result<(), LineFault> {
+    match counted {
         Ok(Counted { takes, paths }) => {
-            out.line(format!(in out.alloc; "takes {takes} paths {paths}")?.as_bytes())
+            out.line_made(format!(in out.alloc; "takes {takes} paths {paths}"));
         }
         Err(CrowdFault::Seats) => out.line(b"A1 Seats"),
-        Err(CrowdFault::Memory) => Err(LineFault::Memory(AllocError)),
+        Err(CrowdFault::Memory) => return Err(LineFault::Memory(AllocError)),
     }
+    Ok(())
 }
 
 /// The answer to a line of a crowd, and how often its gate was asked for each worker.
@@ -38,8 +48,9 @@ pub fn answer_crowd<R: Threads + Wait + Sync>(
     let (writer, seats, edits) = (words.writer()?, words.index()?, words.number()?);
     let gate = CountingGate::new(words.alloc, 0)?;
     append_crowd(rt, out, writer, seats, edits, &gate)?;
-    out.line(b"asked for")?;
-    gate.append_to(out)
+    out.line(b"asked for");
+    gate.append_to(out);
+    Ok(())
 }
 
 /// The answer to a line of two workers that wait for each other before their first edits.
@@ -55,5 +66,6 @@ pub fn answer_meeting<R: Threads + Wait + Clock + Sync>(
         b"both workers worked at the same time"
     } else {
         b"no two workers worked at the same time"
-    })
+    });
+    Ok(())
 }

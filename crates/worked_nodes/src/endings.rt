@@ -18,9 +18,9 @@ fn seats_of<N: NodeName>(bench: &mut Bench<N>) -> Result<Vec<Seat<N>>, LineFault
 }
 
 // Writes what is left of a node.
-fn write_closed<N: NodeName>(bench: &mut Bench<N>, closed: &Closed) -> Result<(), LineFault> {
-    bench.write("closed ")?;
-    append_store(&mut bench.out, closed.takes, closed.replica.store())
+fn write_closed<N: NodeName>(bench: &mut Bench<N>, closed: &Closed) {
+    bench.write("closed ");
+    append_store(&mut bench.out, closed.takes, closed.replica.store());
 }
 
 // Closes a node with these seats, and writes the result. On a refusal returns the node and the seats.
@@ -29,19 +29,17 @@ fn close_token<N: NodeName, R: Wait>(
     node: Node<N>,
     bench: &mut Bench<N>,
     seats: Vec<Seat<N>>,
-) -> Result<Option<CloseFault<N>>, LineFault> {
-    let fault = match node.close(rt, seats) {
+) -> Option<CloseFault<N>> {
+    match node.close(rt, seats) {
         Ok(closed) => {
-            write_closed(bench, &closed)?;
-            return Ok(None);
+            write_closed(bench, &closed);
+            None
         }
-        Err(fault) => fault,
-    };
-    if let Err(untold) = bench.write_value(&fault.cause) {
-        fault.end(rt);
-        return Err(untold);
+        Err(fault) => {
+            bench.write_value(&fault.cause);
+            Some(fault)
+        }
     }
-    Ok(Some(fault))
 }
 
 // Closes a node with these seats. If memory runs out, tries again with what was returned.
@@ -50,18 +48,17 @@ fn close_with<N: NodeName, R: Wait>(
     node: Node<N>,
     bench: &mut Bench<N>,
     seats: Vec<Seat<N>>,
-) -> Result<(), LineFault> {
-    let Some(CloseFault { node, seats, cause }) = close_token(rt, node, bench, seats)? else {
-        return Ok(());
+) {
+    let Some(CloseFault { node, seats, cause }) = close_token(rt, node, bench, seats) else {
+        return;
     };
     if cause != CloseCause::Memory {
         node.end(rt);
-        return Ok(());
+        return;
     }
-    if let Some(fault) = close_token(rt, node, bench, seats)? {
+    if let Some(fault) = close_token(rt, node, bench, seats) {
         fault.end(rt);
     }
-    Ok(())
 }
 
 /// Closes a node with all seats of the bench.
@@ -71,7 +68,10 @@ pub fn close<N: NodeName, R: Wait>(
     bench: &mut Bench<N>,
 ) -> Result<(), LineFault> {
     match seats_of(bench) {
-        Ok(seats) => close_with(rt, node, bench, seats),
+        Ok(seats) => {
+            close_with(rt, node, bench, seats);
+            Ok(())
+        }
         Err(fault) => {
             node.end(rt);
             Err(fault)
@@ -87,7 +87,7 @@ fn close_again<N: NodeName, R: Wait>(
     seats: Vec<Seat<N>>,
     last: Seat<N>,
 ) -> Result<(), LineFault> {
-    let Some(fault) = close_token(rt, node, bench, seats)? else {
+    let Some(fault) = close_token(rt, node, bench, seats) else {
         return Ok(());
     };
     let CloseFault {
@@ -99,7 +99,8 @@ fn close_again<N: NodeName, R: Wait>(
         node.end(rt);
         return Err(LineFault::Memory(AllocError));
     }
-    close_with(rt, node, bench, seats)
+    close_with(rt, node, bench, seats);
+    Ok(())
 }
 
 /// Closes a node without its last seat, which is refused, and then with it.
@@ -114,6 +115,9 @@ pub fn close_short<N: NodeName, R: Wait>(
     };
     match seats.pop() {
         Some(last) => close_again(rt, node, bench, seats, last),
-        None => close_with(rt, node, bench, seats),
+        None => {
+            close_with(rt, node, bench, seats);
+            Ok(())
+        }
     }
 }

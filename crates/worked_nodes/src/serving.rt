@@ -39,16 +39,28 @@ fn send_all<R: Wait>(rt: &R, sender: &Sender<Message>, words: &mut Words) -> Res
 }
 
 // Writes the result of serving an inbox, and how often the gate was asked for each message.
-fn write_served<N: NodeName>(
+fn write_served<N: NodeName>(bench: &mut Bench<N>, served: Served, gate: &CountingGate) {
+    bench.write_number("answered", served.answered as u64);
+    bench.write_number("pending", served.pending as u64);
+    bench.write_number("refused", served.refused as u64);
+    bench.write("asked for");
+    gate.append_to(&mut bench.out);
+}
+
+// Serves an inbox from the seat with a number, at this gate.
+fn serve_at<N: NodeName, R: Wait>(
+    rt: &R,
+    node: &Node<N>,
     bench: &mut Bench<N>,
-    served: Served,
+    at: usize,
+    inbox: &Receiver<Message>,
     gate: &CountingGate,
-) -> Result<(), LineFault> {
-    bench.write_number("answered", served.answered as u64)?;
-    bench.write_number("pending", served.pending as u64)?;
-    bench.write_number("refused", served.refused as u64)?;
-    bench.write("asked for")?;
-    gate.append_to(&mut bench.out)
+) {
+    let Some(seat) = bench.seat(at) else {
+        return bench.write("no seat");
+    };
+    let served = serve(rt, node, seat, inbox, gate);
+    write_served(bench, served, gate);
 }
 
 /// Serves an inbox from a seat, at a gate that refuses each message a given number of times.
@@ -58,12 +70,9 @@ pub fn work_inbox<N: NodeName, R: Wait>(
     bench: &mut Bench<N>,
     words: &mut Words,
 ) -> Result<(), LineFault> {
-    let place = words.index()?;
+    let at = words.index()?;
     let gate = CountingGate::new(words.alloc, words.index()?)?;
     let inbox = inbox_of(rt, words)?;
-    let Some(seat) = bench.seat(place) else {
-        return bench.write("no seat");
-    };
-    let served = serve(rt, node, seat, &inbox, &gate);
-    write_served(bench, served, &gate)
+    serve_at(rt, node, bench, at, &inbox, &gate);
+    Ok(())
 }

@@ -3,6 +3,7 @@ use crate::alongside::alongside;
 use crate::bench::{Bench, append_store, append_version};
 use crate::edits::one_piece;
 use crate::serving::work_inbox;
+use delta_pieces::Piece;
 use node_histories::NodeName;
 use replica_store::{Content, Place};
 use shared_node::{Node, NodeFault, Seat, Told};
@@ -38,26 +39,27 @@ fn take_seat<N: NodeName, R: Wait>(
 ) -> Result<(), LineFault> {
     match node.seat(rt) {
         Ok(seat) => {
-            bench.write_number("seat", seat.number() as u64)?;
-            Ok(bench.seats.push(Some(seat))?)
+            bench.write_number("seat", seat.number() as u64);
+            bench.seats.push(Some(seat))?;
         }
         Err(fault) => bench.write_value(&fault),
     }
+    Ok(())
 }
 
 // Stores the token of a take, and returns what else it answered; or writes why the take failed.
 fn keep_token<N: NodeName, T: Drop>(
     bench: &mut Bench<N>,
     taken: Result<(T, Told<N>), NodeFault<N>>,
-) -> Result<Option<T>, LineFault> {
+) -> Option<T> {
     match taken {
         Ok((answer, token)) => {
             bench.token = Some(token);
-            Ok(Some(answer))
+            Some(answer)
         }
         Err(fault) => {
-            bench.write_value(&fault)?;
-            Ok(None)
+            bench.write_value(&fault);
+            None
         }
     }
 }
@@ -71,7 +73,8 @@ fn edit<N: NodeName, R: Wait>(
 ) -> Result<(), LineFault> {
     let at = words.index()?;
     let place = words.place()?;
-    edit_at(rt, node, bench, at, place, words.file()?)
+    edit_at(rt, node, bench, at, place, words.file()?);
+    Ok(())
 }
 
 // Edits from the seat with a number.
@@ -82,16 +85,15 @@ fn edit_at<N: NodeName, R: Wait>(
     at: usize,
     place: Place,
     content: Content,
-) -> Result<(), LineFault> {
+) {
     let Some(seat) = bench.seat(at) else {
         return bench.write("no seat");
     };
     let taken = node.edit(rt, seat, place, content);
-    let Some(version) = keep_token(bench, taken)? else {
-        return Ok(());
-    };
-    bench.write("ok ")?;
-    append_version(&mut bench.out, version)
+    if let Some(version) = keep_token(bench, taken) {
+        bench.write("ok ");
+        append_version(&mut bench.out, version);
+    }
 }
 
 // Absorbs a piece from a seat.
@@ -101,21 +103,31 @@ fn absorb<N: NodeName, R: Wait>(
     bench: &mut Bench<N>,
     words: &mut Words,
 ) -> Result<(), LineFault> {
-    let (place, piece) = (words.index()?, one_piece(words)?);
-    let Some(seat) = bench.seat(place) else {
+    let at = words.index()?;
+    absorb_at(rt, node, bench, at, one_piece(words)?);
+    Ok(())
+}
+
+// Absorbs a piece from the seat with a number.
+fn absorb_at<N: NodeName, R: Wait>(
+    rt: &R,
+    node: &Node<N>,
+    bench: &mut Bench<N>,
+    at: usize,
+    piece: Piece,
+) {
+    let Some(seat) = bench.seat(at) else {
         return bench.write("no seat");
     };
     let taken = node.absorb(rt, seat, piece);
-    match keep_token(bench, taken)? {
-        Some(changed) => bench.write_number("changed", changed),
-        None => Ok(()),
+    if let Some(changed) = keep_token(bench, taken) {
+        bench.write_number("changed", changed);
     }
 }
 
-// A seat learns the last token.
-fn learn<N: NodeName>(bench: &mut Bench<N>, words: &mut Words) -> Result<(), LineFault> {
-    let place = words.index()?;
-    let Some(Some(seat)) = bench.seats.get_mut(place) else {
+// The seat with a number learns the last token.
+fn learn_at<N: NodeName>(bench: &mut Bench<N>, at: usize) {
+    let Some(Some(seat)) = bench.seats.get_mut(at) else {
         return bench.write("no seat");
     };
     let Some(token) = &bench.token else {
@@ -123,28 +135,41 @@ fn learn<N: NodeName>(bench: &mut Bench<N>, words: &mut Words) -> Result<(), Lin
     };
     seat.learn(token);
     let seen = seat.takes();
-    bench.write_number("seen", seen)
+    bench.write_number("seen", seen);
+}
+
+// A seat learns the last token.
+fn learn<N: NodeName>(bench: &mut Bench<N>, words: &mut Words) -> Result<(), LineFault> {
+    learn_at(bench, words.index()?);
+    Ok(())
 }
 
 // Writes what the view of a seat shows, if there is a view. Returns the seat.
-fn append_view<N: NodeName>(out: &mut Answer, seat: Seat<N>) -> (Seat<N>, Result<(), LineFault>) {
+fn append_view<N: NodeName>(out: &mut Answer, seat: Seat<N>) -> Seat<N> {
     match seat.view() {
         Ok(view) => {
-            let token = append_store(out, view.takes(), view.store());
-            (view.leave(), token)
+            append_store(out, view.takes(), view.store());
+            view.leave()
         }
-        Err(fault) => (fault.seat, out.write(b"A7 NoEntry")),
+        Err(fault) => {
+            out.write(b"A7 NoEntry");
+            fault.seat
+        }
     }
+}
+
+// The seat with a number views.
+fn view_at<N: NodeName>(bench: &mut Bench<N>, at: usize) {
+    let Some(seat) = bench.lend(at) else {
+        return bench.write("no seat");
+    };
+    bench.write("");
+    let seat = append_view(&mut bench.out, seat);
+    bench.put_back(at, seat);
 }
 
 // A seat views.
 fn view<N: NodeName>(bench: &mut Bench<N>, words: &mut Words) -> Result<(), LineFault> {
-    let place = words.index()?;
-    let Some(seat) = bench.lend(place) else {
-        return bench.write("no seat");
-    };
-    bench.write("")?;
-    let (seat, token) = append_view(&mut bench.out, seat);
-    bench.put_back(place, seat);
-    token
+    view_at(bench, words.index()?);
+    Ok(())
 }

@@ -51,6 +51,22 @@ fn file_of(alloc: Global, seat: usize, number: u64) -> Result<Content, LineFault
     Content::file(bytes).map_err(|_| LineFault::Memory(AllocError))
 }
 
+// Makes the edit of its own file with this number from a seat.
+fn make_edit<N: NodeName, R: Wait>(
+    rt: &R,
+    alloc: Global,
+    node: &Node<N>,
+    seat: &mut Seat<N>,
+    number: u64,
+) -> Result<(), LineFault> {
+    let place = place_of(alloc, seat.number())?;
+    let content = file_of(alloc, seat.number(), number)?;
+    if node.edit(rt, seat, place, content).is_err() {
+        return Err(LineFault::Memory(AllocError));
+    }
+    Ok(())
+}
+
 /// Makes this many edits of its own file from a seat.
 pub fn make_edits<N: NodeName, R: Wait>(
     rt: &R,
@@ -60,11 +76,7 @@ pub fn make_edits<N: NodeName, R: Wait>(
     edits: u64,
 ) -> Result<(), LineFault> {
     for number in 0..edits {
-        let place = place_of(alloc, seat.number())?;
-        let content = file_of(alloc, seat.number(), number)?;
-        if node.edit(rt, seat, place, content).is_err() {
-            return Err(LineFault::Memory(AllocError));
-        }
+        make_edit(rt, alloc, node, seat, number)?;
     }
     Ok(())
 }
@@ -179,11 +191,11 @@ fn work_plan<N: NodeName + Send + Sync, R: Threads + Wait + Sync>(
 }
 
 // Writes how many takes a closed node had and how many paths it holds.
-fn append_closed(out: &mut Answer, closed: &Closed, are_fine: bool) -> Result<(), LineFault> {
+fn append_closed(out: &mut Answer, closed: &Closed, are_fine: bool) {
     let takes = closed.takes;
     let paths = closed.replica.store().len();
-    out.line(if are_fine { b"fine" } else { b"not fine" })?;
-    out.line(format!(in out.alloc; "closed takes {takes} paths {paths}")?.as_bytes())
+    out.line(if are_fine { b"fine" } else { b"not fine" });
+    out.line_made(format!(in out.alloc; "closed takes {takes} paths {paths}"));
 }
 
 // Closes a node with its seats, and writes what is left of it.
@@ -195,7 +207,10 @@ fn close_with<N: NodeName, R: Wait>(
     out: &mut Answer,
 ) -> Result<(), LineFault> {
     match node.close(rt, seats) {
-        Ok(closed) => append_closed(out, &closed, are_fine),
+        Ok(closed) => {
+            append_closed(out, &closed, are_fine);
+            Ok(())
+        }
         Err(fault) => {
             fault.end(rt);
             Err(LineFault::Memory(AllocError))

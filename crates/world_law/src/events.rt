@@ -6,9 +6,15 @@ use load_places::Place;
 use std::marker::Model;
 
 /// A list of places.
-#[derive(Debug, Drop)]
+#[derive(Debug)]
 pub struct Places {
     items: Vec<Place>,
+}
+
+impl Drop for Places {
+    fn drop(self) {
+        let Places { items: _ } = self;
+    }
 }
 
 impl Model for Places {
@@ -38,7 +44,7 @@ impl Places {
 
 /// An event in a world. Nodes, asks and pieces have indices from 0; asks and pieces are counted in the order of their
 /// events. An event that names something that doesn't exist is ignored, and gets no index.
-#[derive(Debug, Drop)]
+#[derive(Debug)]
 pub enum Event {
     /// A node writes an edit into its own store.
     Put {
@@ -61,4 +67,19 @@ pub enum Event {
         piece: usize,
         node: usize,
     },
+}
+
+impl Drop for Event {
+    fn drop(self) {
+        match self {
+            Event::Put { node: _, edit: _ } => (),
+            Event::Ask { node: _ } => (),
+            Event::Cut {
+                node: _,
+                ask: _,
+                places: _,
+            } => (),
+            Event::Give { piece: _, node: _ } => (),
+        }
+    }
 }

@@ -5,6 +5,7 @@ ghost use Rattle.fleet_script.specs.{Does.{Writes}, Holds.{Executes, Goes, HasNo
 
 use crate::states::{Rendered, Shell};
 use edit_sums::Content;
+use fleet_answers::TrackedReplica;
 use load_places::Place;
 use plain_values::Bytes;
 use replica_store::Replica;
@@ -26,7 +27,8 @@ impl Shell {
         }
         let text = Vec::from_slice(alloc, b"ok\n")?;
         let number = self.nodes.len();
-        self.nodes.push(Replica::new(alloc, writer))?;
+        self.nodes
+            .push(TrackedReplica::new(Replica::new(alloc, writer)))?;
         self.writers.insert(writer)?;
         self.numbers.insert(name, number)?;
         Ok(text)

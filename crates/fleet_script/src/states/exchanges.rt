@@ -8,7 +8,8 @@ ghost use Rattle.fleet_script.specs.{Does.{if_any}, Holds.{Executes, IsJoinedAt,
 
 use crate::states::{Rendered, Shell};
 use delta_gossip::sweep;
-use delta_pieces::{Piece, delta_at, delta_between, digest_at};
+use delta_pieces::{Piece, delta_between, delta_between_at};
+use fleet_answers::TrackedReplica;
 use load_places::Place;
 use plain_values::Bytes;
 use replica_store::Replica;
@@ -90,14 +91,16 @@ impl Shell {
             return Ok(0);
         }
         // Taken out, so that both can be borrowed at once.
-        let mut taken = mem::replace(&mut self.nodes[to], Replica::new(alloc, 0));
+        let mut taken = mem::replace(
+            &mut self.nodes[to],
+            TrackedReplica::new(Replica::new(alloc, 0)),
+        );
         let outcome = taken.merge(self.nodes[from].store());
         self.nodes[to] = taken;
         outcome
     }
 
-    // What one node cuts for the ask of another, at these places, or at all if none are given. The ask has only the
-    // versions at these places.
+    // What one node cuts for the ask of another, at these places, or at all if none are given.
     fn cut(
         &self,
         alloc: Global,
@@ -111,10 +114,11 @@ impl Shell {
             (slice_index_or self.now.nodes.items from d).store
             (digest_of (slice_index_or self.now.nodes.items to d).store) (if_any places.now)) }
     {
+        let from = self.nodes[from].replica();
+        let to = self.nodes[to].replica();
         if places.is_empty() {
-            return delta_between(alloc, &self.nodes[from], &self.nodes[to]);
+            return delta_between(alloc, from, to);
         }
-        let asked = digest_at(alloc, &self.nodes[to], places)?;
-        delta_at(alloc, &self.nodes[from], &asked, places)
+        delta_between_at(alloc, from, to, places)
     }
 }

@@ -4,7 +4,7 @@ ghost use Rattle.script_commands.specs.Commands.{command_of};
 ghost use Rattle.fleet_script.specs.{Does.{Does, Refuses}, Holds.{Continues, Goes, HasRoom, kept_in}, Scripts.{AnswersLine}};
 
 use crate::states::{Rendered, Shell};
-use script_answers::{Inquiry, refused};
+use script_answers::refused;
 use script_commands::{Command, Fault, LineRefusal, parse};
 use script_words::is_passed_over;
 use std::alloc::AllocError;
@@ -60,24 +60,11 @@ impl Shell {
             Command::Cat { node, host, unit } => {
                 self.cat(alloc, node.as_slice(), host, unit.as_slice())
             }
-            Command::Show { node, host, unit } => {
-                self.ask(rt, alloc, node.as_slice(), host, Inquiry::Unit(unit))
-            }
-            Command::List { node, host, unit } => {
-                self.ask(rt, alloc, node.as_slice(), host, Inquiry::List(unit))
-            }
-            Command::Plan {
+            Command::Ask {
                 node,
                 host,
-                unit,
-                running,
-            } => self.ask(
-                rt,
-                alloc,
-                node.as_slice(),
-                host,
-                Inquiry::Plan(unit, running),
-            ),
+                inquiry,
+            } => self.ask(rt, alloc, node.as_slice(), host, inquiry),
             Command::Workers { count } => self.workers(alloc, count),
             Command::Same { left, right } => self.same(alloc, left.as_slice(), right.as_slice()),
             Command::Crowd { node, seats, edits } => {

@@ -4,8 +4,8 @@ ghost use Rattle.script_answers.specs.Renders.{RendersInquiry};
 ghost use Rattle.fleet_script.specs.{Does.{Reads}, Holds.{Executes, Goes, HasRoom, kept_in}};
 
 use crate::states::{Rendered, Shell};
-use script_answers::{Inquiry, list_files, render_crowd, render_files, render_inquiry};
-use script_commands::{EditCount, Word};
+use script_answers::{list_files, render_crowd, render_files, render_inquiry};
+use script_commands::{EditCount, Inquiry, Word};
 use std::alloc::Global;
 use std::sync::Wait;
 use std::thread::Threads;
@@ -45,13 +45,12 @@ impl Shell {
             Reads before outcome after node.now (RendersInquiry host.entry inquiry.entry)) result }
     {
         let at = self.node_at(alloc, node)?;
-        let store = self.nodes[at].store();
         render_inquiry(
             rt,
             alloc,
             &mut self.snapshots,
+            &mut self.nodes,
             at,
-            store,
             host,
             inquiry,
             &self.workers,

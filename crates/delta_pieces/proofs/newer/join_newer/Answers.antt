@@ -1,5 +1,5 @@
 use Rattle.std.proofs.Common.{◌≡◌}
-use Rattle.delta_pieces.proofs.{Gathers.{join_absent, join_newer, join_older}, Prelude.{ap, edit_of, EntryMap, is_newer, OnOk, subst, sym, with_edit, ◌∙◌}}
+use Rattle.delta_pieces.proofs.{Gathers.{join_absent, join_newer, join_older}, Prelude.{ap, EntryMap, is_newer, OnOk, subst, sym, ◌∙◌}}
 use Rattle.delta_pieces.proofs.newer.join_newer.Goals as goal
 
 pub returns-in_default : goal.returns-in_default
@@ -14,7 +14,4 @@ pub returns : goal.returns
 returns c =
     let newer = ap (is_newer c.in-Some.entry.now.version) (sym c.get-2.ensures.version) ∙ sym c.is_newer.ensures.newer ∙ c.if-not-is_newer.false in
     let joined = join_newer _ _ c.args.place.now c.args.newer.now c.in-Some.entry.now (sym c.in-Some.ensures.held) newer in
-    let same : with_edit c.args.newer.now (edit_of (c.in_ok-try_clone.field-0, c.in_ok-version.field-0)) ≡ with_edit c.args.newer.now (edit_of (c.args.place.now, c.in-Some.entry.now)) =
-    λ i. with_edit c.args.newer.now (edit_of (c.in_ok-try_clone.ensures.copy i, c.in_ok-version.ensures.copy i))
-    in
-    record { ok = subst (λ (m : EntryMap). OnOk c.join_edit.result (c.join_edit.new.self ≡ m)) (same ∙ joined) c.join_edit.ensures.ok }
+    record { ok = subst (λ (m : EntryMap). OnOk c.join_at.result (c.join_at.new.newer ≡ m)) joined c.join_at.ensures.ok }

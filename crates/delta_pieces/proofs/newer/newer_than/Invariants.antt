@@ -1,5 +1,5 @@
 use Rattle.std.proofs.Common.{◌≡◌}
-use Rattle.delta_pieces.proofs.{Joined.{news, sum_at}, Prelude.{digest_of, filter, is_newer, join, length, map}}
+use Rattle.delta_pieces.proofs.{Joined.{news, sum_at}, Prelude.{digest_of, filter, is_newer, join, length}}
 use Rattle.std.specs.FinMap as finmap
 use Rattle.delta_pieces.proofs.newer.newer_than.Given as goal
 

@@ -1,7 +1,7 @@
 use Rattle.fleet_answers.proofs.{Fleets.{agrees, by_events, holds_least, holds_same_later, IsOfReplica, of_store, of_sum}, Held.{got}, Prelude.{EntryMap, IsAnswer, length, subst}, worlds.answer_in_world.Given.{Over}}
 use Rattle.fleet_answers.proofs.worlds.answer_in_world.Goals as goal
 
-of_replica : (g : Over) (c : goal.After-drop-world-in-Some-3 g) → IsOfReplica c.in-Ok.world c.args.node c.args.extra.now c.args.question.now c.in_ok-answer_question-in-Some.field-0
+of_replica : (g : Over) (c : goal.After-drop-world-in-Some g) → IsOfReplica c.in-Ok.world c.args.node c.args.extra.now c.args.question.now c.in_ok-answer_question-in-Some.field-0
 of_replica g c = record {
   replica = c.in-Some.replica.now;
   here = got (λ r. r.now) c.in-Ok.world.replicas.items c.args.node c.in-Some.replica (rw c.deref.ensures.value at c.in-Some.ensures.lookup);

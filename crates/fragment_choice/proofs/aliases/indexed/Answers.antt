@@ -1,19 +1,27 @@
 use Rattle.std.proofs.Common.{◌≡◌}
-use Rattle.fragment_choice.proofs.{Indexing.{all_indexed, AreIndexed, more_indexed, none_indexed}, Prelude.{iter_end, List, map, map-id, Name, subst, sym, ◌∙◌}}
+use Rattle.fragment_choice.proofs.{aliases.indexed.Goals.{in-Some+in_ok-try_clone+in_ok-try_clone-2+in_ok-put_under+in_ok-put_alias, in_default}, Indexing.{maps_more, maps_same, no_pairs}, Prelude.{alias_in, aliases_in, AreMapsOf, NamedWords, subst, sym, take_all, ◌∙◌}}
 use Rattle.fragment_choice.proofs.aliases.indexed.Goals as goal
 
-pub loop-own-init : goal.loop-own-init
-loop-own-init c = none_indexed c.args.view.now c.new-choices.result c.new-owners.result c.new-choices.ensures.empty c.new-owners.ensures.empty
+pub loop-name-init : goal.loop-name-init
+loop-name-init c = no_pairs c.new-aliases.result c.new-owners.result c.new-aliases.ensures.empty c.new-owners.ensures.empty
 
-pub loop-own-preserved : goal.loop-own-preserved
-loop-own-preserved c =
-    more_indexed c.args.view.now c.loop-own.yielded c.in-Some.own c.in_ok-said.said c.loop-own.choices c.put_choice.new.choices c.loop-own.owners c.put_owner.new.owners
-    c.in_ok-said.ensures.choice c.in_ok-said.ensures.well_formed c.loop-own.invariant c.in_ok-put_owner.ensures.put c.in_ok-put_choice.ensures.put
+pub loop-name-preserved : goal.loop-name-preserved
+loop-name-preserved c =
+    let i = c.loop-name.name-index in
+    let x = c.loop-name-item.result in
+    let said : alias_in x ≡ c.in_ok-own.field-0 = sym c.in_ok-own.ensures.alias in
+    elim c.match-branch-2.branch [
+      | in-Some+in_ok-try_clone+in_ok-try_clone-2+in_ok-put_under+in_ok-put_alias w ↦
+          maps_more c.args.targets.now i x c.loop-name-test.true c.loop-name-item.is w.in-Some.own w.in-Some.alias w.in_ok-try_clone-2.field-0 w.in_ok-try_clone.field-0
+          c.loop-name.aliases w.put_alias.new.aliases c.match-branch-2.aliases c.loop-name.owners w.put_under.new.owners c.match-branch-2.owners
+          (said ∙ w.in-Some.is) c.loop-name.invariant w.in_ok-put_under.ensures.put w.in_ok-try_clone-2.ensures.copy w.in_ok-try_clone.ensures.copy w.in_ok-put_alias.ensures.put
+          w.aliases-is w.owners-is
+      | in_default w ↦
+          maps_same c.args.targets.now i x c.loop-name-test.true c.loop-name-item.is c.loop-name.aliases c.match-branch-2.aliases c.loop-name.owners c.match-branch-2.owners
+          (said ∙ w.in_default.is) c.loop-name.invariant w.aliases-is w.owners-is
+    ]
 
 pub returns : goal.returns
-returns c =
-    let all : map (λ (x : Name). x) c.loop-own.yielded ≡ c.in_ok-own-items.own-items.keys =
-    (iter_end (λ (x : Name). x) c.in_ok-own-items.own-items.keys c.loop-own.yielded c.into_iter-own-iterator.result c.loop-own.own-iterator c.next.new.self c.next.result c.into_iter-own-iterator.ensures.into_iter_gives.0 c.loop-own.yielded_by c.in-None.is c.next.ensures.steps).0 in
-    let e : c.loop-own.yielded ≡ c.in_ok-own-items.own-items.keys = sym (map-id c.loop-own.yielded) ∙ all in
-    let there = subst (λ (xs : List Name). AreIndexed c.args.view.now xs c.loop-own.choices c.loop-own.owners) e c.loop-own.invariant in
-    record { index = all_indexed c.args.view.now c.in_ok-own-items.own-items.keys c.loop-own.choices c.loop-own.owners c.in_ok-own-items.ensures.linked there }
+returns c = record {
+  index = subst (λ (all : NamedWords). AreMapsOf (aliases_in all) c.loop-name.aliases c.loop-name.owners) (take_all c.loop-name.name-index c.args.targets.now c.loop-name-test.false) c.loop-name.invariant;
+}

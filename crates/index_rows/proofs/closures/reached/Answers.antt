@@ -10,7 +10,7 @@ reached_inside-requires c =
     record { successors = subst P (sym same) c.requires.successors; sources = subst Q (sym same) c.requires.sources }
 
 -- in the set of all nodes, the edges to members are all edges
-module _ (n m : ℕ) (kinds : List (List (Vec ℕ Global))) (sources : List ℕ) (inside : List Bool) (all : inside ≡ replicate n true) (same : m ≡ n) (successors : AreSuccessorsOf n kinds) where
+module _ (n m : ℕ) (kinds : List (List (List ℕ))) (sources : List ℕ) (inside : List Bool) (all : inside ≡ replicate n true) (same : m ≡ n) (successors : AreSuccessorsOf n kinds) where
   both : (u v : ℕ) → LeadsInside inside kinds u v ↔ Named (successors_from kinds) u v
   both u v = (
     λ h. h.step,

@@ -1,24 +1,23 @@
-use Rattle.std.proofs.Common.{◌++◌, ◌<◌, ◌∷◌, ◌≡◌, ◌≤◌}
-use Rattle.inverse_deps.proofs.Prelude.{[], ap, AreEdges, AreKept, AreMade, AreTables, arith, Bool, EdgeMap, get_or, Global, is_sorted, IsTrue, key_at_place, keys_length, keys_of, length, List, lists_from, LoadMap, made_more, map-append, Name, name_cmp, NameLoad, sorted_by_keys, subst, sym, take, take_all, take_more, Vec, ℕ, ◌∙◌}
-use Rattle.inverse_deps.proofs.Tabling.{all_edges, all_kept}
+use Rattle.std.proofs.Common.{◌++◌, ◌+◌, ◌<◌, ◌∷◌, ◌≡◌}
+use Rattle.inverse_deps.proofs.Prelude.{[], add-one, all_edges, all_kept, ap, append-nil, append_assoc, AreEdges, AreKept, arith, drop, drop-cons, drop_all, edge_map, EdgeMap, edges_from, get_or, key_at_place, keys_length, keys_of, length, List, lists_from, Name, NameLoad, subst, suc, sym, ℕ, ◌∙◌}
 use Rattle.inverse_deps.proofs.building.unit_lists.Goals as goal
 
--- lists that were made for all names of a load
-record Made (load : LoadMap) (tables : List (List (Vec ℕ Global))) (units : EdgeMap) : Type 0 where
-  edges : AreEdges load units
-  kept : AreKept units tables
+-- one more name has its lists
+module _ (names : List Name) (tables : List (List (List ℕ))) (i : ℕ) (below : i < length names) (old new : EdgeMap) (name : Name) (lists : List (List Name)) (name_is : name ≡ get_or names i [])
+    (lists_are : lists ≡ lists_from names tables i) where
+  abbrev pair : Name × List (List Name)
+  pair = (name, lists)
 
-made : (load : LoadMap) (es : List (Name × NameLoad)) → es ≡ load.names → IsTrue (is_sorted name_cmp es) → (tables : List (List (Vec ℕ Global))) → AreTables load tables
-    → (units : EdgeMap) (index : ℕ) → keys_of units ≡ take index (keys_of es) → AreMade (λ k p. p.1 ≡ lists_from load tables k) index units → length es ≤ index → Made load tables units
-made load es same ordered tables are units index keys lists all =
-    let whole : keys_of units ≡ keys_of es = keys ∙ take_all index (keys_of es) (omega (arith, keys_length es, all)) in
-    let P : Bool → Type 0 = λ b. IsTrue b in
-    let Q : List (Name × NameLoad) → Type 0 = λ ns. IsTrue (is_sorted name_cmp ns) in
-    let sorted = subst P (sym (sorted_by_keys name_cmp units es whole)) ordered in
-    let each : (k : ℕ) (d : Name × List (List Name)) → k < length units → (get_or units k d).1 ≡ lists_from load tables k = λ k d l. lists.each k d (omega (arith, l, lists.count)) in
-    let names : keys_of units ≡ keys_of load.names = whole ∙ ap keys_of same in
-    let in_order : IsTrue (is_sorted name_cmp load.names) = subst Q same ordered in
-    record { edges = all_edges load in_order tables are units names sorted each; kept = all_kept load in_order tables are units names sorted each }
+  abbrev rest : ℕ → EdgeMap
+  rest k = edges_from names tables k (drop k names)
+
+  one_more : new ≡ old ++ pair ∷ [] → old ++ rest i ≡ edge_map names tables → new ++ rest (i + 1) ≡ edge_map names tables
+  one_more e h =
+      let here : rest i ≡ (get_or names i [], lists_from names tables i) ∷ rest (suc i) = ap (edges_from names tables i) (drop-cons names i [] below) in
+      ap (λ (es : EdgeMap). es ++ rest (i + 1)) e ∙ append_assoc old (pair ∷ []) (rest (i + 1)) ∙ ap (λ k. old ++ pair ∷ rest k) (add-one i)
+      ∙ ap (λ (n : Name). let p : Name × List (List Name) = (n, lists) in old ++ p ∷ rest (suc i)) name_is
+      ∙ ap (λ (ls : List (List Name)). let p : Name × List (List Name) = (get_or names i [], ls) in old ++ p ∷ rest (suc i)) lists_are
+      ∙ ap (λ (es : EdgeMap). old ++ es) (sym here) ∙ h
 
 pub loop-index-preserved : goal.loop-index-preserved
 loop-index-preserved c =
@@ -26,20 +25,23 @@ loop-index-preserved c =
     let es = c.names-names.result.now in
     let i = c.loop-index.index in
     let x : Name × NameLoad = c.index-names-index.result in
-    let below : i < length (keys_of es) = omega (arith, c.loop-index-test.true, keys_length es) in
-    let name : c.in_ok-name.name ≡ get_or (keys_of es) i [] =
-    c.in_ok-name.ensures.copy ∙ ap (λ (p : Name × NameLoad). p.0) c.index-names-index.is ∙ key_at_place es i x [] c.loop-index-test.true in
-    let pair : Name × List (List Name) = (c.in_ok-name.name, c.in_ok-lists_at.field-0) in
-    let P : ℕ → Name × List (List Name) → Type 0 = λ k p. p.1 ≡ lists_from load c.args.adjacency.now k in
-    record {
-      keys =
-          ap keys_of c.in_ok-push.ensures.items ∙ map-append (λ (p : Name × List (List Name)). p.0) c.loop-index.units.items (pair ∷ [])
-          ∙ ap (λ ks. ks ++ c.in_ok-name.name ∷ []) c.loop-index.invariant.keys ∙ ap (λ n. take i (keys_of es) ++ n ∷ []) name
-          ∙ sym (take_more (keys_of es) i [] below);
-      lists = made_more P i _ _ pair c.loop-index.invariant.lists c.in_ok-push.ensures.items c.in_ok-lists_at.ensures.lists;
-    }
+    let same = ap (λ (ns : List (Name × NameLoad)). length ns) c.names-names.ensures.names in
+    let below : i < length (keys_of load.names) = omega (arith, c.loop-index-test.true, keys_length load.names, same) in
+    let name : c.in_ok-name.name ≡ get_or (keys_of load.names) i [] =
+    c.in_ok-name.ensures.copy ∙ ap (λ (p : Name × NameLoad). p.0) c.index-names-index.is ∙ key_at_place es i x [] c.loop-index-test.true
+    ∙ ap (λ (ns : List (Name × NameLoad)). get_or (keys_of ns) i []) c.names-names.ensures.names in
+    one_more (keys_of load.names) c.args.table.now i below c.loop-index.units.items _ c.in_ok-name.name c.in_ok-lists_at.field-0 name c.in_ok-lists_at.ensures.lists
+    c.in_ok-push.ensures.items c.loop-index.invariant
 
 pub returns : goal.returns
 returns c =
-    let all = made c.args.loaded.now c.names-names.result.now c.names-names.ensures.names c.names-names.ensures.sorted _ c.requires.adjacency _ c.loop-index.index c.loop-index.invariant.keys c.loop-index.invariant.lists (omega (arith, c.loop-index-test.false)) in
-    record { edges = all.edges; kept = all.kept }
+    let load = c.args.loaded.now in
+    let same = ap (λ (ns : List (Name × NameLoad)). length ns) c.names-names.ensures.names in
+    let none = drop_all c.loop-index.index (keys_of load.names) (omega (arith, c.loop-index-test.false, keys_length load.names, same)) in
+    let units : c.loop-index.units.items ≡ edge_map (keys_of load.names) c.args.table.now =
+    sym (append-nil c.loop-index.units.items)
+    ∙ ap (λ (ks : List Name). c.loop-index.units.items ++ edges_from (keys_of load.names) c.args.table.now c.loop-index.index ks) (sym none) ∙ c.loop-index.invariant in
+    record {
+      edges = subst (λ (es : EdgeMap). AreEdges load es) (sym units) (all_edges load c.args.table.now c.requires.table);
+      kept = subst (λ (es : EdgeMap). AreKept es c.args.table.now) (sym units) (all_kept load c.args.table.now c.requires.table);
+    }

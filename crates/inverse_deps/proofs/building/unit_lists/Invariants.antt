@@ -1,9 +1,8 @@
-use Rattle.std.proofs.Common.{◌≡◌}
-use Rattle.inverse_deps.proofs.Prelude.{AreMade, keys_of, lists_from, take}
+use Rattle.std.proofs.Common.{◌++◌, ◌≡◌}
+use Rattle.inverse_deps.proofs.Prelude.{drop, edge_map, edges_from, keys_of}
 use Rattle.inverse_deps.proofs.building.unit_lists.Given as goal
 
+-- with the edges of the names that are left, these are all edges
 abbrev pub invariant-loop-index : goal.invariant-loop-index
-invariant-loop-index l = record {
-  keys : keys_of l.units.items ≡ take l.index (keys_of l.names);
-  lists : AreMade (λ k p. p.1 ≡ lists_from l.loaded l.adjacency k) l.index l.units.items;
-}
+invariant-loop-index l =
+    l.units.items ++ edges_from (keys_of l.loaded.names) l.table l.index (drop l.index (keys_of l.loaded.names)) ≡ edge_map (keys_of l.loaded.names) l.table

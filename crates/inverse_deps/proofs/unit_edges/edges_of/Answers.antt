@@ -1,21 +1,20 @@
-use Rattle.std.proofs.Common.{◌++◌, ◌+◌, ◌∷◌, ◌≡◌}
-use Rattle.inverse_deps.proofs.{Linking.{edges_linked}, Prelude.{[], All, All-push, ap, AreEdgesFrom, Before, DependencyList, DepKind, get_or, List, map, map-append, subst, sym, take, take_more, ◌∙◌}}
+use Rattle.std.proofs.Common.{◌≡◌}
+use Rattle.inverse_deps.proofs.Prelude.{[], All, AreEdgesFrom, AreEdgesOf, DependencyList, DepKind, Err, get_or, IfOk, IsUnitIn, kinds, List, LoadMap, map, Name, name_at, no_edges, Ok, Result, subst, sym}
 use Rattle.inverse_deps.proofs.unit_edges.edges_of.Goals as goal
 
-pub loop-kind-preserved : goal.loop-kind-preserved
-loop-kind-preserved c =
-    let load = c.args.loaded.now in
-    let i = c.loop-kind.kind-index in
-    let kinds : List DepKind = c.all-kind-items.result.now in
-    let dep : DepKind = get_or kinds i Before in
-    let list : DependencyList = record { kind = dep; names = c.in_ok-names.names } in
-    let kind_of : DependencyList → DepKind = λ l. l.kind in
-    let P : DependencyList → Type 0 = λ l. AreEdgesFrom load l.kind c.args.name.now l.names in
-    let more : take (i + 1) kinds ≡ take i kinds ++ dep ∷ [] = take_more kinds i Before c.loop-kind-test.true in
-    let here : P list = edges_linked load c.args.name.now c.links_of-own.result.now dep c.in_ok-names.names c.links_of-own.ensures.own c.in_ok-names.ensures.names in
-    record {
-      kinds_are =
-          ap (map kind_of) c.in_ok-push.ensures.ok ∙ map-append kind_of c.loop-kind.lists (list ∷ [])
-          ∙ ap (λ (ks : List DepKind). ks ++ dep ∷ []) c.loop-kind.invariant.kinds_are ∙ sym more;
-      each = subst (All P) (sym c.in_ok-push.ensures.ok) (All-push P c.loop-kind.lists list c.loop-kind.invariant.each here);
-    }
+-- empty lists are the edges from a name without a unit
+none_of : {E : Type 0} (load : LoadMap) (u : Name) → ¬ IsUnitIn load u → (r : Result (List DependencyList) E) → IfOk r (λ lists. map (λ (l : DependencyList). l.kind) lists ≡ kinds)
+    → IfOk r (λ lists. All (λ (l : DependencyList). l.names ≡ []) lists) → IfOk r (AreEdgesOf load u)
+none_of load u none (Err fault) k n = tt
+none_of load u none (Ok lists) k n = record {
+  kinds_are = k;
+  each = λ i d l. subst (λ (ns : List Name). AreEdgesFrom load (get_or lists i d).kind u ns) (sym (n i d l)) (no_edges load (get_or lists i d).kind u none);
+}
+
+pub returns-in-Some : goal.returns-in-Some
+returns-in-Some c = record {
+  lists = subst (λ (u : Name). IfOk c.edges_at.result (AreEdgesOf c.args.loaded.now u)) c.in-Some.ensures.index.named c.edges_at.ensures.lists;
+}
+
+pub returns-in-None : goal.returns-in-None
+returns-in-None c = record { lists = none_of c.args.loaded.now c.args.name.now c.in-None.ensures.index c.no_edges.result c.no_edges.ensures.kinds c.no_edges.ensures.none }

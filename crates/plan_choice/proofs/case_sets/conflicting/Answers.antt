@@ -1,5 +1,5 @@
 use Rattle.std.proofs.Common.{◌++◌, ◌∷◌, ◌≡◌}
-use Rattle.plan_choice.proofs.Prelude.{[], ap, AreInConflict, ArePairsOf, case_of, count_of, Global, IndexedCase, inl, inr, List, more_kinds, neighbors, one_kind, opposite_is, subst, sym, Vec, within-both, within-one, ℕ, ◌∙◌}
+use Rattle.plan_choice.proofs.Prelude.{[], ap, AreInConflict, ArePairsOf, case_of, count_of, IndexedCase, inl, inr, List, more_kinds, neighbors, one_kind, opposite_is, subst, sym, within-both, within-one, ℕ, ◌∙◌}
 use Rattle.plan_choice.proofs.case_sets.conflicting.Goals as goal
 
 -- two units are in conflict where one of them names the other
@@ -21,7 +21,7 @@ are_in_conflict p = record {
 pub returns : goal.returns
 returns c =
     let p = c.args.case.now in
-    let P : List (List (Vec ℕ Global)) → Type 0 = λ ks. ArePairsOf (count_of p) (AreInConflict (case_of p)) ks in
+    let P : List (List (List ℕ)) → Type 0 = λ ks. ArePairsOf (count_of p) (AreInConflict (case_of p)) ks in
     let first : c.push.new.self ≡ p.conflicts.now ∷ [] = c.in_ok-push.ensures.added ∙ ap (λ ks. ks ++ p.conflicts.now ∷ []) c.new-conflicting.ensures.none in
     let both : c.push-2.new.self ≡ p.conflicts.now ∷ p.conflicted_by.now ∷ [] = c.in_ok-push-2.ensures.added ∙ ap (λ ks. ks ++ p.conflicted_by.now ∷ []) first in
     subst P (sym both) (are_in_conflict p)

@@ -1,5 +1,5 @@
 use Rattle.std.proofs.Common.{◌<◌, ◌↔◌, ◌∷◌, ◌≡◌}
-use Rattle.start_plan.proofs.Prelude.{[], After, ap, AreAdjacencyOf, AreBitsBy, AreSuccessorsOf, Conflicts, count_of, false, Global, is_loaded, is_manual, IsAmong, IsIndexFor, IsKnown, IsMember, length, List, LoadMap, main_of, MatchOption, Name, name_at, needing, neighbors, neighbors-start, opposite_is, Option, refl, Requisite, subst, successors-start, successors_from, sym, transposed_from, tying, unit_in, Vec, Wants, ℕ, ◌∙◌}
+use Rattle.start_plan.proofs.Prelude.{[], After, ap, AreAdjacencyOf, AreBitsBy, AreSuccessorsOf, Conflicts, count_of, false, is_loaded, is_manual, IsAmong, IsIndexFor, IsKnown, IsMember, length, List, LoadMap, main_of, MatchOption, Name, name_at, needing, neighbors, neighbors-start, opposite_is, Option, refl, Requisite, subst, successors-start, successors_from, sym, transposed_from, tying, unit_in, Vec, Wants, ℕ, ◌∙◌}
 use Rattle.start_plan.proofs.{BitSets.{bits_named}, Casing.{edge_successors, main_is, opposite_successors, running_known, running_named}}
 use Rattle.start_plan.proofs.cases.case_of.Goals as goal
 
@@ -43,8 +43,8 @@ invariant_of-result c =
     let n : length c.in_ok-status.status.loaded.items ≡ count_of load = (subst L c.loaded.ensures.load c.in_ok-status.ensures.loaded).units in
     let refuses : length c.in_ok-status.status.manual.items ≡ count_of load = (subst R c.loaded.ensures.load c.in_ok-status.ensures.manual).units in
     let T : ℕ → Type 0 = λ k. c.unwrap-target.result < k in
-    let S : List (List (Vec ℕ Global)) → ℕ → Type 0 = λ successors k. AreSuccessorsOf k successors in
-    let W : List (Vec ℕ Global) → ℕ → Type 0 = λ adjacency k. AreAdjacencyOf k adjacency in
+    let S : List (List (List ℕ)) → ℕ → Type 0 = λ successors k. AreSuccessorsOf k successors in
+    let W : List (List ℕ) → ℕ → Type 0 = λ adjacency k. AreAdjacencyOf k adjacency in
     let inverses = c.loaded.ensures.inverses in
     let order = c.loaded.ensures.order in
     let needs = c.in_ok-needing.ensures in

@@ -1,4 +1,4 @@
-use Rattle.fleet_script.proofs.{Lines.{executed}, Prelude.{ap, Cat, Crowd, Files, kept_in, Link, ListUnits, Merge, Node, Ok, Part, Plan, Put, Remove, rules, Same, Send, Show, Sweep, sym, Workers, ◌∙◌}}
+use Rattle.fleet_script.proofs.{Lines.{executed}, Prelude.{ap, Ask, Cat, Crowd, Files, kept_in, Link, Merge, Node, Ok, Part, Put, Remove, rules, Same, Send, Sweep, sym, Workers, ◌∙◌}}
 use Rattle.fleet_script.proofs.states.Shell.execute.Goals as goal
 
 pub returns-in-Node : goal.returns-in-Node
@@ -34,17 +34,11 @@ returns-in-Sweep g c = record { done = executed (kept_in c.args.self.now) (kept_
 pub returns-in-Cat : goal.returns-in-Cat
 returns-in-Cat g c = record { done = executed (kept_in c.args.self.now) (kept_in c.args.self.now) c.args.line.now (Cat c.in-Cat.node c.in-Cat.host c.in-Cat.unit) c.cat.result (ap Ok (sym c.in-Cat.is) ∙ c.in_ok-name.ensures.command) (rw c.as_slice-in-Cat-2.ensures.bytes at (rw c.as_slice-in-Cat.ensures.bytes at c.cat.ensures.done)) }
 
-pub returns-in-Show : goal.returns-in-Show
-returns-in-Show g c = record { done = executed (kept_in c.args.self.now) (kept_in c.ask.new.self) c.args.line.now (Show c.in-Show.node c.in-Show.host c.in-Show.unit) c.ask.result (ap Ok (sym c.in-Show.is) ∙ c.in_ok-name.ensures.command) (rw c.as_slice-in-Show.ensures.bytes at c.ask.ensures.done) }
+pub returns-in-Ask : goal.returns-in-Ask
+returns-in-Ask g c = record { done = executed (kept_in c.args.self.now) (kept_in c.ask.new.self) c.args.line.now (Ask c.in-Ask.node c.in-Ask.host c.in-Ask.inquiry) c.ask.result (ap Ok (sym c.in-Ask.is) ∙ c.in_ok-name.ensures.command) (rw c.as_slice-in-Ask.ensures.bytes at c.ask.ensures.done) }
 
 pub returns-in-Workers : goal.returns-in-Workers
 returns-in-Workers g c = record { done = executed (kept_in c.args.self.now) (kept_in c.workers.new.self) c.args.line.now (Workers c.in-Workers.count) c.workers.result (ap Ok (sym c.in-Workers.is) ∙ c.in_ok-name.ensures.command) c.workers.ensures.done }
-
-pub returns-in-List : goal.returns-in-List
-returns-in-List g c = record { done = executed (kept_in c.args.self.now) (kept_in c.ask-in-List.new.self) c.args.line.now (ListUnits c.in-List.node c.in-List.host c.in-List.unit) c.ask-in-List.result (ap Ok (sym c.in-List.is) ∙ c.in_ok-name.ensures.command) (rw c.as_slice-in-List.ensures.bytes at c.ask-in-List.ensures.done) }
-
-pub returns-in-Plan : goal.returns-in-Plan
-returns-in-Plan g c = record { done = executed (kept_in c.args.self.now) (kept_in c.ask-in-Plan.new.self) c.args.line.now (Plan c.in-Plan.node c.in-Plan.host c.in-Plan.unit c.in-Plan.running) c.ask-in-Plan.result (ap Ok (sym c.in-Plan.is) ∙ c.in_ok-name.ensures.command) (rw c.as_slice-in-Plan.ensures.bytes at c.ask-in-Plan.ensures.done) }
 
 pub returns-in-Crowd : goal.returns-in-Crowd
 returns-in-Crowd g c = record { done = executed (kept_in c.args.self.now) (kept_in c.args.self.now) c.args.line.now (Crowd c.in-Crowd.node c.in-Crowd.seats c.in-Crowd.edits) c.crowd.result (ap Ok (sym c.in-Crowd.is) ∙ c.in_ok-name.ensures.command) (rw c.as_slice-in-Crowd.ensures.bytes at c.crowd.ensures.done) }

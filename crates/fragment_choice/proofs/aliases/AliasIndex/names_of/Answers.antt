@@ -1,5 +1,5 @@
 use Rattle.std.proofs.Common.{◌≡◌}
-use Rattle.fragment_choice.proofs.{Gathering.{both_ok}, Levels.{all_names, endless, unled}, Prelude.{[], AreNames, IfOk-weaker, sym, ◌∙◌}}
+use Rattle.fragment_choice.proofs.{Gathering.{both_ok}, Levels.{all_names, endless, unled}, Prelude.{AreNames, IfOk-weaker, sym, ◌∙◌}}
 use Rattle.fragment_choice.proofs.aliases.AliasIndex.names_of.Goals as goal
 
 pub returns-then-is_empty : goal.returns-then-is_empty

@@ -1,9 +1,9 @@
 use Rattle.std.proofs.Common.{◌+◌}
-use Rattle.index_rows.proofs.{Insides.{kind_adjacency, kind_more, neighbors_inside, neighbors_there, spread_kind}, Prelude.{Bor, Global, length, List, refl, take, Vec, ℕ}}
+use Rattle.index_rows.proofs.{Insides.{kind_adjacency, kind_more, neighbors_inside, neighbors_there, spread_kind}, Prelude.{Bor, length, List, refl, take, ℕ}}
 use Rattle.index_rows.proofs.successors.Successors.spread.Goals as goal
 
 -- the adjacency lists of this kind
-abbrev now : Bor (List (Vec ℕ Global)) → List (Vec ℕ Global)
+abbrev now : Bor (List (List ℕ)) → List (List ℕ)
 now adjacency = adjacency.now
 
 pub neighbors-requires : goal.neighbors-requires

@@ -1,5 +1,5 @@
 use Rattle.std.proofs.Common.{◌++◌, ◌<◌, ◌↔◌, ◌∷◌, ◌≡◌}
-use Rattle.plan_choice.proofs.Prelude.{[], All, ap, AreSuccessorsOf, Bool, count_of, Global, IfOk, IndexedCase, IsMember, IsReached, LeadsInside, length, List, Listed, subst, sym, Vec, within-both, ℕ, ◌∙◌}
+use Rattle.plan_choice.proofs.Prelude.{[], All, ap, AreSuccessorsOf, Bool, count_of, IfOk, IndexedCase, IsMember, IsReached, LeadsInside, length, List, Listed, subst, sym, within-both, ℕ, ◌∙◌}
 use Rattle.plan_choice.proofs.{ChoiceLemmas.{bits_are, chosen_is}, Fitting.{one_place, successors_fit}}
 use Rattle.plan_choice.proofs.case_sets.CaseSets.chosen.Goals as goal
 
@@ -11,7 +11,7 @@ reached_inside-requires c =
     let case = c.args.self.now in
     let rest : length c.deref-2.result.now ≡ count_of case = ap (λ l. length l) c.deref-2.ensures.value ∙ c.in_ok-rest.ensures.units in
     let asks = subst (λ (adjacency : IndexedCase). c.in_ok-asks.asks ≡ adjacency.needs ++ adjacency.wants) c.self.view_is c.in_ok-asks.ensures.both in
-    let P : List (List (Vec ℕ Global)) → Type 0 = λ ks. AreSuccessorsOf (length c.deref-2.result.now) ks in
+    let P : List (List (List ℕ)) → Type 0 = λ ks. AreSuccessorsOf (length c.deref-2.result.now) ks in
     let Q : ℕ → Type 0 = λ n. All (λ v. v < n) (case.target ∷ []) in
     record {
       successors = subst P (sym asks) (successors_fit _ (count_of case) (case.needs ++ case.wants) (within-both (count_of case) case.needs case.wants case.valid_needs case.valid_wants) rest);
@@ -23,7 +23,7 @@ returns c =
     let case = c.args.self.now in
     let rest : length c.deref-2.result.now ≡ count_of case = ap (λ l. length l) c.deref-2.ensures.value ∙ c.in_ok-rest.ensures.units in
     let asks = subst (λ (adjacency : IndexedCase). c.in_ok-asks.asks ≡ adjacency.needs ++ adjacency.wants) c.self.view_is c.in_ok-asks.ensures.both in
-    let P : List Bool → List (List (Vec ℕ Global)) → Type 0 = λ m ks. IfOk c.reached_inside.result (λ bits. (v : ℕ) → IsMember bits.items v ↔ IsReached (Listed (case.target ∷ [])) (LeadsInside m ks) v) in
+    let P : List Bool → List (List (List ℕ)) → Type 0 = λ m ks. IfOk c.reached_inside.result (λ bits. (v : ℕ) → IsMember bits.items v ↔ IsReached (Listed (case.target ∷ [])) (LeadsInside m ks) v) in
     let there = subst (λ (adjacency : IndexedCase). IfOk c.reached_inside.result (λ bits. (v : ℕ) → IsMember bits.items v ↔ IsReached (Listed (adjacency.target ∷ [])) (LeadsInside c.deref-2.result.now c.in_ok-asks.asks) v)) c.self.view_is c.reached_inside.ensures.reached in
     let reached = subst (λ m. P m (case.needs ++ case.wants)) c.deref-2.ensures.value (subst (P c.deref-2.result.now) asks there) in
     bits_are _ _ _ _ rest (chosen_is case c.in_ok-rest.rest.items c.in_ok-rest.ensures) c.reached_inside.result c.reached_inside.ensures.units reached

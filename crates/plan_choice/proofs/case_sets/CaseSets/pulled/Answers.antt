@@ -1,5 +1,5 @@
 use Rattle.std.proofs.Common.{◌++◌, ◌<◌, ◌↔◌, ◌∷◌, ◌≡◌}
-use Rattle.plan_choice.proofs.Prelude.{[], All, ap, AreSuccessorsOf, Bool, count_of, Global, IfOk, IndexedCase, IsMember, IsReached, LeadsInside, length, List, Listed, subst, sym, Vec, within-both, ℕ, ◌∙◌}
+use Rattle.plan_choice.proofs.Prelude.{[], All, ap, AreSuccessorsOf, Bool, count_of, IfOk, IndexedCase, IsMember, IsReached, LeadsInside, length, List, Listed, subst, sym, within-both, ℕ, ◌∙◌}
 use Rattle.plan_choice.proofs.{ChoiceLemmas.{bits_are, pulled_is}, Fitting.{one_place, successors_fit}}
 use Rattle.plan_choice.proofs.case_sets.CaseSets.pulled.Goals as goal
 
@@ -7,7 +7,7 @@ pub reached_inside-requires : goal.reached_inside-requires
 reached_inside-requires c =
     let case = c.args.self.now in
     let units : length c.deref.result.now ≡ count_of case = ap (λ l. length l) c.deref.ensures.value ∙ c.in_ok-good.ensures.units in
-    let P : List (List (Vec ℕ Global)) → Type 0 = λ ks. AreSuccessorsOf (length c.deref.result.now) ks in
+    let P : List (List (List ℕ)) → Type 0 = λ ks. AreSuccessorsOf (length c.deref.result.now) ks in
     let Q : ℕ → Type 0 = λ n. All (λ v. v < n) (case.target ∷ []) in
     record {
       successors = subst P (sym c.requires.asks) (successors_fit _ (count_of case) (case.needs ++ case.wants) (within-both (count_of case) case.needs case.wants case.valid_needs case.valid_wants) units);
@@ -18,7 +18,7 @@ pub returns : goal.returns
 returns c =
     let case = c.args.self.now in
     let units : length c.deref.result.now ≡ count_of case = ap (λ l. length l) c.deref.ensures.value ∙ c.in_ok-good.ensures.units in
-    let P : List Bool → List (List (Vec ℕ Global)) → Type 0 = λ m ks. IfOk c.reached_inside.result (λ bits. (v : ℕ) → IsMember bits.items v ↔ IsReached (Listed (case.target ∷ [])) (LeadsInside m ks) v) in
+    let P : List Bool → List (List (List ℕ)) → Type 0 = λ m ks. IfOk c.reached_inside.result (λ bits. (v : ℕ) → IsMember bits.items v ↔ IsReached (Listed (case.target ∷ [])) (LeadsInside m ks) v) in
     let there = subst (λ (adjacency : IndexedCase). IfOk c.reached_inside.result (λ bits. (v : ℕ) → IsMember bits.items v ↔ IsReached (Listed (adjacency.target ∷ [])) (LeadsInside c.deref.result.now c.args.asks.now) v)) c.self.view_is c.reached_inside.ensures.reached in
     let reached = subst (λ m. P m (case.needs ++ case.wants)) c.deref.ensures.value (subst (P c.deref.result.now) c.requires.asks there) in
     bits_are _ _ _ _ units (pulled_is case c.requires.clear c.in_ok-good.good.items c.in_ok-good.ensures) c.reached_inside.result c.reached_inside.ensures.units reached

@@ -1,5 +1,0 @@
-use Rattle.inverse_deps.proofs.Prelude.{AreTransposedIn, links_in, take}
-use Rattle.inverse_deps.proofs.link_adjacency.add_transposed.Given as goal
-
-abbrev pub invariant-loop-dep : goal.invariant-loop-dep
-invariant-loop-dep l = AreTransposedIn (links_in l.initial.adjacency.items) (take l.dep-index l.deps) l.from (links_in l.adjacency.items)

@@ -1,6 +1,0 @@
-use Rattle.std.proofs.Common.{◌≡◌}
-use Rattle.inverse_deps.proofs.Prelude.{length}
-use Rattle.inverse_deps.proofs.link_adjacency.count_on.Given as goal
-
-abbrev pub invariant-loop-dep : goal.invariant-loop-dep
-invariant-loop-dep l = length l.counts.items ≡ length l.initial.counts.items

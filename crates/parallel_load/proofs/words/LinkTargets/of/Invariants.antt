@@ -1,6 +1,0 @@
-use Rattle.std.proofs.Common.{◌++◌, ◌≡◌}
-use Rattle.parallel_load.proofs.Prelude.{drop, levels, link_targets, map, Some, targets_in, words_of}
-use Rattle.parallel_load.proofs.words.LinkTargets.of.Given as goal
-
-abbrev pub invariant-loop-level : goal.invariant-loop-level
-invariant-loop-level l = map (λ target. Some target) l.links ++ words_of (targets_in l.view l.name (drop l.level levels)) ≡ link_targets l.view l.name
