@@ -14,7 +14,7 @@ use std::alloc::AllocError;
 pub type Entry = join_law::Entry<Content>;
 
 /// A write to one place: a content with the version of the write.
-#[derive(Debug, PartialEq, Eq, Drop)]
+#[derive(Debug, PartialEq, Eq)]
 pub struct Edit {
     /// The place that it writes to.
     pub place: Place,
@@ -24,7 +24,31 @@ pub struct Edit {
     pub content: Content,
 }
 
+impl Drop for Edit {
+    fn drop(self) {
+        let Edit {
+            place: _,
+            version: _,
+            content: _,
+        } = self;
+    }
+}
+
 impl Edit {
+    /// Takes the edit apart.
+    pub fn into_parts(self) -> (Place, Version, Content)
+        ensures place { result.0 ≡ self.place }
+        ensures version { result.1 ≡ self.version }
+        ensures content { result.2 ≡ self.content }
+    {
+        let Edit {
+            place,
+            version,
+            content,
+        } = self;
+        (place, version, content)
+    }
+
     /// Returns an equal edit. Fails only if memory runs out.
     pub fn try_clone(&self) -> Result<Edit, AllocError>
         ensures copy { IfOk result (λ copy. copy ≡ self.now) }
@@ -38,7 +62,7 @@ impl Edit {
 }
 
 /// An edit from a store without hosts: a write to a path, for the whole fleet.
-#[derive(Debug, PartialEq, Eq, Drop)]
+#[derive(Debug, PartialEq, Eq)]
 pub struct FlatEdit {
     /// The path that it writes to.
     pub path: Path,
@@ -46,6 +70,16 @@ pub struct FlatEdit {
     pub version: Version,
     /// The content that it writes.
     pub content: Content,
+}
+
+impl Drop for FlatEdit {
+    fn drop(self) {
+        let FlatEdit {
+            path: _,
+            version: _,
+            content: _,
+        } = self;
+    }
 }
 
 impl FlatEdit {

@@ -27,11 +27,20 @@ type OwnAliases = BTreeMap<UnitName, UnitName>;
 ///
 /// It borrows the store. Made once, it resolves names of the store and finds the names of each unit. In contracts it is
 /// what is seen of the store.
-#[derive(Drop)]
 pub struct AliasIndex<'a> {
     view: HostView<'a>,
     aliases: OwnAliases,
     owners: Owners,
+}
+
+impl<'a> Drop for AliasIndex<'a> {
+    fn drop(self) {
+        let AliasIndex {
+            view: _,
+            aliases: _,
+            owners: _,
+        } = self;
+    }
 }
 
 impl<'a> Model for AliasIndex<'a> {

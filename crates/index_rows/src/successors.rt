@@ -9,9 +9,14 @@ use std::alloc::{AllocError, Global};
 use std::marker::Model;
 
 /// Edges between nodes, of one or more kinds. Each kind has its own adjacency lists, which are borrowed.
-#[derive(Drop)]
 pub struct Successors<'a> {
     kinds: Vec<&'a AdjacencyLists>,
+}
+
+impl<'a> Drop for Successors<'a> {
+    fn drop(self) {
+        let Successors { kinds: _ } = self;
+    }
 }
 
 impl<'a> Model for Successors<'a> {

@@ -117,7 +117,7 @@ impl Key for Scope {
 }
 
 /// A path, for the whole fleet or for one host. Places are ordered by scope, then by path.
-#[derive(Debug, PartialEq, Eq, PartialOrd, Ord, Drop)]
+#[derive(Debug, PartialEq, Eq, PartialOrd, Ord)]
 pub struct Place {
     /// For whom the place is.
     pub scope: Scope,
@@ -125,7 +125,22 @@ pub struct Place {
     pub path: Path,
 }
 
+impl Drop for Place {
+    fn drop(self) {
+        let Place { scope: _, path: _ } = self;
+    }
+}
+
 impl Place {
+    /// Takes the place apart.
+    pub fn into_parts(self) -> (Scope, Path)
+        ensures scope { result.0 ≡ self.scope }
+        ensures path { result.1 ≡ self.path }
+    {
+        let Place { scope, path } = self;
+        (scope, path)
+    }
+
     /// Returns an equal place that shares the bytes. Fails only if memory runs out.
     pub fn try_clone(&self) -> Result<Place, AllocError>
         ensures copy { IfOk result (λ copy. copy ≡ self.now) }

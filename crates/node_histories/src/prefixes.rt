@@ -9,11 +9,20 @@ use std::marker::{Model, PhantomData};
 
 /// A prefix of the history of the node that N names, as far as it was seen. Contracts see it as its events: the history
 /// is valid, and opened over what N says.
-#[derive(Drop)]
 pub struct HistoryPrefix<N: NodeName> {
     takes: u64,
     seen: History,
     of: PhantomData<N>,
+}
+
+impl<N: NodeName> Drop for HistoryPrefix<N> {
+    fn drop(self) {
+        let HistoryPrefix {
+            takes: _,
+            seen: _,
+            of: _,
+        } = self;
+    }
 }
 
 impl<N: NodeName> Model for HistoryPrefix<N> {
@@ -31,12 +40,22 @@ impl<N: NodeName> Model for HistoryPrefix<N> {
 }
 
 // A prefix to which an event is about to be added.
-#[derive(Drop)]
 pub(crate) struct Turn<N: NodeName> {
     takes: u64,
     seen: History,
     offer: Asking,
     of: PhantomData<N>,
+}
+
+impl<N: NodeName> Drop for Turn<N> {
+    fn drop(self) {
+        let Turn {
+            takes: _,
+            seen: _,
+            offer: _,
+            of: _,
+        } = self;
+    }
 }
 
 impl<N: NodeName> Model for Turn<N> {

@@ -191,7 +191,8 @@ impl PublishedCopy {
             content,
         };
         let (turn, edit) = self.turn_to::<N, Edit>(seat, edit);
-        let Ok(version) = replica.put(edit.place, edit.content) else {
+        let (place, _, content) = edit.into_parts();
+        let Ok(version) = replica.put(place, content) else {
             return Err(AllocError);
         };
         let published_copy = next_copy(turn, head, replica)?;

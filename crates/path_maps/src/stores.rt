@@ -284,15 +284,11 @@ impl Store {
         ensures err { OnErr result (self.new ≡ self.old) }
         ensures held { IsSome (finmap.get self.old edit.place) → IsOk result }
     {
-        let Edit {
-            place,
-            version,
-            content,
-        } = edit;
-        if self.is_full_for(&place) {
+        if self.is_full_for(&edit.place) {
             return Err(AllocError);
         }
-        let Place { scope, path } = place;
+        let (place, version, content) = edit.into_parts();
+        let (scope, path) = place.into_parts();
         let (rank, folder, name) = path.into_parts();
         let value = Versioned::At(Entry { version, content });
         let addition = AddAt {

@@ -19,7 +19,7 @@ impl Drop for IndexedPlan {
 }
 
 /// Why there is no plan, by indices or by names of units, in the order in which the causes are tested.
-#[derive(Debug, Drop)]
+#[derive(Debug)]
 pub enum PlanRefusal<N: Drop> {
     /// The target isn't loaded.
     Target(N),
@@ -33,4 +33,17 @@ pub enum PlanRefusal<N: Drop> {
     Conflict(N, N),
     /// Units that are to start and wait for each other, from the least on, each before the next.
     Cycle(Items<N>),
+}
+
+impl<N: Drop> Drop for PlanRefusal<N> {
+    fn drop(self) {
+        match self {
+            PlanRefusal::Target(_) => (),
+            PlanRefusal::Need(_) => (),
+            PlanRefusal::ManualStart => (),
+            PlanRefusal::Requisite(_, _) => (),
+            PlanRefusal::Conflict(_, _) => (),
+            PlanRefusal::Cycle(_) => (),
+        }
+    }
 }

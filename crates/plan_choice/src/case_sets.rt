@@ -18,12 +18,22 @@ use std::marker::Model;
 
 // A borrowed case, with the set of units that aren't running, the set of units that the target needs, and edges from
 // each unit to those that conflict with it. In contracts it is the case.
-#[derive(Drop)]
 pub struct CaseSets<'c, 'a> {
     pub case: &'c IndexedCase<'a>,
     pub idle: Vec<bool>,
     pub needed: Vec<bool>,
     pub conflicting: Successors<'a>,
+}
+
+impl<'c, 'a> Drop for CaseSets<'c, 'a> {
+    fn drop(self) {
+        let CaseSets {
+            case: _,
+            idle: _,
+            needed: _,
+            conflicting: _,
+        } = self;
+    }
 }
 
 impl<'c, 'a> Model for CaseSets<'c, 'a> {

@@ -9,11 +9,20 @@ use node_histories::{HistoryPrefix, NodeName, PublishedCopy};
 use std::marker::Model;
 
 // The takes, the greatest counter of their edits, and how many of them each seat made.
-#[derive(Drop)]
 pub(crate) struct Account<N: NodeName> {
     prefix: HistoryPrefix<N>,
     counter: u64,
     counts: Vec<u64>,
+}
+
+impl<N: NodeName> Drop for Account<N> {
+    fn drop(self) {
+        let Account {
+            prefix: _,
+            counter: _,
+            counts: _,
+        } = self;
+    }
 }
 
 impl<N: NodeName> Model for Account<N> {

@@ -5,7 +5,6 @@ use node_histories::NodeName;
 use thiserror::Error;
 
 /// Why a node gives no seat, or why it didn't accept or publish a take.
-#[derive(Drop)]
 pub enum NodeFault<N: NodeName> {
     /// A2: all seats are given out, or there is no slot for another reader.
     NoSeat,
@@ -25,6 +24,19 @@ pub enum NodeFault<N: NodeName> {
     VersionsSpent,
     /// Memory ran out, and nothing was accepted. A pending take may have been published.
     Memory,
+}
+
+impl<N: NodeName> Drop for NodeFault<N> {
+    fn drop(self) {
+        match self {
+            NodeFault::NoSeat => (),
+            NodeFault::Pending { version: _ } => (),
+            NodeFault::TakesSpent(_) => (),
+            NodeFault::Disagree(_, _) => (),
+            NodeFault::VersionsSpent => (),
+            NodeFault::Memory => (),
+        }
+    }
 }
 
 /// Why a node isn't closed.

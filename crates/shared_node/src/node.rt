@@ -25,11 +25,20 @@ pub struct Node<N: NodeName> {
 }
 
 /// What is left of a closed node: its replica, how many takes it had, and a token of its history.
-#[derive(Drop)]
 pub struct Closed {
     pub replica: Replica,
     pub takes: u64,
     pub seen: History,
+}
+
+impl Drop for Closed {
+    fn drop(self) {
+        let Closed {
+            replica: _,
+            takes: _,
+            seen: _,
+        } = self;
+    }
 }
 
 /// Why a node wasn't closed. Returns the node and the seats.

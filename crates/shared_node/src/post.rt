@@ -49,9 +49,14 @@ impl<N: NodeName> Model for Post<N> {
 }
 
 /// A token of a published history, which other seats of the node can learn. Contracts see it as the history's events.
-#[derive(Drop)]
 pub struct Told<N: NodeName> {
     prefix: HistoryPrefix<N>,
+}
+
+impl<N: NodeName> Drop for Told<N> {
+    fn drop(self) {
+        let Told { prefix: _ } = self;
+    }
 }
 
 impl<N: NodeName> Model for Told<N> {

@@ -14,12 +14,22 @@ use std::marker::Model;
 /// One thread's place at the node that N names: the thread edits, absorbs and views through it. Contracts see what the
 /// seat has seen of the node's history, how many takes it made, and its number. A lost seat can't be replaced; its node
 /// can then only be ended.
-#[derive(Drop)]
 pub struct Seat<N: NodeName> {
     pub(crate) reader: CopyReader,
     pub(crate) prefix: HistoryPrefix<N>,
     pub(crate) calls: u64,
     pub(crate) number: usize,
+}
+
+impl<N: NodeName> Drop for Seat<N> {
+    fn drop(self) {
+        let Seat {
+            reader: _,
+            prefix: _,
+            calls: _,
+            number: _,
+        } = self;
+    }
 }
 
 impl<N: NodeName> Model for Seat<N> {

@@ -48,7 +48,7 @@ fn step_of<N: NodeName, T: Drop>(taken: Result<T, NodeFault<N>>) -> Step
 {
     match taken {
         Ok(_) => Step::Answered,
-        Err(NodeFault::Pending { version: _ }) => Step::Pending,
+        Err(NodeFault::Pending { .. }) => Step::Pending,
         Err(_) => Step::Refused,
     }
 }

@@ -12,10 +12,15 @@ use std::marker::Model;
 
 /// Nodes that can start: those that could from the beginning, in ascending order, and those that were added later. Only
 /// the latter need a tree.
-#[derive(Drop)]
 pub struct Free {
     first: VecDeque<usize>,
     later: BTreeSet<usize>,
+}
+
+impl Drop for Free {
+    fn drop(self) {
+        let Free { first: _, later: _ } = self;
+    }
 }
 
 impl Model for Free {

@@ -14,10 +14,18 @@ use std::marker::Model;
 use unit_name::UnitName;
 
 /// The graph of a load: its names indexed in byte order, and the edges of each kind from each unit, by name.
-#[derive(Drop)]
 pub struct Graph<'a> {
     loaded: &'a Loaded,
     edges: &'a Edges,
+}
+
+impl<'a> Drop for Graph<'a> {
+    fn drop(self) {
+        let Graph {
+            loaded: _,
+            edges: _,
+        } = self;
+    }
 }
 
 impl<'a> Model for Graph<'a> {

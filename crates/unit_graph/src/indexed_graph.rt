@@ -16,10 +16,18 @@ use unit_name::UnitName;
 
 /// The graph of a load by index: its names indexed in byte order, and the edges of each kind from each unit. Contracts
 /// see the load, and the edges by name that its table makes.
-#[derive(Drop)]
 pub struct IndexedGraph<'a> {
     loaded: &'a Loaded,
     table: &'a EdgeTable,
+}
+
+impl<'a> Drop for IndexedGraph<'a> {
+    fn drop(self) {
+        let IndexedGraph {
+            loaded: _,
+            table: _,
+        } = self;
+    }
 }
 
 impl<'a> Model for IndexedGraph<'a> {

@@ -99,10 +99,18 @@ fn append_beside(out: &mut Answer, text: &[u8], before: &[u8]) {
 }
 
 /// A question and numbers, as the numbers of workers by which it is answered.
-#[derive(Drop)]
 pub struct Asking {
     pub question: Question,
     pub counts: Vec<usize>,
+}
+
+impl Drop for Asking {
+    fn drop(self) {
+        let Asking {
+            question: _,
+            counts: _,
+        } = self;
+    }
 }
 
 /// A question and numbers, with which a line ends.

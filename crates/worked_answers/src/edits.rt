@@ -10,11 +10,20 @@ pub type Viewer = Option<HostName>;
 pub type Done = Result<(), LineFault>;
 
 /// A store, the host that looks at it, if there is one, and the names that are asked for.
-#[derive(Drop)]
 pub struct Asked {
     pub host: Viewer,
     pub store: Store,
     pub names: Vec<UnitName>,
+}
+
+impl Drop for Asked {
+    fn drop(self) {
+        let Asked {
+            host: _,
+            store: _,
+            names: _,
+        } = self;
+    }
 }
 
 /// What a list of edits and a list of names write, for a call that a host makes, or none.

@@ -7,12 +7,21 @@ use std::fmt::Display;
 use unit_name::UnitName;
 
 /// The answer to a call, as far as it is written. It remembers whether memory ran out, so that its calls return nothing.
-#[derive(Drop)]
 pub struct Answer {
     /// The allocator of its memory.
     pub alloc: Global,
     bytes: Vec<u8>,
     is_cut_off: bool,
+}
+
+impl Drop for Answer {
+    fn drop(self) {
+        let Answer {
+            alloc: _,
+            bytes: _,
+            is_cut_off: _,
+        } = self;
+    }
 }
 
 impl Answer {
@@ -32,10 +41,15 @@ impl Answer {
 
     /// Returns the answer, unless memory ran out while it was written.
     pub fn finish(self) -> Result<Vec<u8>, LineFault> {
-        if self.is_cut_off {
+        let Answer {
+            alloc: _,
+            bytes,
+            is_cut_off,
+        } = self;
+        if is_cut_off {
             return Err(LineFault::Memory(AllocError));
         }
-        Ok(self.bytes)
+        Ok(bytes)
     }
 
     /// Writes bytes as they are.

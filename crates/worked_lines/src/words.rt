@@ -12,11 +12,16 @@ use std::alloc::Global;
 use unit_name::UnitName;
 
 /// The words of a line that are left.
-#[derive(Drop)]
 pub struct Words<'a> {
     /// The allocator of a call's memory.
     pub alloc: Global,
     rest: &'a [u8],
+}
+
+impl<'a> Drop for Words<'a> {
+    fn drop(self) {
+        let Words { alloc: _, rest: _ } = self;
+    }
 }
 
 impl<'a> Words<'a> {
@@ -139,12 +144,8 @@ impl<'a> Words<'a> {
     pub fn flat_edits(&mut self) -> Result<Vec<FlatEdit>, LineFault> {
         let mut edits = Vec::new(self.alloc);
         for edit in self.edits()? {
-            let Edit {
-                place,
-                version,
-                content,
-            } = edit;
-            let Place { scope: _, path } = place;
+            let (place, version, content) = edit.into_parts();
+            let (_, path) = place.into_parts();
             edits.push(FlatEdit {
                 path,
                 version,

@@ -8,11 +8,20 @@ use std::fmt::Display;
 use worked_lines::Answer;
 
 /// The seats that a node gave, by number, the last token that it returned, and the answers so far.
-#[derive(Drop)]
 pub struct Bench<N: NodeName> {
     pub seats: Vec<Option<Seat<N>>>,
     pub token: Option<Told<N>>,
     pub out: Answer,
+}
+
+impl<N: NodeName> Drop for Bench<N> {
+    fn drop(self) {
+        let Bench {
+            seats: _,
+            token: _,
+            out: _,
+        } = self;
+    }
 }
 
 impl<N: NodeName> Bench<N> {

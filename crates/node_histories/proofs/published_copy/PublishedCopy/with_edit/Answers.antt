@@ -10,7 +10,10 @@ next_copy-requires-clause-kept g c =
     let kept : r ≡ replica_of h = c.in_ok-replica.ensures.copy ∙ c.deref.ensures ∙ c.args.self.now.kept in
     let version : e.version ≡ next_version r = version_next h r c.counter.result c.writer.result kept c.counter.ensures.counter c.writer.ensures.writer in
     let turned = c.turn_to-turn in
-    let same : record { place = turned.result.1.place; version = next_version r; content = turned.result.1.content } ≡ e = λ i. record { place = (turned.ensures.what i).place; version = sym version i; content = (turned.ensures.what i).content } in
+    let parts = c.into_parts-place in
+    let place = parts.ensures.place ∙ ap (λ (x : Edit). x.place) turned.ensures.what in
+    let content = parts.ensures.content ∙ ap (λ (x : Edit). x.content) turned.ensures.what in
+    let same : record { place = parts.result.0; version = next_version r; content = parts.result.2 } ≡ e = λ i. record { place = place i; version = sym version i; content = content i } in
     let put : c.put.new.self ≡ record r { store = with_edit r.store e } = c.in-Ok.ensures.joined ∙ ap (λ (x : Edit). record r { store = with_edit r.store x }) same in
     let seen : turned.result.0.seen ≡ h = cc in
     let ask : turned.result.0.ask ≡ Edited c.args.seat e = cc in
