@@ -1,0 +1,3 @@
+
+
+pub mod Scoping

@@ -1,0 +1,14 @@
+pub mod Spelling
+pub mod Reading
+pub mod ListSpelling
+pub mod ListReading
+pub mod PartLaws
+pub mod WholeLaws
+pub mod Stores
+pub mod Parts
+pub mod Scopes
+pub mod PartingLaws
+pub mod Streams
+pub mod Bytes
+pub mod StoreLaws
+pub mod BytesLaws
