@@ -1,3 +1,2 @@
-
-
 pub mod Scoping
+pub mod Steps

@@ -1,6 +1,7 @@
 //! The entries of a store by scope, appended to bytes.
-ghost use Rattle.std.specs.{Option.{IfSome, IsNone}, Prelude.{[], OnOk, flat_map, length, ◌++◌, ◌≡◌, ◌≤◌}};
-ghost use Rattle.store_bytes.specs.{ListSpelling.{pair, pairs}, Parts.{by_path, leading, parted}, Spelling.{entry, path, scope}};
+ghost use Rattle.std.specs.{List.{AllByRecursion}, Option.{IfSome, IsNone}, Prelude.{[], OnOk, flat_map, length, ◌++◌, ◌≡◌, ◌≤◌}};
+ghost use Rattle.load_path.specs.Paths.{IsPath};
+ghost use Rattle.store_bytes.specs.{ListSpelling.{pair, pairs}, Parts.{by_path, leading, parted}, PartingLaws.{AreFit}, Spelling.{entry, IsEntry, path, scope}};
 ghost use Rattle.store_bytes.specs.Scopes.{IsFirstScope};
 
 use crate::writing::{put_entry, put_path, put_scope};
@@ -12,6 +13,7 @@ use std::alloc::AllocError;
 // Appends entries in place order, by scope: each scope with its entries by path.
 pub(crate) fn put_scopes(out: &mut Vec<u8>, list: &[(Place, Entry)]) -> Result<(), AllocError>
     ensures written { OnOk result (out.new.items ≡ out.old.items ++ pairs scope (pairs path entry) (parted list.now)) }
+    ensures fits { OnOk result (AreFit (parted list.now)) }
 {
     put_number(out, count_scopes(list))?;
     put_each(out, list)
@@ -33,6 +35,7 @@ fn count_scopes(list: &[(Place, Entry)]) -> u64
 // Appends each scope with its entries.
 fn put_each(out: &mut Vec<u8>, list: &[(Place, Entry)]) -> Result<(), AllocError>
     ensures written { OnOk result (out.new.items ≡ out.old.items ++ flat_map (pair scope (pairs path entry)) (parted list.now)) }
+    ensures fits { OnOk result (AreFit (parted list.now)) }
 {
     let mut rest = list;
     while let Some((own, others)) = first_scope(rest) {
@@ -46,6 +49,7 @@ fn put_each(out: &mut Vec<u8>, list: &[(Place, Entry)]) -> Result<(), AllocError
 // Appends entries of one scope by path.
 fn put_entries(out: &mut Vec<u8>, own: &[(Place, Entry)]) -> Result<(), AllocError>
     ensures written { OnOk result (out.new.items ≡ out.old.items ++ pairs path entry (by_path own.now)) }
+    ensures fits { OnOk result (AllByRecursion (λ p. IsPath p.0 × IsEntry p.1) (by_path own.now)) }
 {
     put_number(out, own.len() as u64)?;
     for (place, one) in own {
