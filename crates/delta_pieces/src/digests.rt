@@ -51,8 +51,8 @@ impl Digest {
         }
     }
 
-    // Makes a digest of versions whose places are in ascending order. Allocates nothing.
-    pub(crate) fn from_versions(versions: Vec<(Place, Version)>) -> Digest
+    /// Makes a digest of versions whose places are in ascending order. Allocates nothing.
+    pub fn from_versions(versions: Vec<(Place, Version)>) -> Digest
         requires sorted { IsTrue (is_sorted place_cmp versions.items) }
         ensures versions { finmap.entries result ≡ versions.items }
     {

@@ -58,8 +58,8 @@ impl Piece {
         })
     }
 
-    // Makes a piece of this store. Allocates nothing.
-    pub(crate) fn from_store(store: Store) -> Piece
+    /// Makes a piece of this store. Allocates nothing.
+    pub fn from_store(store: Store) -> Piece
         ensures store { result ≡ store }
     {
         Piece { store }

@@ -1,14 +1,9 @@
 -- Entries are split after those of the first scope.
 use Rattle.std.proofs.Common.{◌≡◌, ◌+◌, ◌-◌, ◌<◌, ◌≤◌, ◌∷◌, ◌++◌}
 use Rattle.std.proofs.Common.{not, ℕ, zero, suc, Bool, true, false, cond, List, [], length, take, drop, get_or, refl, sym, ap, subst, ◌∙◌, arith, take-append-drop, length-drop}
-use Rattle.std.proofs.lemmas.List.{drop-drop, drop_all, take_all}
+use Rattle.std.proofs.lemmas.List.{drop-drop, take_all}
 use Rattle.std.specs.Ordering.{eq_by_cmp, is_eq}
 use Rattle.std.specs.Cmp.{tied_itself}
-use Rattle.std.specs.List.{AllByRecursion}
-use Rattle.load_path.specs.Paths.{IsPath}
-use Rattle.load_places.specs.Texts.{IsScope}
-use Rattle.store_bytes.specs.Spelling.{IsEntry}
-use Rattle.store_bytes.specs.PartingLaws.{AreFit}
 use Rattle.load_places.specs.Places.{PlaceParts, scope_cmp}
 use Rattle.load_places.specs.PlaceLaws.{scope_cmp_total}
 use Rattle.load_places.specs.declared.places.Scope.{Scope}
@@ -80,26 +75,3 @@ counted_from es start n first e count =
     count
     ∙ ap (λ (l : List (PlaceParts × Entry)). leading (get_or es start first).0.scope l) (take_all (length es - start) (drop start es) (omega (arith, len)))
     ∙ ap (λ (z : PlaceParts × Entry). leading z.0.scope (drop start es)) (sym e)
-
--- ---- what is written has a spelling
-
-abbrev ByPathFit : List (PlaceParts × Entry) → Type 0
-ByPathFit es = AllByRecursion (λ p. IsPath p.0 × IsEntry p.1) (by_path es)
-
--- one more entry that fits
-pub fits_more : {R : Type 0} (es : List (PlaceParts × Entry)) (i : ℕ) (x : PlaceParts × Entry) → i < length es → x ≡ get_or es i x → IsPath x.0.path → IsEntry x.1
-    → (AllByRecursion (λ p. IsPath p.0 × IsEntry p.1) (by_path (drop i es)) → R) → AllByRecursion (λ p. IsPath p.0 × IsEntry p.1) (by_path (drop (i + 1) es)) → R
-fits_more es i x lt e p q so_far rest = so_far (subst ByPathFit (sym (starts_with es i x lt e)) ((p, q), rest))
-
-pub all_fit : {R : Type 0} (es : List (PlaceParts × Entry)) (i : ℕ) → length es ≤ i → (AllByRecursion (λ p. IsPath p.0 × IsEntry p.1) (by_path (drop i es)) → R) → R
-all_fit es i le so_far = so_far (subst ByPathFit (sym (drop_all i es le)) tt)
-
--- one more scope that fits
-pub scope_fits : {R : Type 0} (list own others : List (PlaceParts × Entry)) (x : PlaceParts × Entry) → IsFirstScope list own others → x ≡ get_or own 0 x → IsScope x.0.scope
-    → AllByRecursion (λ p. IsPath p.0 × IsEntry p.1) (by_path own) → (AreFit (parted list) → R) → AreFit (parted others) → R
-scope_fits list own others x is e scope fit so_far rest =
-    let same : x ≡ is.first = e ∙ ap (λ (l : List (PlaceParts × Entry)). get_or l 0 x) is.own_is in
-    so_far (subst AreFit (sym is.parts) ((subst (λ (y : PlaceParts × Entry). IsScope y.0.scope) same scope, fit), rest))
-
-pub scopes_fit : {R : Type 0} (rest : List (PlaceParts × Entry)) → parted rest ≡ [] → (AreFit (parted rest) → R) → R
-scopes_fit rest none so_far = so_far (subst AreFit (sym none) tt)

@@ -1,0 +1,125 @@
+-- What is read one by one is what the bytes spell.
+use Rattle.std.proofs.Common.{◌≡◌, ℕ, ◌++◌, ◌∷◌, ◌^◌, ◌<◌, [], List, length, IsTrue, map, Result, Ok, Err, refl, sym, ap, subst, ◌∙◌, append_assoc}
+use Rattle.std.specs.Prelude.{IfErr, IfOk}
+use Rattle.std.proofs.lemmas.List.{append-nil, map_push}
+use Rattle.std.specs.FinMap.{is_sorted}
+use Rattle.std.specs.FinMap as finmap
+use Rattle.list_laws.specs.Truths.{from_T, to_T}
+use Rattle.std.specs.List.{AllByRecursion}
+use Rattle.store_bytes.specs.Spelling.{IsPlace, IsVersion}
+use Rattle.byte_fields.specs.FieldLaws.{ok_is}
+use Rattle.byte_fields.specs.Laws.{IsBytes}
+use Rattle.byte_fields.specs.Reading.{◌>>=◌, Fails, Gives}
+use Rattle.byte_fields.specs.declared.faults.DecodeFault.{DecodeFault}
+use Rattle.byte_fields.specs.declared.faults.DecodeFault.TheVariants as decode
+use Rattle.byte_fields.specs.declared.faults.SpellingFault.{SpellingFault}
+use Rattle.join_law.specs.declared.versions.Version.{Version}
+use Rattle.load_places.specs.Places.{place_cmp, PlaceParts}
+use Rattle.edit_sums.specs.Entries.{Entry}
+use Rattle.edit_sums.specs.Sums.{edit_of, EntryMap, sum_of, with_edit}
+use Rattle.edit_sums.specs.SumLaws.{sum_of-edits_of, sum_of-push}
+use Rattle.world_law.specs.Cuts.{VersionMap}
+use Rattle.store_bytes.specs.Bytes.{digest_spelling, entries_in, HasSpelling, HasVersionSpelling, spelling_of, versions_in}
+use Rattle.store_bytes.specs.BytesLaws.{AreEntriesOf, entries_again, entries_taken, versions_again, versions_taken}
+use Rattle.store_bytes.specs.Streams.{with_first, Yields}
+
+-- ---- one by one
+
+-- these came, and those that are left follow
+abbrev pub IsPartOf : {P : Type 0} → Result (List P) SpellingFault → List P → Result (List P) SpellingFault → Type 0
+IsPartOf total front left = total ≡ (left >>= λ ps. Ok (front ++ ps))
+
+part_begins : {P : Type 0} (left : Result (List P) SpellingFault) → IsPartOf left [] left
+part_begins (Ok ps) = refl
+part_begins (Err d) = refl
+
+part_goes_on : {P : Type 0} (front : List P) (p : P) (left : Result (List P) SpellingFault) → (with_first p left >>= λ ps. Ok (front ++ ps)) ≡ (left >>= λ ps. Ok ((front ++ p ∷ []) ++ ps))
+part_goes_on {P} front p (Ok ps) = ap (λ (l : List P). Ok l) (sym (append_assoc front (p ∷ []) ps))
+part_goes_on front p (Err d) = refl
+
+abbrev front_then : {P : Type 0} → List P → Result (List P) SpellingFault → Result (List P) SpellingFault
+front_then front left = left >>= λ ps. Ok (front ++ ps)
+
+pub part_more : {P : Type 0} (total : Result (List P) SpellingFault) (front : List P) (p : P) (old new : Result (List P) SpellingFault) → IsPartOf total front old → old ≡ with_first p new → IsPartOf total (front ++ p ∷ []) new
+part_more total front p old new part e = part ∙ ap (front_then front) e ∙ part_goes_on front p new
+
+pub part_ends : {P : Type 0} (total : Result (List P) SpellingFault) (front : List P) (left : Result (List P) SpellingFault) → IsPartOf total front left → left ≡ Ok [] → total ≡ Ok front
+part_ends {P} total front left part e = part ∙ ap (front_then front) e ∙ ap (λ (l : List P). Ok l) (append-nil front)
+
+pub part_fails : {P : Type 0} (total : Result (List P) SpellingFault) (front : List P) (left : Result (List P) SpellingFault) (e : DecodeFault) → IsPartOf total front left → Fails e left → Fails e total
+part_fails total front left decode.Memory part h = tt
+part_fails total front left (decode.Fault d) part h = part ∙ ap (front_then front) h
+
+pub part_starts : {P : Type 0} (total left : Result (List P) SpellingFault) → left ≡ total → IsPartOf total [] left
+part_starts total left e = sym e ∙ part_begins left
+
+-- ---- entries
+
+-- a store of entries that came
+pub record IsPartlyRead (total left : Result (List (PlaceParts × Entry)) SpellingFault) (store : EntryMap) : Type 0 where
+  pub front : List (PlaceParts × Entry)
+  pub held : store ≡ sum_of (map edit_of front)
+  pub part : IsPartOf total front left
+
+pub reading_starts : (total left : Result (List (PlaceParts × Entry)) SpellingFault) (store : EntryMap) → left ≡ total → store ≡ finmap.empty → IsPartlyRead total left store
+reading_starts total left store e none = record { front = []; held = none; part = part_starts total left e }
+
+pub reading_goes_on : (total old new : Result (List (PlaceParts × Entry)) SpellingFault) (before after : EntryMap) (p : PlaceParts × Entry) → IsPartlyRead total old before → old ≡ with_first p new
+    → after ≡ with_edit before (edit_of p) → IsPartlyRead total new after
+reading_goes_on total old new before after p is e joined = record {
+  front = is.front ++ p ∷ [];
+  held = joined ∙ ap (λ (s : EntryMap). with_edit s (edit_of p)) is.held ∙ sym (sum_of-push (map edit_of is.front) (edit_of p)) ∙ ap sum_of (sym (map_push edit_of is.front p));
+  part = part_more total is.front p old new is.part e;
+}
+
+pub reading_fails : (total left : Result (List (PlaceParts × Entry)) SpellingFault) (store : EntryMap) (e : DecodeFault) → IsPartlyRead total left store → Fails e left → Fails e total
+reading_fails total left store e is h = part_fails total is.front left e is.part h
+
+-- The sum of entries whose places are in ascending order holds just these.
+held : (es : List (PlaceParts × Entry)) → IsTrue (is_sorted place_cmp es) → finmap.entries (sum_of (map edit_of es)) ≡ es
+held es ascending =
+    ap finmap.entries (ap (λ (l : List (PlaceParts × Entry)). sum_of (map edit_of l)) (sym (finmap.entries-from_sorted place_cmp es (to_T _ ascending))) ∙ sum_of-edits_of (finmap.from_sorted {R = place_cmp} es))
+    ∙ finmap.entries-from_sorted place_cmp es (to_T _ ascending)
+
+pub reading_ends : (kind : ℕ) (bytes : List ℕ) (left : Result (List (PlaceParts × Entry)) SpellingFault) (store : EntryMap) → IsBytes bytes → IsPartlyRead (entries_in kind bytes) left store → left ≡ Ok []
+    → entries_in kind bytes ≡ Ok (finmap.entries store)
+reading_ends kind bytes left store fits is e =
+    let read : entries_in kind bytes ≡ Ok is.front = part_ends (entries_in kind bytes) is.front left is.part e in
+    let holds : finmap.entries store ≡ is.front = ap finmap.entries is.held ∙ held is.front (entries_taken kind bytes is.front fits read).ascending in
+    read ∙ ap (λ (l : List (PlaceParts × Entry)). Ok l) (sym holds)
+
+-- ---- what is read is spelled so, and what is spelled so is read
+
+pub entries_found : (kind : ℕ) (bytes : List ℕ) (r : Result EntryMap DecodeFault) → IsBytes bytes → Gives (λ s. finmap.entries s) r (entries_in kind bytes) → IfOk r (λ s. HasSpelling s × (bytes ≡ spelling_of kind s))
+entries_found kind bytes (Ok s) fits e = let are = entries_taken kind bytes (finmap.entries s) fits e in (are.scoped, are.spelled)
+entries_found kind bytes (Err f) fits e = tt
+
+pub entries_only : (kind : ℕ) (bytes : List ℕ) (r : Result EntryMap DecodeFault) → Gives (λ s. finmap.entries s) r (entries_in kind bytes) → (s : EntryMap) → HasSpelling s → bytes ≡ spelling_of kind s → Gives (λ t. t) r (Ok s)
+entries_only kind bytes (Err decode.Memory) e s is same = tt
+entries_only kind bytes (Err (decode.Fault d)) e s is same =
+    let wrong : Err d ≡ Ok (finmap.entries s) = sym e ∙ ap (entries_in kind) same ∙ entries_again kind (finmap.entries s) is in
+    absurd cc
+entries_only kind bytes (Ok t) e s is same =
+    let read : Ok (finmap.entries s) ≡ Ok (finmap.entries t) = sym (entries_again kind (finmap.entries s) is) ∙ ap (entries_in kind) (sym same) ∙ e in
+    ap (λ (m : EntryMap). Ok m) (finmap.same_entries_map s t (ok_is (finmap.entries s) (finmap.entries t) read))
+
+pub versions_found : (bytes : List ℕ) (r : Result VersionMap DecodeFault) → IsBytes bytes → Gives (λ d. finmap.entries d) r (versions_in bytes) → IfOk r (λ d. HasVersionSpelling d × (bytes ≡ digest_spelling d))
+versions_found bytes (Ok d) fits e = versions_taken bytes (finmap.entries d) fits e
+versions_found bytes (Err f) fits e = tt
+
+pub versions_only : (bytes : List ℕ) (r : Result VersionMap DecodeFault) → Gives (λ d. finmap.entries d) r (versions_in bytes) → (d : VersionMap) → HasVersionSpelling d → bytes ≡ digest_spelling d → Gives (λ t. t) r (Ok d)
+versions_only bytes (Err decode.Memory) e d is same = tt
+versions_only bytes (Err (decode.Fault f)) e d is same =
+    let wrong : Err f ≡ Ok (finmap.entries d) = sym e ∙ ap versions_in same ∙ versions_again (finmap.entries d) is in
+    absurd cc
+versions_only bytes (Ok t) e d is same =
+    let read : Ok (finmap.entries d) ≡ Ok (finmap.entries t) = sym (versions_again (finmap.entries d) is) ∙ ap versions_in (sym same) ∙ e in
+    ap (λ (m : VersionMap). Ok m) (finmap.same_entries_map d t (ok_is (finmap.entries d) (finmap.entries t) read))
+
+-- the versions of a digest that fit have a spelling
+pub versions_spelled : (d : VersionMap) (vs : List (PlaceParts × Version)) → vs ≡ finmap.entries d → length vs < 2 ^ 64 → AllByRecursion (λ p. IsPlace p.0 × IsVersion p.1) vs → HasVersionSpelling d
+versions_spelled d vs same few fit = record {
+  count = subst (λ (l : List (PlaceParts × Version)). length l < 2 ^ 64) same few;
+  each = subst (λ (l : List (PlaceParts × Version)). AllByRecursion (λ p. IsPlace p.0 × IsVersion p.1) l) same fit;
+  ascending = from_T _ (finmap.entries_sorted d);
+}
