@@ -22,8 +22,8 @@ pub fn append_content(out: &mut Answer, content: &Content) {
     }
 }
 
-// Writes a content after its version and its place.
-fn append_at(out: &mut Answer, version: Version, place: &Place, content: &Content) {
+/// Writes a content after its version and its place.
+pub fn append_at(out: &mut Answer, version: Version, place: &Place, content: &Content) {
     append_version(out, version);
     out.write(b":");
     out.write_place(place);

@@ -12,6 +12,7 @@
 #![tactic(auto)]
 
 mod again;
+mod bytes;
 mod choices;
 mod contents;
 mod drop_ins;
@@ -52,6 +53,7 @@ fn answer(words: &mut Words, out: &mut Answer) -> Result<(), LineFault> {
         b"replica" => replicas::answer(words, out),
         b"piece" => pieces::answer(words, out),
         b"digest" => pieces::answer_digest(words, out),
+        b"bytes" => bytes::answer(words, out),
         b"world" => worlds::answer(words, out),
         b"fragment" => choices::answer(words, out),
         b"dropins" => drop_ins::answer(words, out),

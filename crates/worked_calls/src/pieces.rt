@@ -52,13 +52,13 @@ pub fn holder(words: &mut Words) -> Result<Replica, LineFault> {
     Ok(replica)
 }
 
-// The digest of a replica that took the piece of the edits that words write.
-fn asked(words: &mut Words) -> Result<Digest, LineFault> {
+/// Returns the digest of a replica that took the piece of the edits that words write.
+pub fn asked(words: &mut Words) -> Result<Digest, LineFault> {
     Ok(digest(words.alloc, &holder(words)?)?)
 }
 
-// Writes how many places a piece carries, and what it carries.
-fn append_piece(out: &mut Answer, piece: &Piece) -> Result<(), LineFault> {
+/// Writes how many places a piece carries, and what it carries.
+pub fn append_piece(out: &mut Answer, piece: &Piece) -> Result<(), LineFault> {
     if piece.is_empty() {
         out.write(b"empty");
         return Ok(());
@@ -200,8 +200,8 @@ fn append_version_at(out: &mut Answer, digest: &Digest, place: &Place) {
     }
 }
 
-// Writes all places and versions of a digest.
-fn append_digest(out: &mut Answer, digest: &Digest) {
+/// Writes all places and versions of a digest.
+pub fn append_digest(out: &mut Answer, digest: &Digest) {
     for (place, version) in digest.versions() {
         out.part(b" ");
         append_version(out, *version);
