@@ -4,6 +4,7 @@
 //! Promise: refusals are named.
 //!
 //! `Path` is a parsed path, with `Path::parse` and access to its parts; `PathFault` says why a text was refused.
+//! `is_component` says whether bytes are one component of a path.
 //! `paths_are_their_texts` is the law that parsing and printing are inverses of each other.
 #![tactic(auto)]
 
@@ -13,3 +14,4 @@ mod texts;
 
 pub use laws::paths_are_their_texts;
 pub use paths::{COMPONENT_LIMIT, Path, PathFault};
+pub use texts::is_component;

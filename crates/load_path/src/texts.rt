@@ -56,7 +56,7 @@ impl<'a> Parts<'a> {
         requires within { rank < 4 }
         ensures parts { result ≡ path_below rank (name.now ∷ []) }
     {
-        if !is_a_component(name) {
+        if !is_component(name) {
             return Err(PathFault::Component);
         }
         Ok(Parts {
@@ -71,7 +71,7 @@ impl<'a> Parts<'a> {
         requires within { rank < 4 }
         ensures parts { result ≡ path_below rank (folder.now ∷ name.now ∷ []) }
     {
-        if !is_a_component(folder) || !is_a_component(name) {
+        if !is_component(folder) || !is_component(name) {
             return Err(PathFault::Component);
         }
         Ok(Parts { rank, folder, name })
@@ -128,8 +128,9 @@ fn first_slash(bytes: &[u8]) -> Option<usize>
     bytes.iter().position(|b| *b == b'/')
 }
 
-// Returns whether bytes are a component of a path.
-fn is_a_component(bytes: &[u8]) -> bool
+/// Returns whether bytes are a component of a path: 1 to 255 bytes from 33 to 126 without a slash, and neither `.` nor
+/// `..`. Allocates nothing.
+pub fn is_component(bytes: &[u8]) -> bool
     ensures component { result ≡ is_component bytes.now }
 {
     !bytes.is_empty()

@@ -1,7 +1,5 @@
-//! Places and entries that are read from the front of bytes.
-
-ghost use Rattle.std.specs.{Prelude.{◌≡◌, ◌&&◌, ◌||◌, ◌==◌, length}, List.{list_all}};
-ghost use Rattle.load_path.specs.Paths.{is_component, is_component_byte, is_dots};
+//! Places and entries, read from the start of bytes.
+ghost use Rattle.std.specs.Prelude.{◌≡◌};
 ghost use Rattle.byte_fields.specs.Reading.{Gives};
 ghost use Rattle.store_bytes.specs.Reading.{scope_at, path_at, parts_at, components_at, is_path, place_at, version_at, numbers_at, target_at, text_at, link_at, file_at, content_at, entry_at};
 
@@ -10,34 +8,10 @@ use byte_fields::{
 };
 use edit_sums::{Content, ContentFault, Entry, FILE_LIMIT};
 use join_law::Version;
-use load_path::{COMPONENT_LIMIT, Path};
+use load_path::{Path, is_component};
 use load_places::{HostFault, HostName, Place, Scope};
 use plain_values::Bytes;
 use std::alloc::Global;
-
-// Whether each byte may stand in a component.
-fn has_component_bytes(bytes: &[u8]) -> bool
-    ensures all { result ≡ list_all is_component_byte bytes.now }
-{
-    bytes.iter().all(|&b| matches!(b, 33..=126) && b != b'/')
-}
-
-// Whether bytes are one or two dots alone.
-fn is_one_or_two_dots(bytes: &[u8]) -> bool
-    ensures dots { result ≡ is_dots bytes.now }
-{
-    bytes == b".".as_slice() || bytes == b"..".as_slice()
-}
-
-// Whether bytes are a component of a path.
-fn is_a_component(bytes: &[u8]) -> bool
-    ensures component { result ≡ is_component bytes.now }
-{
-    !bytes.is_empty()
-        && bytes.len() <= COMPONENT_LIMIT
-        && has_component_bytes(bytes)
-        && !is_one_or_two_dots(bytes)
-}
 
 #[tactic(auto, unfolding(crate::specs::Reading::scope_at))]
 pub(crate) fn scope_of(alloc: Global, bytes: &[u8]) -> Result<(Scope, &[u8]), DecodeFault>
@@ -58,7 +32,7 @@ pub(crate) fn scope_of(alloc: Global, bytes: &[u8]) -> Result<(Scope, &[u8]), De
 fn are_path_parts(rank: u8, folder: &[u8], name: &[u8]) -> bool
     ensures parts { result ≡ is_path (record { rank = rank; folder = folder.now; name = name.now }) }
 {
-    rank < 4 && (folder.is_empty() || is_a_component(folder)) && is_a_component(name)
+    rank < 4 && (folder.is_empty() || is_component(folder)) && is_component(name)
 }
 
 #[tactic(auto, unfolding(crate::specs::Reading::path_at, crate::specs::Reading::parts_at, crate::specs::Reading::components_at))]
