@@ -153,8 +153,8 @@ long_taken bytes text rest fits e =
 long_back : (text rest : List ℕ) → length text < 2 ^ 64 → long_string_at (long_string text ++ rest) ≡ Ok (text, rest)
 unfolding long_string_at
 long_back text rest small =
-    let front : number_at (long_string text ++ rest) ≡ Ok (length text, text ++ rest) = ap number_at (append_assoc (number (length text)) text rest) ∙ number_back (length text) (text ++ rest) small in
-    ap (λ (r : Result (ℕ × List ℕ) SpellingFault). r >>= λ len. cut_at len.0 len.1) front ∙ cut_back text rest
+    let start : number_at (long_string text ++ rest) ≡ Ok (length text, text ++ rest) = ap number_at (append_assoc (number (length text)) text rest) ∙ number_back (length text) (text ++ rest) small in
+    ap (λ (r : Result (ℕ × List ℕ) SpellingFault). r >>= λ len. cut_at len.0 len.1) start ∙ cut_back text rest
 
 pub fields_their_bytes : AreTheirBytes
 fields_their_bytes = record {

@@ -1,6 +1,6 @@
 -- What is read one by one is what the bytes spell.
 use Rattle.std.proofs.Common.{◌≡◌, ℕ, ◌++◌, ◌∷◌, ◌^◌, ◌<◌, [], List, length, IsTrue, map, Result, Ok, Err, refl, sym, ap, subst, ◌∙◌, append_assoc}
-use Rattle.std.specs.Prelude.{IfErr, IfOk}
+use Rattle.std.specs.Prelude.{IfOk}
 use Rattle.std.proofs.lemmas.List.{append-nil, map_push}
 use Rattle.std.specs.FinMap.{is_sorted}
 use Rattle.std.specs.FinMap as finmap
@@ -20,35 +20,35 @@ use Rattle.edit_sums.specs.Sums.{edit_of, EntryMap, sum_of, with_edit}
 use Rattle.edit_sums.specs.SumLaws.{sum_of-edits_of, sum_of-push}
 use Rattle.world_law.specs.Cuts.{VersionMap}
 use Rattle.store_bytes.specs.Bytes.{digest_spelling, entries_in, HasSpelling, HasVersionSpelling, spelling_of, versions_in}
-use Rattle.store_bytes.specs.BytesLaws.{AreEntriesOf, entries_again, entries_taken, versions_again, versions_taken}
-use Rattle.store_bytes.specs.Streams.{with_first, Yields}
+use Rattle.store_bytes.specs.BytesLaws.{entries_again, entries_taken, versions_again, versions_taken}
+use Rattle.store_bytes.specs.Streams.{with_first}
 
 -- ---- one by one
 
 -- these came, and those that are left follow
 abbrev pub IsPartOf : {P : Type 0} → Result (List P) SpellingFault → List P → Result (List P) SpellingFault → Type 0
-IsPartOf total front left = total ≡ (left >>= λ ps. Ok (front ++ ps))
+IsPartOf total prefix left = total ≡ (left >>= λ ps. Ok (prefix ++ ps))
 
 part_begins : {P : Type 0} (left : Result (List P) SpellingFault) → IsPartOf left [] left
 part_begins (Ok ps) = refl
 part_begins (Err d) = refl
 
-part_goes_on : {P : Type 0} (front : List P) (p : P) (left : Result (List P) SpellingFault) → (with_first p left >>= λ ps. Ok (front ++ ps)) ≡ (left >>= λ ps. Ok ((front ++ p ∷ []) ++ ps))
-part_goes_on {P} front p (Ok ps) = ap (λ (l : List P). Ok l) (sym (append_assoc front (p ∷ []) ps))
-part_goes_on front p (Err d) = refl
+part_goes_on : {P : Type 0} (prefix : List P) (p : P) (left : Result (List P) SpellingFault) → (with_first p left >>= λ ps. Ok (prefix ++ ps)) ≡ (left >>= λ ps. Ok ((prefix ++ p ∷ []) ++ ps))
+part_goes_on {P} prefix p (Ok ps) = ap (λ (l : List P). Ok l) (sym (append_assoc prefix (p ∷ []) ps))
+part_goes_on prefix p (Err d) = refl
 
-abbrev front_then : {P : Type 0} → List P → Result (List P) SpellingFault → Result (List P) SpellingFault
-front_then front left = left >>= λ ps. Ok (front ++ ps)
+abbrev prefix_then : {P : Type 0} → List P → Result (List P) SpellingFault → Result (List P) SpellingFault
+prefix_then prefix left = left >>= λ ps. Ok (prefix ++ ps)
 
-pub part_more : {P : Type 0} (total : Result (List P) SpellingFault) (front : List P) (p : P) (old new : Result (List P) SpellingFault) → IsPartOf total front old → old ≡ with_first p new → IsPartOf total (front ++ p ∷ []) new
-part_more total front p old new part e = part ∙ ap (front_then front) e ∙ part_goes_on front p new
+pub part_more : {P : Type 0} (total : Result (List P) SpellingFault) (prefix : List P) (p : P) (old new : Result (List P) SpellingFault) → IsPartOf total prefix old → old ≡ with_first p new → IsPartOf total (prefix ++ p ∷ []) new
+part_more total prefix p old new part e = part ∙ ap (prefix_then prefix) e ∙ part_goes_on prefix p new
 
-pub part_ends : {P : Type 0} (total : Result (List P) SpellingFault) (front : List P) (left : Result (List P) SpellingFault) → IsPartOf total front left → left ≡ Ok [] → total ≡ Ok front
-part_ends {P} total front left part e = part ∙ ap (front_then front) e ∙ ap (λ (l : List P). Ok l) (append-nil front)
+pub part_ends : {P : Type 0} (total : Result (List P) SpellingFault) (prefix : List P) (left : Result (List P) SpellingFault) → IsPartOf total prefix left → left ≡ Ok [] → total ≡ Ok prefix
+part_ends {P} total prefix left part e = part ∙ ap (prefix_then prefix) e ∙ ap (λ (l : List P). Ok l) (append-nil prefix)
 
-pub part_fails : {P : Type 0} (total : Result (List P) SpellingFault) (front : List P) (left : Result (List P) SpellingFault) (e : DecodeFault) → IsPartOf total front left → Fails e left → Fails e total
-part_fails total front left decode.Memory part h = tt
-part_fails total front left (decode.Fault d) part h = part ∙ ap (front_then front) h
+pub part_fails : {P : Type 0} (total : Result (List P) SpellingFault) (prefix : List P) (left : Result (List P) SpellingFault) (e : DecodeFault) → IsPartOf total prefix left → Fails e left → Fails e total
+part_fails total prefix left decode.Memory part h = tt
+part_fails total prefix left (decode.Fault d) part h = part ∙ ap (prefix_then prefix) h
 
 pub part_starts : {P : Type 0} (total left : Result (List P) SpellingFault) → left ≡ total → IsPartOf total [] left
 part_starts total left e = sym e ∙ part_begins left
@@ -57,23 +57,23 @@ part_starts total left e = sym e ∙ part_begins left
 
 -- a store of entries that came
 pub record IsPartlyRead (total left : Result (List (PlaceParts × Entry)) SpellingFault) (store : EntryMap) : Type 0 where
-  pub front : List (PlaceParts × Entry)
-  pub held : store ≡ sum_of (map edit_of front)
-  pub part : IsPartOf total front left
+  pub prefix : List (PlaceParts × Entry)
+  pub held : store ≡ sum_of (map edit_of prefix)
+  pub part : IsPartOf total prefix left
 
 pub reading_starts : (total left : Result (List (PlaceParts × Entry)) SpellingFault) (store : EntryMap) → left ≡ total → store ≡ finmap.empty → IsPartlyRead total left store
-reading_starts total left store e none = record { front = []; held = none; part = part_starts total left e }
+reading_starts total left store e none = record { prefix = []; held = none; part = part_starts total left e }
 
 pub reading_goes_on : (total old new : Result (List (PlaceParts × Entry)) SpellingFault) (before after : EntryMap) (p : PlaceParts × Entry) → IsPartlyRead total old before → old ≡ with_first p new
     → after ≡ with_edit before (edit_of p) → IsPartlyRead total new after
 reading_goes_on total old new before after p is e joined = record {
-  front = is.front ++ p ∷ [];
-  held = joined ∙ ap (λ (s : EntryMap). with_edit s (edit_of p)) is.held ∙ sym (sum_of-push (map edit_of is.front) (edit_of p)) ∙ ap sum_of (sym (map_push edit_of is.front p));
-  part = part_more total is.front p old new is.part e;
+  prefix = is.prefix ++ p ∷ [];
+  held = joined ∙ ap (λ (s : EntryMap). with_edit s (edit_of p)) is.held ∙ sym (sum_of-push (map edit_of is.prefix) (edit_of p)) ∙ ap sum_of (sym (map_push edit_of is.prefix p));
+  part = part_more total is.prefix p old new is.part e;
 }
 
 pub reading_fails : (total left : Result (List (PlaceParts × Entry)) SpellingFault) (store : EntryMap) (e : DecodeFault) → IsPartlyRead total left store → Fails e left → Fails e total
-reading_fails total left store e is h = part_fails total is.front left e is.part h
+reading_fails total left store e is h = part_fails total is.prefix left e is.part h
 
 -- The sum of entries whose places are in ascending order holds just these.
 held : (es : List (PlaceParts × Entry)) → IsTrue (is_sorted place_cmp es) → finmap.entries (sum_of (map edit_of es)) ≡ es
@@ -84,8 +84,8 @@ held es ascending =
 pub reading_ends : (kind : ℕ) (bytes : List ℕ) (left : Result (List (PlaceParts × Entry)) SpellingFault) (store : EntryMap) → IsBytes bytes → IsPartlyRead (entries_in kind bytes) left store → left ≡ Ok []
     → entries_in kind bytes ≡ Ok (finmap.entries store)
 reading_ends kind bytes left store fits is e =
-    let read : entries_in kind bytes ≡ Ok is.front = part_ends (entries_in kind bytes) is.front left is.part e in
-    let holds : finmap.entries store ≡ is.front = ap finmap.entries is.held ∙ held is.front (entries_taken kind bytes is.front fits read).ascending in
+    let read : entries_in kind bytes ≡ Ok is.prefix = part_ends (entries_in kind bytes) is.prefix left is.part e in
+    let holds : finmap.entries store ≡ is.prefix = ap finmap.entries is.held ∙ held is.prefix (entries_taken kind bytes is.prefix fits read).ascending in
     read ∙ ap (λ (l : List (PlaceParts × Entry)). Ok l) (sym holds)
 
 -- ---- what is read is spelled so, and what is spelled so is read

@@ -1,6 +1,6 @@
 -- Entries are split after those of the first scope.
-use Rattle.std.proofs.Common.{◌≡◌, ◌+◌, ◌-◌, ◌<◌, ◌≤◌, ◌∷◌, ◌++◌}
-use Rattle.std.proofs.Common.{not, ℕ, zero, suc, Bool, true, false, cond, List, [], length, take, drop, get_or, refl, sym, ap, subst, ◌∙◌, arith, take-append-drop, length-drop}
+use Rattle.std.proofs.Common.{◌≡◌, ◌+◌, ◌-◌, ◌<◌, ◌∷◌, ◌++◌}
+use Rattle.std.proofs.Common.{not, ℕ, zero, suc, Bool, true, false, cond, List, [], length, take, drop, get_or, refl, sym, ap, ◌∙◌, arith, take-append-drop, length-drop}
 use Rattle.std.proofs.lemmas.List.{drop-drop, take_all}
 use Rattle.std.specs.Ordering.{eq_by_cmp, is_eq}
 use Rattle.std.specs.Cmp.{tied_itself}
@@ -34,18 +34,18 @@ leads_itself x es = ap (λ b. cond b (suc (leading x.0.scope es)) 0) (ap is_eq (
 
 pub first_scope_is : (list own others : List (PlaceParts × Entry)) (first : PlaceParts × Entry) (n : ℕ) → 0 < length list → first ≡ get_or list 0 first → own ≡ take n list → others ≡ drop n list
     → n ≡ leading first.0.scope list → IsFirstScope list own others
-first_scope_is [] own others first n some e front back count = absurd (omega arith)
-first_scope_is (x ∷ es) own others first n some e front back count =
+first_scope_is [] own others first n some e own_is back count = absurd (omega arith)
+first_scope_is (x ∷ es) own others first n some e own_is back count =
     let len : n ≡ suc (leading first.0.scope es) = count ∙ ap (λ (z : PlaceParts × Entry). leading first.0.scope (z ∷ es)) (sym e) ∙ leads_itself first es in
-    let is_own : own ≡ first ∷ take (leading first.0.scope es) es = front ∙ ap (λ k. take k (x ∷ es)) len ∙ ap (λ (z : PlaceParts × Entry). z ∷ take (leading first.0.scope es) es) (sym e) in
+    let is_own : own ≡ first ∷ take (leading first.0.scope es) es = own_is ∙ ap (λ k. take k (x ∷ es)) len ∙ ap (λ (z : PlaceParts × Entry). z ∷ take (leading first.0.scope es) es) (sym e) in
     let parts : parted (x ∷ es) ≡ (first.0.scope, by_path (take (leading first.0.scope (x ∷ es)) (x ∷ es))) ∷ parted (drop (leading first.0.scope (x ∷ es)) (x ∷ es)) =
     parted-leading first.0.scope (x ∷ es) (omega (arith, len, count)) in
     record {
       first = first;
       later = take (leading first.0.scope es) es;
       own_is = is_own;
-      whole = sym (ap (λ (l : List (PlaceParts × Entry)). l ++ others) front ∙ ap (λ (l : List (PlaceParts × Entry)). take n (x ∷ es) ++ l) back ∙ take-append-drop n (x ∷ es));
-      parts = parts ∙ ap (λ k. (first.0.scope, by_path (take k (x ∷ es))) ∷ parted (drop k (x ∷ es))) (sym count) ∙ ap (λ (l : List (PlaceParts × Entry)). (first.0.scope, by_path l) ∷ parted (drop n (x ∷ es))) (sym front)
+      whole = sym (ap (λ (l : List (PlaceParts × Entry)). l ++ others) own_is ∙ ap (λ (l : List (PlaceParts × Entry)). take n (x ∷ es) ++ l) back ∙ take-append-drop n (x ∷ es));
+      parts = parts ∙ ap (λ k. (first.0.scope, by_path (take k (x ∷ es))) ∷ parted (drop k (x ∷ es))) (sym count) ∙ ap (λ (l : List (PlaceParts × Entry)). (first.0.scope, by_path l) ∷ parted (drop n (x ∷ es))) (sym own_is)
           ∙ ap (λ (l : List (PlaceParts × Entry)). (first.0.scope, by_path own) ∷ parted l) (sym back);
       fewer = let d = length-drop n (x ∷ es) in let l = ap length back in omega (arith, d, l, len);
     }

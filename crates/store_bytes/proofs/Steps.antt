@@ -1,10 +1,10 @@
 -- One step of a reader.
-use Rattle.std.proofs.Common.{◌≡◌, ℕ, zero, suc, ◌+◌, ◌-◌, ◌*◌, ◌^◌, ◌<◌, ◌≤◌, Bool, true, false, cond, eqb, ltb, List, [], ◌∷◌, ◌++◌, length, Option, Some, None, Result, Ok, Err, refl, sym, ap, subst, ◌∙◌, arith}
+use Rattle.std.proofs.Common.{◌≡◌, ℕ, zero, suc, ◌+◌, ◌-◌, ◌<◌, Bool, true, false, cond, eqb, ltb, List, [], ◌∷◌, ◌++◌, length, Option, Some, None, Result, Ok, Err, refl, sym, ap, subst, ◌∙◌, arith}
 use Rattle.std.proofs.lemmas.Bool.{lt-ltb}
 use Rattle.std.proofs.lemmas.Bool.Decides.{nat_tests}
 use Rattle.std.specs.Prelude.{IfErr, IfOk}
 use Rattle.std.specs.declared.cmp.Ordering.{Ordering}
-use Rattle.byte_fields.specs.FieldLaws.{bind_ok, guard_ok, ok_is}
+use Rattle.byte_fields.specs.FieldLaws.{ok_is}
 use Rattle.byte_fields.specs.Reading.{◌>>=◌, Fails, Gives, number_at}
 use Rattle.byte_fields.specs.declared.faults.DecodeFault.{DecodeFault}
 use Rattle.byte_fields.specs.declared.faults.DecodeFault.TheVariants as decode
@@ -130,6 +130,9 @@ pub entry_fails : (scopes : ℕ) (scope : Option Scope) (n : ℕ) (last : Option
 unfolding entries_to_come
 entry_fails scopes scope n last bytes e some h =
     pair_fails path_cmp path_at entry_at (entries_after scopes scope) (λ p. (within (scope_or_fleet scope) p.0, p.1)) (entries_after-pushes scopes scope) n last bytes e some h
+
+pub one_entry_less : (scopes entries : ℕ) → 0 < entries → scopes + (entries - 1) < scopes + entries
+one_entry_less scopes entries some = omega arith
 
 -- where no entry of the last scope is left, scopes are to come
 abbrev scopes_to_come : ℕ → Option Scope → List ℕ → Result (List (PlaceParts × Entry)) SpellingFault

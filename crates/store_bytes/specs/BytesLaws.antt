@@ -1,5 +1,5 @@
 -- Each value has one spelling, and each spelling one value.
-use Rattle.std.proofs.Common.{◌≡◌, ◌^◌, ◌<◌, ℕ, List, IsTrue, Result, Ok, Err, refl, sym, ap, subst, ◌∙◌}
+use Rattle.std.proofs.Common.{◌≡◌, ℕ, List, IsTrue, Result, Ok, sym, ap, subst, ◌∙◌}
 use Rattle.std.specs.FinMap.{is_sorted}
 use Rattle.std.specs.FinMap as finmap
 use Rattle.byte_fields.specs.FieldLaws.{bind_ok, ok_is}
@@ -15,7 +15,7 @@ use Rattle.load_places.specs.Texts.{IsScope}
 use Rattle.edit_sums.specs.Entries.{Entry}
 use Rattle.edit_sums.specs.Sums.{EntryMap}
 use Rattle.world_law.specs.Cuts.{VersionMap}
-use Rattle.store_bytes.specs.Bytes.{AreOneToOne, digest_spelling, entries_in, HasSpelling, HasVersionSpelling, scopes_of, spelling_of, versions_in}
+use Rattle.store_bytes.specs.Bytes.{AreOneToOne, digest_spelling, entries_in, HasSpelling, HasVersionSpelling, spelling_of, versions_in}
 use Rattle.store_bytes.specs.ListReading.{all_of, group_at}
 use Rattle.store_bytes.specs.ListSpelling.{AreGroup, ArePairs, pairs, spelling}
 use Rattle.store_bytes.specs.PartingLaws.{flattened-parted, parted-flattened}

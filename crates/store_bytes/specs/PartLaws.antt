@@ -1,5 +1,5 @@
 -- Each part of a pair that is read is the part that was written, and what was written is read again.
-use Rattle.std.proofs.Common.{◌≡◌, ℕ, zero, suc, ◌+◌, ◌^◌, ◌<◌, Bool, true, false, cond, ltb, eqb, List, [], ◌∷◌, ◌++◌, length, ◌⊎◌, ◌≤◌, Result, Ok, Err, IsTrue, refl, sym, ap, subst, ◌∙◌, ⊎_elim, append_assoc, arith}
+use Rattle.std.proofs.Common.{◌≡◌, ℕ, ◌^◌, ◌<◌, Bool, true, false, cond, ltb, eqb, List, [], ◌∷◌, ◌++◌, length, ◌⊎◌, ◌≤◌, Result, Ok, Err, IsTrue, refl, ap, subst, ◌∙◌, ⊎_elim, arith}
 use Rattle.std.specs.Prelude.{not, ◌||◌, ◌&&◌, nat_le}
 use Rattle.std.specs.List.{list_all}
 use Rattle.std.proofs.lemmas.Bool.{cases_lt, ltb-true, lt-ltb, eqb-true, and_parts}
@@ -11,17 +11,15 @@ use Rattle.byte_fields.specs.Spelling.{number, short_string, long_string}
 use Rattle.byte_fields.specs.Reading.{◌>>=◌, byte_at, number_at, short_string_at, long_string_at}
 use Rattle.byte_fields.specs.Laws.{IsBytes, Takes}
 use Rattle.byte_fields.specs.FieldLaws.{bind_ok, chosen, ok_is, Takes-then, byte_taken, fields_their_bytes}
-use Rattle.byte_fields.specs.Composing.{IsField, IsMadeOf, IsPassed, two, passed}
+use Rattle.byte_fields.specs.Composing.{IsField, two, passed}
 use Rattle.join_law.specs.declared.versions.Version.{Version}
 use Rattle.load_path.specs.Paths.{PathParts, IsPath, has_folder, is_component, is_component_byte, is_dots}
-use Rattle.load_places.specs.Places.{PlaceParts, scope_bytes}
 use Rattle.load_places.specs.Hosts.{is_host, is_host_byte}
 use Rattle.load_places.specs.Texts.{IsScope}
 use Rattle.load_places.specs.declared.places.Scope.{Scope}
 use Rattle.load_places.specs.declared.places.Scope.TheVariants.{Fleet, Host}
 use Rattle.edit_sums.specs.declared.contents.Content.{Content}
 use Rattle.edit_sums.specs.declared.contents.Content.TheVariants.{Gone, Link, File}
-use Rattle.edit_sums.specs.Entries.{Entry}
 use Rattle.edit_sums.specs.Limits.{is_target, is_file, is_graphic}
 use Rattle.store_bytes.specs.Spelling.{scope, path, place, version, content, entry, IsContent, IsPlace, IsVersion, IsEntry}
 use Rattle.store_bytes.specs.Reading.{scope_from, scope_at, is_path, components_at, parts_at, path_at, place_at, numbers_at, version_at, target_at, text_at, link_from, file_from, content_from, content_at, entry_at}

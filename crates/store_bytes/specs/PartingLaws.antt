@@ -19,7 +19,7 @@ use Rattle.edit_sums.specs.Entries.{Entry}
 use Rattle.path_maps.specs.PlaceMaps.{placed}
 use Rattle.path_maps.specs.PlaceMapLaws.{same_scope}
 use Rattle.path_maps.specs.Scopes.{within}
-use Rattle.store_bytes.specs.ListSpelling.{AreGroup, ArePairs}
+use Rattle.store_bytes.specs.ListSpelling.{AreGroup}
 use Rattle.store_bytes.specs.Spelling.{IsEntry}
 use Rattle.store_bytes.specs.Stores.{AreScoped, flattened, Scoped}
 use Rattle.store_bytes.specs.Parts.{by_path, leading, parted, with_first_entry}

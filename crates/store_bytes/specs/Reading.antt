@@ -1,5 +1,5 @@
 -- Reading from left to right, with the first fault that is met.
-use Rattle.std.specs.Prelude.{◌≡◌, ℕ, zero, suc, ◌-◌, ◌<◌, ◌^◌, ◌==◌, ◌&&◌, ◌||◌, Bool, true, not, nat_lt, nat_le, if◌then◌else◌, List, [], ◌∷◌, ◌++◌, length, take, drop, codes, slice_index, slice_get, option_map, Option, Some, None, Result, Ok, Err}
+use Rattle.std.specs.Prelude.{ℕ, ◌^◌, ◌==◌, ◌&&◌, ◌||◌, Bool, not, nat_lt, if◌then◌else◌, List, length, Result, Ok, Err}
 use Rattle.byte_fields.specs.Reading.{◌>>=◌, byte_at, number_at, short_string_at, long_string_at}
 use Rattle.byte_fields.specs.declared.faults.SpellingFault.{SpellingFault}
 use Rattle.byte_fields.specs.declared.faults.SpellingFault.TheVariants as fault

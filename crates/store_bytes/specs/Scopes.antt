@@ -3,10 +3,8 @@
 use Rattle.std.proofs.Common.{◌++◌, ◌<◌, ◌∷◌, ◌≡◌}
 use Rattle.std.specs.Prelude.{length, List}
 use Rattle.load_places.specs.Places.{PlaceParts}
-use Rattle.load_places.specs.declared.places.Scope.{Scope}
 use Rattle.edit_sums.specs.Entries.{Entry}
 use Rattle.store_bytes.specs.Parts.{by_path, parted}
-use Rattle.load_places.specs.declared.places.Place.{Place}
 
 -- the first entry and those after it of its scope, and the others
 pub record IsFirstScope (list own others : List (PlaceParts × Entry)) : Type 0 where

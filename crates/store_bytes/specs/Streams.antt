@@ -1,7 +1,6 @@
 -- What a reader has still to give.
 -- Source: this project's own.
 use Rattle.std.specs.Prelude.{◌≡◌, ℕ, ◌+◌, ◌*◌, ◌^◌, ◌==◌, if◌then◌else◌, List, [], ◌∷◌, ◌++◌, length, Option, Some, None, Result, Ok, Err}
-use Rattle.std.specs.declared.cmp.Ordering.{Ordering}
 use Rattle.byte_fields.specs.Reading.{◌>>=◌, number_at}
 use Rattle.byte_fields.specs.declared.faults.SpellingFault.{SpellingFault}
 use Rattle.byte_fields.specs.declared.faults.SpellingFault.TheVariants as fault
@@ -14,7 +13,7 @@ use Rattle.edit_sums.specs.Entries.{Entry}
 use Rattle.path_maps.specs.PlaceMaps.{placed}
 use Rattle.store_bytes.specs.ListReading.{group_at, key_above_at, opened, pairs_above_at, Reader}
 use Rattle.store_bytes.specs.Reading.{entry_at, path_at, place_at, scope_at, version_at}
-use Rattle.store_bytes.specs.Stores.{flattened, Scoped}
+use Rattle.store_bytes.specs.Stores.{flattened}
 
 -- bytes are left after the last pair, or none are
 abbrev pub ended : {P : Type 0} → List P × List ℕ → Result (List P) SpellingFault

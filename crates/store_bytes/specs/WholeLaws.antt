@@ -1,5 +1,5 @@
 -- The two laws: what is read is spelled so, and what is spelled so is read.
-use Rattle.std.proofs.Common.{◌≡◌, ℕ, zero, suc, ◌+◌, ◌-◌, ◌^◌, ◌<◌, ◌≤◌, Bool, true, false, cond, ltb, eqb, List, [], ◌∷◌, ◌++◌, length, get_or, take, drop, Option, Some, None, Result, Ok, Err, IsTrue, refl, sym, ap, subst, ◌∙◌, ⊎_elim, append_assoc, arith}
+use Rattle.std.proofs.Common.{◌≡◌, ℕ, zero, suc, ◌+◌, ◌-◌, ◌≤◌, Bool, true, false, cond, ltb, eqb, List, [], ◌∷◌, ◌++◌, length, get_or, take, drop, Option, Some, None, Result, Ok, Err, refl, sym, ap, subst, ◌∙◌, ⊎_elim, append_assoc, arith}
 use Rattle.std.specs.Prelude.{not, ◌&&◌, codes}
 use Rattle.std.specs.List.{flat_map, AllByRecursion}
 use Rattle.std.specs.Str.{bytes_eq}
@@ -11,7 +11,7 @@ use Rattle.std.specs.Cmp.{IsTotalOrder}
 use Rattle.byte_fields.specs.Composing.{IsField, two, passed}
 use Rattle.std.proofs.Math.Seq.{take-suc}
 use Rattle.std.proofs.lemmas.Bool.{cases_lt, eqb-true, eq-eqb, ltb-false, ltb-true, lt-ltb, le-ltb, and_parts}
-use Rattle.std.proofs.lemmas.List.{append-nil, nil_from_length, take-append-drop, take_at, drop_at, length-append, length-take, length-drop, get_or-take, get_or-drop, get_or_past}
+use Rattle.std.proofs.lemmas.List.{append-nil, nil_from_length, take-append-drop, take_at, drop_at, length-append, length-take, get_or-take, get_or-drop, get_or_past}
 use Rattle.std.proofs.lemmas.List.Concat.{flat_map-cons}
 use Rattle.sha2.specs.Sha256.{sha256}
 use Rattle.sha2.proofs.Facts256.{length-sha256}
@@ -22,7 +22,7 @@ use Rattle.byte_fields.specs.Spelling.{number}
 use Rattle.byte_fields.specs.Reading.{◌>>=◌, number_at}
 use Rattle.byte_fields.specs.Laws.{IsBytes, Takes}
 use Rattle.byte_fields.specs.FieldLaws.{bind_ok, guard_ok, chosen, ok_is, Takes-then, fields_their_bytes}
-use Rattle.store_bytes.specs.ListSpelling.{pair, pairs, head, covered, spelling, ArePairs, AreGroup}
+use Rattle.store_bytes.specs.ListSpelling.{pair, pairs, head, spelling, ArePairs, AreGroup}
 use Rattle.store_bytes.specs.ListReading.{Reader, is_above, key_above_at, pair_above_at, pairs_above_at, list_at, group_at, pairs_of, opened, all_of}
 
 both : (a b : Bool) → a ≡ true → b ≡ true → (a && b) ≡ true
@@ -49,8 +49,8 @@ same_bytes : (xs ys : List ℕ) → bytes_eq xs ys ≡ true → xs ≡ ys
 same_bytes xs ys e = same_text xs ys (sym e)
 
 -- the first six bytes
-front_six : (bytes : List ℕ) (kind : ℕ) → 38 ≤ length bytes → take 4 bytes ≡ codes "UCRS" → get_or bytes 4 0 ≡ 1 → get_or bytes 5 0 ≡ kind → take 6 bytes ≡ head kind
-front_six bytes kind long magic format is =
+prefix_six : (bytes : List ℕ) (kind : ℕ) → 38 ≤ length bytes → take 4 bytes ≡ codes "UCRS" → get_or bytes 4 0 ≡ 1 → get_or bytes 5 0 ≡ kind → take 6 bytes ≡ head kind
+prefix_six bytes kind long magic format is =
     take-suc bytes 5 0 (omega arith) ∙ ap (λ (l : List ℕ). l ++ get_or bytes 5 0 ∷ []) (take-suc bytes 4 0 (omega arith))
     ∙ ap (λ (l : List ℕ). (l ++ get_or bytes 4 0 ∷ []) ++ get_or bytes 5 0 ∷ []) magic
     ∙ ap (λ n. (codes "UCRS" ++ n ∷ []) ++ get_or bytes 5 0 ∷ []) format
@@ -65,10 +65,10 @@ take_take (suc k) (suc n) (b ∷ bytes) le = ap (λ (l : List ℕ). b ∷ l) (ta
 opened_takes : (kind : ℕ) (bytes inner : List ℕ) → IsBytes bytes → opened kind bytes ≡ Ok inner → (bytes ≡ (head kind ++ inner) ++ sha256 (head kind ++ inner)) × IsBytes inner
 unfolding opened
 opened_takes kind bytes inner fits e =
-    let front = take (length bytes - 32) bytes in
+    let prefix = take (length bytes - 32) bytes in
     let sum = drop (length bytes - 32) bytes in
-    let last : Result (List ℕ) SpellingFault = Ok (drop 6 front) in
-    let check : Result (List ℕ) SpellingFault = cond (not (bytes_eq (sha256 front) sum)) (Err fault.Checksum) last in
+    let last : Result (List ℕ) SpellingFault = Ok (drop 6 prefix) in
+    let check : Result (List ℕ) SpellingFault = cond (not (bytes_eq (sha256 prefix) sum)) (Err fault.Checksum) last in
     let kinds : Result (List ℕ) SpellingFault = cond (not (eqb (get_or bytes 5 0) kind)) (Err fault.Kind) check in
     let formats : Result (List ℕ) SpellingFault = cond (not (eqb (get_or bytes 4 0) 1)) (Err fault.Format) kinds in
     let magics : Result (List ℕ) SpellingFault = cond (not (bytes_eq (take 4 bytes) (codes "UCRS"))) (Err fault.Magic) formats in
@@ -76,14 +76,14 @@ opened_takes kind bytes inner fits e =
     let b = guard_ok (not (bytes_eq (take 4 bytes) (codes "UCRS"))) fault.Magic formats inner a.1 in
     let c = guard_ok (not (eqb (get_or bytes 4 0) 1)) fault.Format kinds inner b.1 in
     let d = guard_ok (not (eqb (get_or bytes 5 0) kind)) fault.Kind check inner c.1 in
-    let f = guard_ok (not (bytes_eq (sha256 front) sum)) fault.Checksum last inner d.1 in
+    let f = guard_ok (not (bytes_eq (sha256 prefix) sum)) fault.Checksum last inner d.1 in
     let long : 38 ≤ length bytes = ltb-false _ _ a.0 in
-    let six = front_six bytes kind long (same_bytes _ _ (was_not _ b.0)) (eqb-true _ _ (was_not _ c.0)) (eqb-true _ _ (was_not _ d.0)) in
-    let is : drop 6 front ≡ inner = ok_is _ _ f.1 in
-    let begun : front ≡ head kind ++ inner = sym (take-append-drop 6 front) ∙ ap (λ (l : List ℕ). l ++ drop 6 front) (take_take 6 (length bytes - 32) bytes (omega arith) ∙ six) ∙ ap (λ (l : List ℕ). head kind ++ l) is in
-    let summed : sha256 front ≡ sum = same_bytes _ _ (was_not _ f.0) in (
-      sym (take-append-drop (length bytes - 32) bytes) ∙ ap (λ (l : List ℕ). front ++ l) (sym summed) ∙ ap (λ (l : List ℕ). l ++ sha256 l) begun,
-      subst IsBytes is (IsBytes-drop 6 front (IsBytes-take (length bytes - 32) bytes fits)),
+    let six = prefix_six bytes kind long (same_bytes _ _ (was_not _ b.0)) (eqb-true _ _ (was_not _ c.0)) (eqb-true _ _ (was_not _ d.0)) in
+    let is : drop 6 prefix ≡ inner = ok_is _ _ f.1 in
+    let begun : prefix ≡ head kind ++ inner = sym (take-append-drop 6 prefix) ∙ ap (λ (l : List ℕ). l ++ drop 6 prefix) (take_take 6 (length bytes - 32) bytes (omega arith) ∙ six) ∙ ap (λ (l : List ℕ). head kind ++ l) is in
+    let summed : sha256 prefix ≡ sum = same_bytes _ _ (was_not _ f.0) in (
+      sym (take-append-drop (length bytes - 32) bytes) ∙ ap (λ (l : List ℕ). prefix ++ l) (sym summed) ∙ ap (λ (l : List ℕ). l ++ sha256 l) begun,
+      subst IsBytes is (IsBytes-drop 6 prefix (IsBytes-take (length bytes - 32) bytes fits)),
     )
 
 same_itself : (xs : List ℕ) → bytes_eq xs xs ≡ true
@@ -93,14 +93,14 @@ same_itself (x ∷ xs) = both (eqb x x) (bytes_eq xs xs) (eq-eqb x x refl) (same
 opened_again : (kind : ℕ) (inner : List ℕ) → opened kind ((head kind ++ inner) ++ sha256 (head kind ++ inner)) ≡ Ok inner
 unfolding opened
 opened_again kind inner =
-    let front = head kind ++ inner in
-    let sum = sha256 front in
-    let len : length (front ++ sum) ≡ 38 + length inner = omega (arith, length-append front sum, length-sha256 front) in
-    let before : length (front ++ sum) - 32 ≡ length front = omega (arith, len) in
-    let long : ltb (length (front ++ sum)) 38 ≡ false = le-ltb _ _ (omega (arith, len)) in
-    let taken : take (length (front ++ sum) - 32) (front ++ sum) ≡ front = ap (λ k. take k (front ++ sum)) before ∙ take_at front sum (length front) refl in
-    let dropped : drop (length (front ++ sum) - 32) (front ++ sum) ≡ sum = ap (λ k. drop k (front ++ sum)) before ∙ drop_at front sum (length front) refl in
-    let same : bytes_eq (sha256 front) sum ≡ true = same_itself sum in
+    let prefix = head kind ++ inner in
+    let sum = sha256 prefix in
+    let len : length (prefix ++ sum) ≡ 38 + length inner = omega (arith, length-append prefix sum, length-sha256 prefix) in
+    let before : length (prefix ++ sum) - 32 ≡ length prefix = omega (arith, len) in
+    let long : ltb (length (prefix ++ sum)) 38 ≡ false = le-ltb _ _ (omega (arith, len)) in
+    let taken : take (length (prefix ++ sum) - 32) (prefix ++ sum) ≡ prefix = ap (λ k. take k (prefix ++ sum)) before ∙ take_at prefix sum (length prefix) refl in
+    let dropped : drop (length (prefix ++ sum) - 32) (prefix ++ sum) ≡ sum = ap (λ k. drop k (prefix ++ sum)) before ∙ drop_at prefix sum (length prefix) refl in
+    let same : bytes_eq (sha256 prefix) sum ≡ true = same_itself sum in
     let kinds : eqb kind kind ≡ true = eq-eqb kind kind refl in
     rw (long, kinds, taken, dropped, same) refl
 
@@ -132,16 +132,16 @@ module _ {K V : Type 0} (cmp : K → K → Ordering) (total : IsTotalOrder cmp) 
   sorted_from [] r = refl
   sorted_from (p ∷ ps) r = let rest = sorted_above p.0 ps r in both (below_all cmp p.0 ps) (is_sorted cmp ps) rest.0 rest.1
 
-  rises_above : (q : K) (ps : List (K × V)) → below_all cmp q ps ≡ true → is_sorted cmp ps ≡ true → ascends (Some q) ps ≡ true
-  rises_above q [] b s = refl
-  rises_above q (p ∷ ps) b s =
+  ascends_above : (q : K) (ps : List (K × V)) → below_all cmp q ps ≡ true → is_sorted cmp ps ≡ true → ascends (Some q) ps ≡ true
+  ascends_above q [] b s = refl
+  ascends_above q (p ∷ ps) b s =
       let first = and_parts (is_lt (cmp q p.0)) (below_all cmp q ps) b in
       let parts = and_parts (below_all cmp p.0 ps) (is_sorted cmp ps) s in
-      both (is_lt (cmp q p.0)) (ascends (Some p.0) ps) first.0 (rises_above p.0 ps parts.0 parts.1)
+      both (is_lt (cmp q p.0)) (ascends (Some p.0) ps) first.0 (ascends_above p.0 ps parts.0 parts.1)
 
-  rises_from : (ps : List (K × V)) → is_sorted cmp ps ≡ true → ascends None ps ≡ true
-  rises_from [] s = refl
-  rises_from (p ∷ ps) s = let parts = and_parts (below_all cmp p.0 ps) (is_sorted cmp ps) s in rises_above p.0 ps parts.0 parts.1
+  ascends_from : (ps : List (K × V)) → is_sorted cmp ps ≡ true → ascends None ps ≡ true
+  ascends_from [] s = refl
+  ascends_from (p ∷ ps) s = let parts = and_parts (below_all cmp p.0 ps) (is_sorted cmp ps) s in ascends_above p.0 ps parts.0 parts.1
 
   abbrev Fits : K × V → Type 0
   Fits p = P p.0 × Q p.1
@@ -229,7 +229,7 @@ module _ {K V : Type 0} (cmp : K → K → Ordering) (total : IsTotalOrder cmp) 
   list_again : (ps : List (K × V)) → ArePairs cmp P Q ps → pairs_of cmp f g (pairs s t ps) ≡ Ok ps
   unfolding pairs_of
   list_again ps are =
-      let rest : pairs_above_at cmp f g (length ps) None (flat_map (pair s t) ps) ≡ Ok (ps, []) = ap (pairs_above_at cmp f g (length ps) None) (sym (append-nil (flat_map (pair s t) ps))) ∙ pairs_again None ps [] are.each (rises_from ps are.ascending) in
+      let rest : pairs_above_at cmp f g (length ps) None (flat_map (pair s t) ps) ≡ Ok (ps, []) = ap (pairs_above_at cmp f g (length ps) None) (sym (append-nil (flat_map (pair s t) ps))) ∙ pairs_again None ps [] are.each (ascends_from ps are.ascending) in
       rw (fields_their_bytes.number_back (length ps) (flat_map (pair s t) ps) are.count, rest) refl
 
   -- ---- lists inside of others
@@ -249,7 +249,7 @@ module _ {K V : Type 0} (cmp : K → K → Ordering) (total : IsTotalOrder cmp) 
   part_again ps rest are =
       ap (λ (l : List ℕ). number_at l >>= λ count. pairs_above_at cmp f g count.0 None count.1) (append_assoc (number (length ps)) (flat_map (pair s t) ps) rest)
       ∙ ap (λ (r : Result (ℕ × List ℕ) SpellingFault). r >>= λ count. pairs_above_at cmp f g count.0 None count.1) (fields_their_bytes.number_back (length ps) (flat_map (pair s t) ps ++ rest) are.count)
-      ∙ pairs_again None ps rest are.each (rises_from ps are.ascending)
+      ∙ pairs_again None ps rest are.each (ascends_from ps are.ascending)
 
   pub list_field : IsField (list_at cmp f g) (pairs s t) (ArePairs cmp P Q)
   list_field = record { takes = part_takes; again = part_again }

@@ -1,4 +1,15 @@
-//! Stores, pieces and digests as bytes: one string of bytes for each, and no other is read.
+//! Stores, pieces and digests as bytes. Each has one string of bytes, and no other string is read as it; docs/FORMAT.md
+//! says which, so that another program can write and read them.
+//!
+//! Promise: one spelling each; bytes are read exactly; a decoder in pieces.
+//!
+//! Before the list of a value stand a head and its kind, after it the SHA-256 of all before (FIPS 180-4). A store's and a
+//! piece's entries are grouped by scope, so that each host is named once.
+//!
+//! - `store_to_bytes`, `store_from_bytes`, `store_id`; `piece_to_bytes`, `piece_from_bytes`; `digest_to_bytes`,
+//!   `digest_from_bytes`: whole values. `bytes_are_one_to_one` is their law.
+//! - `Decoder`: is fed bytes as they come, and then read one by one by an `EntryReader` or a `VersionReader`.
+//! - `DecodeFault` and `SpellingFault`: why bytes can't be read.
 #![tactic(auto)]
 
 mod decoder;

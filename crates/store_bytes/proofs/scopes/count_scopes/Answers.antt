@@ -1,5 +1,4 @@
-use Rattle.std.proofs.Common.{◌+◌, ◌-◌, ◌<◌, ◌≡◌, ◌≤◌, arith, drop, length, length-drop}
-use Rattle.store_bytes.specs.Parts.{parted}
+use Rattle.std.proofs.Common.{arith, length-drop}
 use Rattle.store_bytes.proofs.Scoping.{counted_from, one_scope_more}
 use Rattle.store_bytes.proofs.scopes.count_scopes.Goals as goal
 

@@ -1,6 +1,6 @@
 use Rattle.std.proofs.Common.{◌≡◌, ◌+◌, ◌∙◌, sym, drop, arith}
 use Rattle.store_bytes.specs.Parts.{leading}
-use Rattle.store_bytes.proofs.Scoping.{leading_more, leading_none, not_false}
+use Rattle.store_bytes.proofs.Scoping.{leading_none, not_false}
 use Rattle.store_bytes.proofs.scopes.leading_of.Goals as goal
 
 pub returns-then-ne-clause-count : goal.returns-then-ne-clause-count

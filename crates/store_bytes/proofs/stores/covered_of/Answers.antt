@@ -1,8 +1,7 @@
-use Rattle.std.proofs.Common.{◌<◌, ◌^◌, ◌∙◌, ◌≡◌, arith, IsTrue, length, List, subst, sym}
-use Rattle.std.specs.FinMap.{is_sorted}
+use Rattle.std.proofs.Common.{◌<◌, ◌^◌, ◌∙◌, ◌≡◌, arith, length, List, subst}
 use Rattle.std.specs.FinMap as finmap
 use Rattle.list_laws.specs.Truths.{from_T}
-use Rattle.load_places.specs.Places.{place_cmp, PlaceParts}
+use Rattle.load_places.specs.Places.{PlaceParts}
 use Rattle.edit_sums.specs.Entries.{Entry}
 use Rattle.store_bytes.specs.Parts.{parted}
 use Rattle.store_bytes.specs.PartingLaws.{AreFit, parts_scoped}

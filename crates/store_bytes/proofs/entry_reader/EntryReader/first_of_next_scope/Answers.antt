@@ -1,14 +1,11 @@
-use Rattle.std.proofs.Common.{◌≡◌, ℕ, ◌<◌, ltb, eqb, false, true, List, [], length, ◌-◌, ◌≤◌, Option, Some, None, Ok, sym, ap, subst, ◌∙◌, arith}
-use Rattle.std.proofs.lemmas.Bool.{cond-true, cond-false}
+use Rattle.std.proofs.Common.{◌≡◌, ◌<◌, ◌-◌, Some, None, Ok, sym, ap, subst, ◌∙◌, arith}
 use Rattle.std.proofs.lemmas.Result.{err_from_is_err_and}
 use Rattle.byte_fields.specs.Reading.{Fails}
-use Rattle.load_path.specs.Paths.{path_cmp, PathParts}
+use Rattle.load_path.specs.Paths.{PathParts}
 use Rattle.load_places.specs.declared.places.Scope.{Scope}
 use Rattle.path_maps.specs.Scopes.{within}
-use Rattle.store_bytes.specs.ListReading.{pair_above_at}
-use Rattle.store_bytes.specs.Reading.{entry_at, path_at}
-use Rattle.store_bytes.specs.Streams.{entries_to_come, EntriesLeft, scope_head_at, scope_or_fleet, with_first}
-use Rattle.store_bytes.proofs.Steps.{entry_comes, entry_fails, IsEntered, scope_entered, scope_not_entered}
+use Rattle.store_bytes.specs.Streams.{entries_to_come, EntriesLeft, scope_head_at, with_first}
+use Rattle.store_bytes.proofs.Steps.{entry_comes, entry_fails, scope_entered, scope_not_entered}
 use Rattle.store_bytes.proofs.entry_reader.EntryReader.first_of_next_scope.Goals as goal
 
 pub returns-in_err-head-clause-fault : goal.returns-in_err-head-clause-fault

@@ -1,5 +1,4 @@
-use Rattle.std.proofs.Common.{◌≡◌, ℕ, ◌<◌, ltb, eqb, false, true, List, [], length, ◌-◌, ◌≤◌, Option, Some, None, Ok, sym, ap, subst, ◌∙◌, arith}
-use Rattle.std.proofs.lemmas.Bool.{cond-true, cond-false}
+use Rattle.std.proofs.Common.{◌≡◌, ◌<◌, ◌-◌, ◌*◌, ◌^◌, Some, Ok, sym, ap, subst, ◌∙◌}
 use Rattle.std.proofs.lemmas.Result.{err_from_is_err_and}
 use Rattle.byte_fields.specs.Reading.{Fails}
 use Rattle.load_path.specs.Paths.{path_cmp, PathParts}
@@ -7,8 +6,8 @@ use Rattle.load_places.specs.declared.places.Scope.{Scope}
 use Rattle.path_maps.specs.Scopes.{within}
 use Rattle.store_bytes.specs.ListReading.{pair_above_at}
 use Rattle.store_bytes.specs.Reading.{entry_at, path_at}
-use Rattle.store_bytes.specs.Streams.{entries_to_come, EntriesLeft, scope_head_at, scope_or_fleet, with_first}
-use Rattle.store_bytes.proofs.Steps.{entry_comes, entry_fails}
+use Rattle.store_bytes.specs.Streams.{entries_to_come, EntriesLeft, most_left, scope_or_fleet, with_first}
+use Rattle.store_bytes.proofs.Steps.{entry_comes, entry_fails, one_entry_less}
 use Rattle.store_bytes.proofs.entry_reader.EntryReader.next_of_scope.Goals as goal
 
 pub returns-in_err-pair-clause-fault : goal.returns-in_err-pair-clause-fault
@@ -31,3 +30,10 @@ returns-clause-next c =
     ∙ entry_comes left.scopes left.scope left.entries left.path left.rest.now p rest some read
     ∙ ap (λ (s : Scope). with_first (within s p.0, p.1) (entries_to_come (record { scopes = left.scopes; scope = left.scope; entries = left.entries - 1; path = Some p.0; rest = rest }))) (sym copy)
     ∙ ap (λ (q : PathParts). with_first (within c.in_ok-scope.scope p.0, p.1) (entries_to_come (record { scopes = left.scopes; scope = left.scope; entries = left.entries - 1; path = Some q; rest = rest }))) (sym c.in_ok-last.ensures.copy)
+
+pub returns-clause-fewer : goal.returns-clause-fewer
+returns-clause-fewer c =
+    let left = c.self.inside in
+    let some : 0 < left.entries = subst (λ (l : EntriesLeft). 0 < l.entries) (sym c.self.view_is) c.requires.some in
+    subst (λ (l : EntriesLeft). most_left (record { scopes = left.scopes; scope = left.scope; entries = left.entries - 1; path = Some c.in_ok-last.last; rest = c.in_ok-pair.rest.now }) < most_left l) c.self.view_is
+    (one_entry_less (left.scopes * 2 ^ 64) left.entries some)

@@ -1,11 +1,11 @@
-use Rattle.std.proofs.Common.{◌≡◌, ℕ, ◌<◌, eqb, false, true, List, [], length, ◌-◌, Option, Some, None, Ok, sym, ap, subst, ◌∙◌, arith}
+use Rattle.std.proofs.Common.{◌≡◌, ℕ, ◌<◌, eqb, false, true, length, ◌-◌, Some, Ok, sym, ap, subst, ◌∙◌, arith}
 use Rattle.std.proofs.lemmas.Bool.{cond-true, cond-false}
 use Rattle.std.proofs.lemmas.Result.{err_from_is_err_and}
 use Rattle.byte_fields.specs.Reading.{Fails}
 use Rattle.load_places.specs.Places.{place_cmp}
 use Rattle.store_bytes.specs.ListReading.{pair_above_at}
 use Rattle.store_bytes.specs.Reading.{place_at, version_at}
-use Rattle.store_bytes.specs.Streams.{versions_to_come, VersionsLeft, with_first}
+use Rattle.store_bytes.specs.Streams.{versions_to_come, with_first}
 use Rattle.store_bytes.proofs.Steps.{no_version_left, version_comes, version_fails}
 use Rattle.store_bytes.proofs.version_reader.VersionReader.next.Goals as goal
 
