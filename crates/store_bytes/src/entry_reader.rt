@@ -3,7 +3,7 @@ ghost use Rattle.std.specs.{Option.{option_copied}, Prelude.{◌<◌, ◌≡◌,
 ghost use Rattle.load_places.specs.Places.{scope_cmp};
 ghost use Rattle.load_path.specs.Paths.{path_cmp};
 ghost use Rattle.byte_fields.specs.Reading.{Fails, Gives};
-ghost use Rattle.store_bytes.specs.{Bytes.{entries_in}, ListReading.{is_above, key_above_at, pair_above_at}, Reading.{entry_at, path_at, scope_at}};
+ghost use Rattle.store_bytes.specs.{Bytes.{entries_in}, ListReading.{is_above, pair_above_at}, Reading.{entry_at, path_at}};
 ghost use Rattle.store_bytes.specs.Streams.{entries_begun, entries_to_come, most_left, scope_head_at, scope_or_fleet, Yields};
 
 use crate::heads::open;

@@ -28,7 +28,5 @@ pub use decoder::Decoder;
 pub use digests::{digest_from_bytes, digest_to_bytes};
 pub use entry_reader::EntryReader;
 pub use laws::bytes_are_one_to_one;
-pub use stores::{
-    piece_from_bytes, piece_to_bytes, store_from_bytes, store_id, store_to_bytes,
-};
+pub use stores::{piece_from_bytes, piece_to_bytes, store_from_bytes, store_id, store_to_bytes};
 pub use version_reader::VersionReader;

@@ -13,6 +13,7 @@ use load_places::{HostFault, HostName, Place, Scope};
 use plain_values::Bytes;
 use std::alloc::Global;
 
+// Reads the scope at the start: the fleet if the host's name is empty. `Host` if it is no host's name.
 #[tactic(auto, unfolding(crate::specs::Reading::scope_at))]
 pub(crate) fn scope_of(alloc: Global, bytes: &[u8]) -> Result<(Scope, &[u8]), DecodeFault>
     ensures read { Gives (λ x. (x.0, x.1.now)) result (scope_at bytes.now) }
@@ -28,13 +29,14 @@ pub(crate) fn scope_of(alloc: Global, bytes: &[u8]) -> Result<(Scope, &[u8]), De
     }
 }
 
-// Whether these are the parts of a path.
+// Returns whether these are the parts of a path.
 fn are_path_parts(rank: u8, folder: &[u8], name: &[u8]) -> bool
     ensures parts { result ≡ is_path (record { rank = rank; folder = folder.now; name = name.now }) }
 {
     rank < 4 && (folder.is_empty() || is_component(folder)) && is_component(name)
 }
 
+// Reads the path at the start. `Path` if its parts are none.
 #[tactic(auto, unfolding(crate::specs::Reading::path_at, crate::specs::Reading::parts_at, crate::specs::Reading::components_at))]
 pub(crate) fn path_of(alloc: Global, bytes: &[u8]) -> Result<(Path, &[u8]), DecodeFault>
     ensures read { Gives (λ x. (x.0, x.1.now)) result (path_at bytes.now) }
@@ -50,6 +52,7 @@ pub(crate) fn path_of(alloc: Global, bytes: &[u8]) -> Result<(Path, &[u8]), Deco
     Ok((Path::from_parts(rank, folder, name), rest))
 }
 
+// Reads the place at the start.
 #[tactic(auto, unfolding(crate::specs::Reading::place_at))]
 pub(crate) fn place_of(alloc: Global, bytes: &[u8]) -> Result<(Place, &[u8]), DecodeFault>
     ensures read { Gives (λ x. (x.0, x.1.now)) result (place_at bytes.now) }
@@ -59,6 +62,7 @@ pub(crate) fn place_of(alloc: Global, bytes: &[u8]) -> Result<(Place, &[u8]), De
     Ok((Place { scope, path }, rest))
 }
 
+// Reads the version at the start. `Number` if the writer isn't below 2^32.
 #[tactic(auto, unfolding(crate::specs::Reading::version_at, crate::specs::Reading::numbers_at))]
 pub(crate) fn version_of(bytes: &[u8]) -> Result<(Version, &[u8]), DecodeFault>
     ensures read { Gives (λ x. (x.0, x.1.now)) result (version_at bytes.now) }
@@ -75,6 +79,7 @@ pub(crate) fn version_of(bytes: &[u8]) -> Result<(Version, &[u8]), DecodeFault>
     Ok((version, rest))
 }
 
+// Reads a link's target at the start. `Content` if it is none.
 #[tactic(auto, unfolding(crate::specs::Reading::target_at))]
 fn link_of(alloc: Global, bytes: &[u8]) -> Result<(Content, &[u8]), DecodeFault>
     ensures read { Gives (λ x. (x.0, x.1.now)) result (link_at bytes.now) }
@@ -87,6 +92,7 @@ fn link_of(alloc: Global, bytes: &[u8]) -> Result<(Content, &[u8]), DecodeFault>
     }
 }
 
+// Reads a file's bytes at the start. `Content` if there are too many, which are then not copied.
 #[tactic(auto, unfolding(crate::specs::Reading::text_at))]
 fn file_of(alloc: Global, bytes: &[u8]) -> Result<(Content, &[u8]), DecodeFault>
     ensures read { Gives (λ x. (x.0, x.1.now)) result (file_at bytes.now) }
@@ -101,6 +107,7 @@ fn file_of(alloc: Global, bytes: &[u8]) -> Result<(Content, &[u8]), DecodeFault>
     }
 }
 
+// Reads the content at the start. `Content` if its first byte names none.
 #[tactic(auto, unfolding(crate::specs::Reading::content_at))]
 fn content_of(alloc: Global, bytes: &[u8]) -> Result<(Content, &[u8]), DecodeFault>
     ensures read { Gives (λ x. (x.0, x.1.now)) result (content_at bytes.now) }
@@ -114,6 +121,7 @@ fn content_of(alloc: Global, bytes: &[u8]) -> Result<(Content, &[u8]), DecodeFau
     }
 }
 
+// Reads the entry at the start.
 #[tactic(auto, unfolding(crate::specs::Reading::entry_at))]
 pub(crate) fn entry_of(alloc: Global, bytes: &[u8]) -> Result<(Entry, &[u8]), DecodeFault>
     ensures read { Gives (λ x. (x.0, x.1.now)) result (entry_at bytes.now) }

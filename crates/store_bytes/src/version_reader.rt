@@ -2,7 +2,7 @@
 ghost use Rattle.std.specs.{Option.{option_copied}, Prelude.{◌<◌, ◌≡◌, IfErr, IfOk, IfSome, OnErr}};
 ghost use Rattle.load_places.specs.Places.{place_cmp};
 ghost use Rattle.byte_fields.specs.Reading.{Fails, Gives};
-ghost use Rattle.store_bytes.specs.{Bytes.{versions_in}, ListReading.{is_above, key_above_at, pair_above_at}, Reading.{place_at, version_at}};
+ghost use Rattle.store_bytes.specs.{Bytes.{versions_in}, ListReading.{is_above, pair_above_at}, Reading.{place_at, version_at}};
 ghost use Rattle.store_bytes.specs.Streams.{versions_begun, versions_to_come, Yields};
 
 use crate::heads::open;

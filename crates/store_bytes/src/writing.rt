@@ -1,4 +1,4 @@
-//! Places and entries, appended to bytes.
+//! Places and entries, appended to bytes. Where memory runs out, part of one may be there.
 ghost use Rattle.std.specs.Prelude.{◌++◌, ◌≡◌, OnOk};
 ghost use Rattle.load_path.specs.Paths.{IsPath};
 ghost use Rattle.load_places.specs.Texts.{IsScope};
@@ -11,6 +11,7 @@ use load_path::Path;
 use load_places::{Place, Scope};
 use std::alloc::AllocError;
 
+// Appends a path.
 pub(crate) fn put_path(out: &mut Vec<u8>, p: &Path) -> Result<(), AllocError>
     ensures written { OnOk result (out.new.items ≡ out.old.items ++ path p.now) }
     ensures fits { OnOk result (IsPath p.now) }
@@ -20,6 +21,7 @@ pub(crate) fn put_path(out: &mut Vec<u8>, p: &Path) -> Result<(), AllocError>
     put_short_string(out, p.name())
 }
 
+// Appends a scope: an empty host's name for the fleet.
 pub(crate) fn put_scope(out: &mut Vec<u8>, s: &Scope) -> Result<(), AllocError>
     ensures written { OnOk result (out.new.items ≡ out.old.items ++ scope s.now) }
     ensures fits { OnOk result (IsScope s.now) }
@@ -30,6 +32,7 @@ pub(crate) fn put_scope(out: &mut Vec<u8>, s: &Scope) -> Result<(), AllocError>
     }
 }
 
+// Appends a place.
 pub(crate) fn put_place(out: &mut Vec<u8>, p: &Place) -> Result<(), AllocError>
     ensures written { OnOk result (out.new.items ≡ out.old.items ++ place p.now) }
     ensures fits { OnOk result (IsPlace p.now) }
@@ -38,6 +41,7 @@ pub(crate) fn put_place(out: &mut Vec<u8>, p: &Place) -> Result<(), AllocError>
     put_path(out, &p.path)
 }
 
+// Appends a version.
 pub(crate) fn put_version(out: &mut Vec<u8>, v: Version) -> Result<(), AllocError>
     ensures written { OnOk result (out.new.items ≡ out.old.items ++ version v) }
     ensures fits { IsVersion v }
@@ -46,6 +50,7 @@ pub(crate) fn put_version(out: &mut Vec<u8>, v: Version) -> Result<(), AllocErro
     put_number(out, v.writer as u64)
 }
 
+// Appends a content.
 fn put_content(out: &mut Vec<u8>, c: &Content) -> Result<(), AllocError>
     ensures written { OnOk result (out.new.items ≡ out.old.items ++ content c.now) }
     ensures fits { OnOk result (IsContent c.now) }
@@ -66,6 +71,7 @@ fn put_content(out: &mut Vec<u8>, c: &Content) -> Result<(), AllocError>
     }
 }
 
+// Appends an entry.
 pub(crate) fn put_entry(out: &mut Vec<u8>, x: &Entry) -> Result<(), AllocError>
     ensures written { OnOk result (out.new.items ≡ out.old.items ++ entry x.now) }
     ensures fits { OnOk result (IsEntry x.now) }
