@@ -1,5 +1,5 @@
 -- Fields that are made of fields: each that is written is read back, and what is read is what was written.
-use Rattle.std.proofs.Common.{◌≡◌, ℕ, Bool, true, false, cond, List, [], ◌∷◌, ◌++◌, length, Result, Ok, Err, refl, sym, ap, subst, ◌∙◌, ⊎_elim, append_assoc}
+use Rattle.std.proofs.Common.{◌≡◌, ℕ, Bool, true, cond, List, ◌++◌, Result, Ok, Err, sym, ap, subst, ◌∙◌, ⊎_elim, append_assoc}
 use Rattle.byte_fields.specs.declared.faults.SpellingFault.{SpellingFault}
 use Rattle.byte_fields.specs.Reading.{◌>>=◌}
 use Rattle.byte_fields.specs.Laws.{IsBytes, Takes}

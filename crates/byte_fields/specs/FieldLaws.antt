@@ -1,9 +1,8 @@
 -- Each field that is written is read back, and what is read is what was written.
-use Rattle.std.proofs.Common.{◌≡◌, ℕ, zero, suc, ◌+◌, ◌-◌, ◌*◌, ◌%◌, ◌/◌, ◌^◌, ◌<◌, ◌≤◌, Bool, true, false, cond, ltb, leb, eqb, List, [], ◌∷◌, ◌++◌, length, get_or, take, drop, Result, Ok, Err, refl, sym, ap, subst, ◌∙◌, ◌⊎◌, append_assoc, arith, inl, inr, ⊎_elim}
+use Rattle.std.proofs.Common.{◌≡◌, ℕ, zero, suc, ◌+◌, ◌-◌, ◌*◌, ◌%◌, ◌/◌, ◌^◌, ◌<◌, ◌≤◌, Bool, true, false, cond, ltb, leb, eqb, List, [], ◌∷◌, ◌++◌, length, take, drop, Result, Ok, Err, refl, sym, ap, subst, ◌∙◌, ◌⊎◌, append_assoc, arith, inl, inr, ⊎_elim}
 use Rattle.std.specs.Prelude.{◌||◌}
-use Rattle.std.proofs.lemmas.Bool.{cases_lt, ltb-false, ltb-true, le-ltb, lt-ltb}
-use Rattle.std.proofs.lemmas.Bool.Decides.{nat_tests}
-use Rattle.std.proofs.lemmas.List.{take_at, drop_at, take-append-drop, length-append, length-take, get_or-drop, get_or-take, get_or_past}
+use Rattle.std.proofs.lemmas.Bool.{eqb-false, eqb-true, leb-false, lt-leb, cases_lt, ltb-false, ltb-true, le-ltb, lt-ltb}
+use Rattle.std.proofs.lemmas.List.{take_at, drop_at, take-append-drop, length-append, length-take, get_or-drop}
 use Rattle.byte_fields.specs.declared.faults.SpellingFault.{SpellingFault}
 use Rattle.byte_fields.specs.declared.faults.SpellingFault.TheVariants.{Truncated, Number}
 use Rattle.byte_fields.specs.Spelling.{number_within, number, short_string, long_string}
@@ -54,8 +53,27 @@ abbrev room : ℕ → ℕ
 room zero = 1
 room (suc most) = 128 * room most
 
+neither : (a b : Bool) → (a || b) ≡ false → (a ≡ false) × (b ≡ false)
+neither true b e = absurd cc
+neither false b e = (refl, e)
+
+none_of : (a b : Bool) → a ≡ false → b ≡ false → (a || b) ≡ false
+none_of true b e f = absurd cc
+none_of false b e f = f
+
+some_if : (n : ℕ) → eqb n 0 ≡ false → 0 < n
+some_if zero e = absurd (eqb-false 0 0 e refl)
+some_if (suc n) e = omega arith
+
+pub not_zero : (n : ℕ) → 0 < n → eqb n 0 ≡ false
+not_zero n some = by (eqb n 0) refl
+  where
+    by : (b : Bool) → eqb n 0 ≡ b → b ≡ false
+    by true e = let none : n ≡ 0 = eqb-true _ _ e in absurd (omega arith)
+    by false e = refl
+
 not_outside : (h : ℕ) → (eqb h 0 || leb (2 ^ 57) h) ≡ false → (0 < h) × (h < 2 ^ 57)
-not_outside h e = (grind (arith, nat_tests, e), grind (arith, nat_tests, e))
+not_outside h e = let parts = neither _ _ e in (some_if h parts.0, leb-false _ _ parts.1)
 
 long_takes : (most : ℕ) (bytes : List ℕ) (low : ℕ) (after : List ℕ) (high : ℕ) (rest : List ℕ) → 128 ≤ low → low < 256 → (0 < high) × (high < 2 ^ 57)
     → Takes bytes (low ∷ []) after → Takes after (number_within most high) rest → Takes bytes (number_within (suc most) (low - 128 + 128 * high)) rest
@@ -107,7 +125,7 @@ number_back_within (suc most) n rest small lt = ⊎_elim
     (cases_lt n 128)
   where
     outside : (h : ℕ) → 0 < h → h < 2 ^ 57 → (eqb h 0 || leb (2 ^ 57) h) ≡ false
-    outside h some few = grind (arith, nat_tests)
+    outside h some few = none_of _ _ (not_zero h some) (lt-leb _ _ few)
 
 -- ---- strings
 

@@ -2,15 +2,14 @@
 use Rattle.std.proofs.Common.{◌≡◌, ℕ, ◌^◌, ◌<◌, Bool, true, false, cond, ltb, eqb, List, [], ◌∷◌, ◌++◌, length, ◌⊎◌, ◌≤◌, Result, Ok, Err, IsTrue, refl, ap, subst, ◌∙◌, ⊎_elim, arith}
 use Rattle.std.specs.Prelude.{not, ◌||◌, ◌&&◌, nat_le}
 use Rattle.std.specs.List.{list_all}
-use Rattle.std.proofs.lemmas.Bool.{cases_lt, ltb-true, lt-ltb, eqb-true, and_parts}
-use Rattle.std.proofs.lemmas.Bool.Decides.{nat_tests}
+use Rattle.std.proofs.lemmas.Bool.{leb-true, cases_lt, ltb-true, lt-ltb, eqb-true, and_parts}
 use Rattle.std.proofs.lemmas.List.{nil_from_length}
 use Rattle.byte_fields.specs.declared.faults.SpellingFault.{SpellingFault}
 use Rattle.byte_fields.specs.declared.faults.SpellingFault.TheVariants as fault
 use Rattle.byte_fields.specs.Spelling.{number, short_string, long_string}
 use Rattle.byte_fields.specs.Reading.{◌>>=◌, byte_at, number_at, short_string_at, long_string_at}
 use Rattle.byte_fields.specs.Laws.{IsBytes, Takes}
-use Rattle.byte_fields.specs.FieldLaws.{bind_ok, chosen, ok_is, Takes-then, byte_taken, fields_their_bytes}
+use Rattle.byte_fields.specs.FieldLaws.{not_zero, bind_ok, chosen, ok_is, Takes-then, byte_taken, fields_their_bytes}
 use Rattle.byte_fields.specs.Composing.{IsField, two, passed}
 use Rattle.join_law.specs.declared.versions.Version.{Version}
 use Rattle.load_path.specs.Paths.{PathParts, IsPath, has_folder, is_component, is_component_byte, is_dots}
@@ -64,8 +63,9 @@ scope_again Fleet rest is = ap (λ (r : Result (List ℕ × List ℕ) SpellingFa
 scope_again (Host h) rest is =
     let outer = and_parts (ltb 0 (length h) && nat_le (length h) 64) (list_all is_host_byte h) is in
     let inner = and_parts (ltb 0 (length h)) (nat_le (length h) 64) outer.0 in
-    let some : eqb (length h) 0 ≡ false = grind (arith, nat_tests, inner.0) in
-    let small : length h < 256 = grind (arith, nat_tests, inner.1) in
+    let some : eqb (length h) 0 ≡ false = not_zero (length h) (ltb-true _ _ inner.0) in
+    let within : length h ≤ 64 = leb-true _ _ inner.1 in
+    let small : length h < 256 = omega (arith, within) in
     ap (λ (r : Result (List ℕ × List ℕ) SpellingFault). r >>= scope_from) (fields_their_bytes.short_back h rest small)
     ∙ ap (λ b. cond b (Ok (Fleet, rest)) (cond (is_host h) (Ok (Host h, rest)) (Err fault.Host))) some
     ∙ ap (λ b. cond b (Ok (Host h, rest)) (Err fault.Host)) is
@@ -109,7 +109,8 @@ component_short bytes is =
     let a = and_parts (ltb 0 (length bytes) && nat_le (length bytes) 255 && list_all is_component_byte bytes) (not (is_dots bytes)) is in
     let b = and_parts (ltb 0 (length bytes) && nat_le (length bytes) 255) (list_all is_component_byte bytes) a.0 in
     let c = and_parts (ltb 0 (length bytes)) (nat_le (length bytes) 255) b.0 in
-    grind (arith, nat_tests, c.1)
+    let within : length bytes ≤ 255 = leb-true _ _ c.1 in
+    omega (arith, within)
 
 folder_short : (p : PathParts) → (not (has_folder p) || is_component p.folder) ≡ true → length p.folder < 256
 folder_short p is = ⊎_elim (λ few. few) (λ many. component_short p.folder (other (ltb 0 (length p.folder)) (is_component p.folder) (lt-ltb _ _ (omega arith)) is)) (few_or_many (length p.folder))
@@ -188,7 +189,8 @@ target_short : (t : List ℕ) → is_target t ≡ true → length t < 2 ^ 64
 target_short t is =
     let a = and_parts (ltb 0 (length t) && nat_le (length t) 4095) (list_all is_graphic t) is in
     let b = and_parts (ltb 0 (length t)) (nat_le (length t) 4095) a.0 in
-    grind (arith, nat_tests, b.1)
+    let within : length t ≤ 4095 = leb-true _ _ b.1 in
+    omega (arith, within)
 
 target_field : IsField target_at long_string (λ t. IsTrue (is_target t))
 unfolding target_at
@@ -196,7 +198,7 @@ target_field = passed long_string_at long_string (λ s. length s < 2 ^ 64) (λ t
     (record { fits = λ t p is. is; plain = λ t is. target_short t is; passes = λ t is. is })
 
 file_short : (t : List ℕ) → is_file t ≡ true → length t < 2 ^ 64
-file_short t is = grind (arith, nat_tests, is)
+file_short t is = let within : length t ≤ 65536 = leb-true _ _ is in omega (arith, within)
 
 file_field : IsField text_at long_string (λ t. IsTrue (is_file t))
 unfolding text_at
