@@ -25,7 +25,7 @@ covered s t kind ps = head kind ++ pairs s t ps
 abbrev pub spelling : {K V : Type 0} → (K → List ℕ) → (V → List ℕ) → ℕ → List (K × V) → List ℕ
 spelling s t kind ps = covered s t kind ps ++ sha256 (covered s t kind ps)
 
--- pairs whose keys ascending, of keys and values that have a spelling
+-- pairs in ascending order of their keys; keys and values have a spelling
 pub record ArePairs {K V : Type 0} (cmp : K → K → Ordering) (P : K → Type 0) (Q : V → Type 0) (ps : List (K × V)) : Type 0 where
   pub count : length ps < 2 ^ 64
   pub each : AllByRecursion (λ p. P p.0 × Q p.1) ps

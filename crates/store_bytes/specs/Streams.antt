@@ -15,7 +15,7 @@ use Rattle.store_bytes.specs.ListReading.{group_at, key_above_at, opened, pairs_
 use Rattle.store_bytes.specs.Reading.{entry_at, path_at, place_at, scope_at, version_at}
 use Rattle.store_bytes.specs.Stores.{flattened}
 
--- bytes are left after the last pair, or none are
+-- the pairs that were read, if no bytes follow them
 abbrev pub ended : {P : Type 0} → List P × List ℕ → Result (List P) SpellingFault
 ended read = if length read.1 == 0 then Ok read.0 else Err fault.Trailing
 
