@@ -1,7 +1,7 @@
 //! Parsing a line into a command.
 ghost use Rattle.std.specs.{Prelude.{◌≡◌}, Str.{bytes_eq}};
 ghost use Rattle.script_words.specs.Words.{words_of, text_after};
-ghost use Rattle.script_commands.specs.Commands.{change_of, command_of, exchange_of, question_of, unit_question_of};
+ghost use Rattle.script_commands.specs.Commands.{change_of, command_of, exchange_of, part_command, question_of, unit_question_of};
 
 use crate::commands::{Command, Inquiry, LineRefusal};
 use crate::fields::Fields;
@@ -58,12 +58,7 @@ fn exchange<'a>(verb: &[u8], mut fields: Fields<'a>) -> Result<Command<'a>, Line
             to: fields.last_name()?,
         })
     } else if is_same(verb, b"part") {
-        Ok(Command::Part {
-            piece: fields.name()?,
-            from: fields.name()?,
-            to: fields.name()?,
-            places: fields.rest(),
-        })
+        part(fields)
     } else if is_same(verb, b"send") {
         Ok(Command::Send {
             piece: fields.name()?,
@@ -75,6 +70,18 @@ fn exchange<'a>(verb: &[u8], mut fields: Fields<'a>) -> Result<Command<'a>, Line
     } else {
         question(verb, fields)
     }
+}
+
+// Returns the command `part` with these fields.
+fn part(mut fields: Fields<'_>) -> Result<Command<'_>, LineRefusal>
+    ensures command { result ≡ part_command (words_of fields.entry) }
+{
+    Ok(Command::Part {
+        piece: fields.name()?,
+        from: fields.name()?,
+        to: fields.name()?,
+        places: fields.rest(),
+    })
 }
 
 // Returns the command that this word begins, if it changes no node.

@@ -88,7 +88,7 @@ pub fn text_of(
         Ok(Some(returned)) => append_returned(&mut out, &returned),
         Ok(None) => out.write(b"none"),
         Err(AnswerFault::Workers) => out.write(b"L1 Workers"),
-        Err(AnswerFault::Memory) => return Err(LineFault::Memory(AllocError)),
+        Err(AnswerFault::Memory) => return Err(LineFault::Memory),
     }
     out.finish()
 }

@@ -11,7 +11,7 @@ use crate::rendering::{append_fault, append_places, is_same_load};
 use crate::universes::universe_of;
 use parallel_load::{LoadFault, Loaded, Refreshed, load_here, refresh_in_place};
 use replica_store::{Edit, HostName, Place, Store};
-use std::alloc::{AllocError, Global};
+use std::alloc::Global;
 use unit_name::UnitName;
 use worked_lines::{Answer, LineFault, Words};
 
@@ -97,7 +97,7 @@ fn append_compared(out: &mut Answer, load: &Loaded, here: &Result<Loaded, LoadFa
     append_fresh(out, load);
     match here {
         Ok(here) => append_beside(out, load, here)?,
-        Err(LoadFault::Memory) => return Err(LineFault::Memory(AllocError)),
+        Err(LoadFault::Memory) => return Err(LineFault::Memory),
         Err(_) => out.write(b", where there is none"),
     }
     Ok(())
@@ -119,7 +119,7 @@ fn append_given_away(
             out.write(b"; anew ");
             append_compared(out, load, here)?;
         }
-        Err(LoadFault::Memory) => return Err(LineFault::Memory(AllocError)),
+        Err(LoadFault::Memory) => return Err(LineFault::Memory),
         Err(_) => out.write(b"; and none"),
     }
     Ok(())

@@ -3,7 +3,6 @@ use crate::edits::Done;
 use parallel_load::{LoadFault, Loaded, NameLoad, Status, Unit};
 use replica_store::Place;
 use start_plan::Plan;
-use std::alloc::AllocError;
 use unit_name::UnitName;
 use worked_lines::{Answer, LineFault};
 
@@ -60,7 +59,7 @@ pub fn is_same_load(one: &Loaded, other: &Loaded) -> Result<bool, LineFault> {
 /// Writes why there is no load, unless memory ran out.
 pub fn append_fault(out: &mut Answer, fault: &LoadFault) -> Done {
     if matches!(fault, LoadFault::Memory) {
-        return Err(LineFault::Memory(AllocError));
+        return Err(LineFault::Memory);
     }
     out.print(fault);
     Ok(())

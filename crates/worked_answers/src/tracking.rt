@@ -3,7 +3,7 @@ use crate::asking::{Asking, asking_of, returned_here, text_of};
 use crate::edits::{Done, Viewer};
 use fleet_answers::{Question, TrackedReplica};
 use replica_store::{Content, Edit, EditFault, Place, Replica, Store, Version};
-use std::alloc::{AllocError, Global};
+use std::alloc::Global;
 use std::thread::Threads;
 use worked_lines::{Answer, LineFault, Words};
 use worker_rounds::OpenGate;
@@ -25,7 +25,7 @@ fn check_taken(version: &Result<Version, EditFault>) -> Done {
     match version {
         Ok(_) | Err(EditFault::Nothing) => Ok(()),
         Err(EditFault::VersionsSpent) => Err(LineFault::Words),
-        Err(EditFault::Memory) => Err(LineFault::Memory(AllocError)),
+        Err(EditFault::Memory) => Err(LineFault::Memory),
     }
 }
 

@@ -10,7 +10,7 @@ use parallel_load::Loaded;
 use plain_values::Items;
 use setting_rules::DepKind;
 use start_plan::{Refusal, Request, plan};
-use std::alloc::{AllocError, Global};
+use std::alloc::Global;
 use unit_graph::Graph;
 use unit_name::UnitName;
 use worked_lines::{Answer, LineFault};
@@ -36,7 +36,7 @@ fn append_started(out: &mut Answer, graph: &Graph, target: &UnitName) -> Done
     };
     match plan(out.alloc, graph, &request) {
         Ok(plan) => append_plan(out, &plan),
-        Err(Refusal::Memory) => return Err(LineFault::Memory(AllocError)),
+        Err(Refusal::Memory) => return Err(LineFault::Memory),
         Err(refusal) => out.print(&refusal),
     }
     Ok(())

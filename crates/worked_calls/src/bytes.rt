@@ -5,7 +5,6 @@ ghost use Rattle.store_bytes.specs.Streams.{most_left};
 use crate::edits::{append_at, append_store, append_version};
 use crate::pieces::{append_digest, append_piece, asked, piece};
 use replica_store::{Entry, Place, Version};
-use std::alloc::AllocError;
 use store_bytes::{
     DecodeFault, Decoder, EntryReader, VersionReader, digest_from_bytes, digest_to_bytes,
     piece_from_bytes, piece_to_bytes, store_from_bytes, store_id, store_to_bytes,
@@ -87,7 +86,7 @@ fn read_digest(out: &mut Answer, bytes: &[u8]) -> Result<(), LineFault> {
 // Writes a fault, after a space unless nothing is written yet.
 fn refuse(out: &mut Answer, fault: DecodeFault) -> Result<(), LineFault> {
     match fault {
-        DecodeFault::Memory => Err(LineFault::Memory(AllocError)),
+        DecodeFault::Memory => Err(LineFault::Memory),
         DecodeFault::Fault(fault) => {
             out.part(b" ");
             out.print(&fault);

@@ -1,6 +1,5 @@
 //! Calls on unit names, escapes and specifiers.
 use crate::orders::append_signs;
-use std::alloc::AllocError;
 use unit_name::{ExpandFault, NameFault, UnitName, escape, expand, unescape};
 use worked_lines::{Answer, LineFault, Words, match_word};
 
@@ -52,7 +51,7 @@ fn of_name(
 fn parse(text: &[u8], out: &mut Answer) -> Result<(), LineFault> {
     match UnitName::parse(out.alloc, text) {
         Ok(name) => out.spell(name.bytes()),
-        Err(NameFault::Memory) => return Err(LineFault::Memory(AllocError)),
+        Err(NameFault::Memory) => return Err(LineFault::Memory),
         Err(fault) => out.print(&fault),
     }
     Ok(())
@@ -100,7 +99,7 @@ fn append_clone(out: &mut Answer, name: &UnitName) -> Result<(), LineFault> {
 fn append_expanded(out: &mut Answer, name: &UnitName, value: &[u8]) -> Result<(), LineFault> {
     match expand(out.alloc, value, name) {
         Ok(bytes) => out.spell(&bytes),
-        Err(ExpandFault::Memory) => return Err(LineFault::Memory(AllocError)),
+        Err(ExpandFault::Memory) => return Err(LineFault::Memory),
         Err(fault) => out.print(&fault),
     }
     Ok(())

@@ -3,7 +3,7 @@ use crate::orders::append_signs;
 use crate::written::{append_text, full_of};
 use load_path::{Path, PathFault};
 use plain_values::Bytes;
-use std::alloc::{AllocError, Global};
+use std::alloc::Global;
 use worked_lines::{Answer, LineFault, Words, each_of, match_word, text_of};
 
 /// Writes the answer to a call on paths.
@@ -43,7 +43,7 @@ fn of_path(call: &[u8], path: &Path, out: &mut Answer) -> Result<(), LineFault> 
 fn parse(words: &mut Words, out: &mut Answer) -> Result<(), LineFault> {
     match Path::parse(words.alloc, &words.text()?) {
         Ok(path) => out.write_path(&path),
-        Err(PathFault::Memory) => return Err(LineFault::Memory(AllocError)),
+        Err(PathFault::Memory) => return Err(LineFault::Memory),
         Err(fault) => out.print(&fault),
     }
     Ok(())

@@ -2,7 +2,7 @@
 use crate::orders::append_signs;
 use crate::written::{append_text, full_of};
 use replica_store::{HostFault, HostName, Place, PlaceFault};
-use std::alloc::{AllocError, Global};
+use std::alloc::Global;
 use worked_lines::{Answer, LineFault, Words, each_of, match_word, text_of};
 
 /// Writes the answer to a call on hosts or places.
@@ -38,7 +38,7 @@ fn of_place(call: &[u8], place: &Place, out: &mut Answer) -> Result<(), LineFaul
 fn host(words: &mut Words, out: &mut Answer) -> Result<(), LineFault> {
     match HostName::parse(words.alloc, &words.text()?) {
         Ok(host) => out.write(host.try_clone()?.bytes()),
-        Err(HostFault::Memory) => return Err(LineFault::Memory(AllocError)),
+        Err(HostFault::Memory) => return Err(LineFault::Memory),
         Err(fault) => out.print(&fault),
     }
     Ok(())
@@ -53,7 +53,7 @@ fn host_of(alloc: Global, word: &[u8]) -> Result<HostName, LineFault> {
 fn parse(words: &mut Words, out: &mut Answer) -> Result<(), LineFault> {
     match Place::parse(words.alloc, &words.text()?) {
         Ok(place) => out.write_place(&place),
-        Err(PlaceFault::Memory) => return Err(LineFault::Memory(AllocError)),
+        Err(PlaceFault::Memory) => return Err(LineFault::Memory),
         Err(fault) => out.print(&fault),
     }
     Ok(())

@@ -47,7 +47,7 @@ fn append_edited(
             out.write(b":");
             append_store(out, replica.store())
         }
-        Err(EditFault::Memory) => Err(LineFault::Memory(AllocError)),
+        Err(EditFault::Memory) => Err(LineFault::Memory),
         Err(fault) => {
             out.print(&fault);
             Ok(())

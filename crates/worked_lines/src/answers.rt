@@ -47,7 +47,7 @@ impl Answer {
             is_cut_off,
         } = self;
         if is_cut_off {
-            return Err(LineFault::Memory(AllocError));
+            return Err(LineFault::Memory);
         }
         Ok(bytes)
     }

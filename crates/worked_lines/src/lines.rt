@@ -28,7 +28,7 @@ fn answer_line<F: Fn(&mut Words, &mut Answer) -> Result<(), LineFault>>(
 fn append_answer(out: &mut Vec<u8>, answer: &Result<Vec<u8>, LineFault>) -> Result<(), AllocError> {
     out.extend_from_slice(match answer {
         Ok(text) => text,
-        Err(fault) if fault.is_memory() => b"memory",
+        Err(fault) if matches!(fault, LineFault::Memory) => b"memory",
         Err(_) => b"no such call",
     })
 }

@@ -10,7 +10,6 @@ use crate::threads::{plan_of, work_threads};
 use node_histories::NodeName;
 use replica_store::{Replica, Store};
 use shared_node::{Blank, BlankFault, Node};
-use std::alloc::AllocError;
 use std::marker::Brand;
 use std::slice::from_ref;
 use std::sync::Wait;
@@ -91,7 +90,7 @@ fn append_refused(out: &mut Answer, fault: &BlankFault) -> Result<(), LineFault>
             out.line(b"A1 Seats");
             Ok(())
         }
-        BlankFault::Memory(_) => Err(LineFault::Memory(AllocError)),
+        BlankFault::Memory(_) => Err(LineFault::Memory),
     }
 }
 

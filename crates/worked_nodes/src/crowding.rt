@@ -1,7 +1,6 @@
 //! Crowds at an empty node.
 use crowds::{Counted, CrowdFault, Gate, MOST_EDITS, ROOM, crowd};
 use replica_store::Replica;
-use std::alloc::AllocError;
 use std::sync::Wait;
 use std::thread::Threads;
 use std::time::Clock;
@@ -34,7 +33,7 @@ fn append_counted(
             out.line_made(format!(in out.alloc; "takes {takes} paths {paths}"));
         }
         Err(CrowdFault::Seats) => out.line(b"A1 Seats"),
-        Err(CrowdFault::Memory) => return Err(LineFault::Memory(AllocError)),
+        Err(CrowdFault::Memory) => return Err(LineFault::Memory),
     }
     Ok(())
 }

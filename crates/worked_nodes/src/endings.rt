@@ -2,7 +2,6 @@
 use crate::bench::{Bench, append_store};
 use node_histories::NodeName;
 use shared_node::{CloseCause, CloseFault, Closed, Node, Seat};
-use std::alloc::AllocError;
 use std::sync::Wait;
 use worked_lines::LineFault;
 
@@ -97,7 +96,7 @@ fn close_again<N: NodeName, R: Wait>(
     } = fault;
     if seats.push(last).is_err() {
         node.end(rt);
-        return Err(LineFault::Memory(AllocError));
+        return Err(LineFault::Memory);
     }
     close_with(rt, node, bench, seats);
     Ok(())
@@ -111,7 +110,7 @@ pub fn close_short<N: NodeName, R: Wait>(
 ) -> Result<(), LineFault> {
     let Ok(mut seats) = seats_of(bench) else {
         node.end(rt);
-        return Err(LineFault::Memory(AllocError));
+        return Err(LineFault::Memory);
     };
     match seats.pop() {
         Some(last) => close_again(rt, node, bench, seats, last),

@@ -4,7 +4,6 @@ use crate::edits::one_piece;
 use crossbeam_channel::{Receiver, Sender, unbounded};
 use node_histories::NodeName;
 use shared_node::{Message, Node, Served, serve};
-use std::alloc::AllocError;
 use std::sync::Wait;
 use worked_lines::{CountingGate, LineFault, Words, match_word};
 
@@ -32,7 +31,7 @@ fn send_all<R: Wait>(rt: &R, sender: &Sender<Message>, words: &mut Words) -> Res
         };
         let message = message_of(word, words)?;
         if sender.send(rt, message).is_err() {
-            return Err(LineFault::Memory(AllocError));
+            return Err(LineFault::Memory);
         }
     }
     Ok(())

@@ -41,14 +41,14 @@ struct Job<N: NodeName> {
 // The place of a seat's own file.
 fn place_of(alloc: Global, seat: usize) -> Result<Place, LineFault> {
     let text = format!(in alloc; "/etc/systemd/system/crowd-{seat}.service")?;
-    Place::parse(alloc, text.as_bytes()).map_err(|_| LineFault::Memory(AllocError))
+    Place::parse(alloc, text.as_bytes()).map_err(|_| LineFault::Memory)
 }
 
 // What a seat writes in its edit with this number.
 fn file_of(alloc: Global, seat: usize, number: u64) -> Result<Content, LineFault> {
     let text = format!(in alloc; "[Unit]\nDescription={seat} {number}\n")?;
     let bytes = Vec::from_slice(alloc, text.as_bytes())?;
-    Content::file(bytes).map_err(|_| LineFault::Memory(AllocError))
+    Content::file(bytes).map_err(|_| LineFault::Memory)
 }
 
 // Makes the edit of its own file with this number from a seat.
@@ -62,7 +62,7 @@ fn make_edit<N: NodeName, R: Wait>(
     let place = place_of(alloc, seat.number())?;
     let content = file_of(alloc, seat.number(), number)?;
     if node.edit(rt, seat, place, content).is_err() {
-        return Err(LineFault::Memory(AllocError));
+        return Err(LineFault::Memory);
     }
     Ok(())
 }
@@ -213,7 +213,7 @@ fn close_with<N: NodeName, R: Wait>(
         }
         Err(fault) => {
             fault.end(rt);
-            Err(LineFault::Memory(AllocError))
+            Err(LineFault::Memory)
         }
     }
 }
