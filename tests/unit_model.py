@@ -16,9 +16,10 @@ for pair in ("Before After", "Wants WantedBy", "Requires RequiredBy", "Requisite
     INVERSES[one], INVERSES[other] = other, one
 SETTABLE = "Before After Wants Requires Requisite BindsTo PartOf Conflicts OnFailure PropagatesReloadTo ReloadPropagatedFrom".split()
 
-FAULT_NAMES = {"H1": "HostName", "N1": "Length", "N2": "Kind", "N3": "EmptyPrefix", "N4": "BadByte", "B1": "Kind", "B2": "Shape", "B3": "Loop",
-               "B4": "Target", "P1": "Template", "P2": "NotFound", "P3": "Masked", "P4": "Bad", "P5": "ManualStart", "P6": "Requisite",
-               "P7": "Conflict", "P8": "Cycle", "L2": "TooManyUnits"}
+FAULT_NAMES = {"H1": "HostName", "F1": "Directory", "F2": "Depth", "F3": "Component", "E3": "NotVisible", "N1": "Length", "N2": "Kind",
+               "N3": "EmptyPrefix", "N4": "BadByte", "B1": "Kind", "B2": "Shape", "B3": "Loop", "B4": "Target", "P1": "Template",
+               "P2": "NotFound", "P3": "Masked", "P4": "Bad", "P5": "ManualStart", "P6": "Requisite", "P7": "Conflict", "P8": "Cycle",
+               "L2": "TooManyUnits"}
 
 
 class Link(str):
@@ -180,11 +181,16 @@ def settings_of(items):
 # ---- what a store gives for a name
 
 
+def is_host(text):
+    """Whether a host may have this name."""
+    return bool(re.fullmatch(r"[A-Za-z0-9.-]{1,64}", text))
+
+
 class Units:
     """What a store comes to for a host, or, without one, for the whole fleet. H1 where the host has no name that a host may have."""
 
     def __init__(self, store, host):
-        if host is not None and not re.fullmatch(r"[A-Za-z0-9.-]{1,64}", host):
+        if host is not None and not is_host(host):
             raise Refused("H1")
         self.store = store
         # The directories that are looked at, by levels: of each the host's own, and then the fleet's.
@@ -548,7 +554,35 @@ def cat(store, host, name):
     main, said = units.resolved(Name(name).text)
     if said[0] != "fragment":
         raise Refused({"not-found": "P2", "masked": "P3", "bad": "P4"}[said[0]], main)
-    text = ""
-    for place in [said[1], *units.dropins(units.names(main))]:
-        text += f"# {place}\n" + store[place] + ("" if store[place].endswith("\n") else "\n")
-    return [*text.removesuffix("\n").split("\n"), "end"]
+    return [*[it for place in [said[1], *units.dropins(units.names(main))] for it in file_lines(place, store[place])], "end"]
+
+
+def file_lines(place, text):
+    """The lines of a file after that of its place; to its bytes a line feed is added, unless their last one is one."""
+    return [f"# {place}", *text.removesuffix("\n").split("\n")]
+
+
+def refuse_place(word):
+    """Refuses a word that writes no place, for the first thing wrong with it."""
+    host, colon, path = word.partition(":")
+    if word.startswith("/") or not colon:
+        path = word
+    elif not is_host(host):
+        raise Refused("H1")
+    directory = next((it for it in DIRECTORIES if path.startswith(f"{it}/")), None)
+    if not directory:
+        raise Refused("F1")
+    parts = path[len(directory) + 1:].split("/")
+    if len(parts) > 2:
+        raise Refused("F2")
+    if any(not re.fullmatch(r"[!-~]{1,255}", it) or it in (".", "..") for it in parts):
+        raise Refused("F3")
+
+
+def text(store, place):
+    """The file or the link that is visible at a place."""
+    refuse_place(place)
+    content = store.get(place)
+    if content is None:
+        raise Refused("E3")
+    return [*([f"{place} link {content}"] if isinstance(content, Link) else file_lines(place, content)), "end"]

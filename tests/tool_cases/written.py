@@ -50,7 +50,8 @@ def what_a_node_shows(bench):
     """Of a longer script a node's last state is written: no removed places, of each the version that stands; questions among its lines
     change nothing, whatever they print."""
     text = "\r\n".join([
-        "# two nodes", "node a 1", "node b 2", f"put a {E}/x.service end\\nok 9.9\\n", "cat a x.service", "files a", "workers 2", "", "  ",
+        "# two nodes", "node a 1", "node b 2", f"put a {E}/x.service end\\nok 9.9\\n", "cat a x.service", "files a",
+        f"text a {E}/x.service", "workers 2", "", "  ",
         f"put  b   {E}/x.service  two spaces \\x41", f"put b {U}/y.service Y", "show a x.service", f"put b {U}/z.service Z", "frob",
         f"put b {U}/w.service bad \\q", f"remove b {U}/z.service", "part p b a", "send p a", "crowd a 2 2", f"link a {E}/l.service  x.service ",
         f"put a web1:{E}/x.service W", "same a b", "plan a x.service", f"put b {U}/y.service only b's", "merge a b",

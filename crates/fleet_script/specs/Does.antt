@@ -1,7 +1,7 @@
 -- What each command does: which outcome it may have in a world, and which world it leaves.
 -- Source: this project's own.
 use Rattle.std.proofs.Common.{◌==◌, ◌∷◌, ◌≡◌, ◌≢◌, ◌⊎◌}
-use Rattle.fleet_script.specs.Prelude.{[], BadLink, BadText, changed_line, changed_places, codes, Command, Component, Content, cut, Depth, digest_of, Directory, entries_line, EntryMap, Err, File, files_text, FileTooLarge, Gone, happened, has_writer, held, high_of, HostName, is_file, is_target, IsBadText, IsWorkerCount, length, LineRefusal, Link, List, MatchBool, MatchOption, MatchResult, merged, next_edit, node_named, NodeTaken, None, Nothing, Ok, ok_line, Option, Outcome, parted, piece_named, place_of, PlaceFault, PlaceParts, places_of, RendersCrowd, RendersFiles, RendersInquiry, ScriptWorld, Some, Spells, swept, UnknownNode, UnknownPiece, VersionsSpent, visible_at, with_node, Workers, WriterTaken, ℕ}
+use Rattle.fleet_script.specs.Prelude.{[], BadLink, BadText, changed_line, changed_places, codes, Command, Component, Content, cut, Depth, digest_of, Directory, entries_line, EntryMap, Err, File, files_text, FileTooLarge, Gone, happened, has_writer, held, high_of, HostName, is_file, is_target, IsBadText, IsWorkerCount, length, LineRefusal, Link, List, MatchBool, MatchOption, MatchResult, merged, next_edit, node_named, NodeTaken, None, Nothing, Ok, ok_line, Option, Outcome, parted, piece_named, place_of, PlaceFault, PlaceParts, places_of, RendersCrowd, RendersFiles, RendersInquiry, RendersText, ScriptWorld, Some, Spells, swept, UnknownNode, UnknownPiece, VersionsSpent, visible_at, with_node, Workers, WriterTaken, ℕ}
 use Rattle.std.specs.FinMap as finmap
 use Rattle.load_places.specs.declared.places.PlaceFault.TheVariants as place
 use Rattle.world_law.specs.declared.events.Event.TheVariants as event
@@ -148,6 +148,7 @@ Does old (command.Part piece from to places) outcome new = Parts old outcome new
 Does old (command.Send piece node) outcome new = Sends old outcome new piece node
 Does old command.Sweep outcome new = Sweeps old outcome new
 Does old (command.Files node) outcome new = Reads old outcome new node RendersPlaces
+Does old (command.Text node place) outcome new = Reads old outcome new node (RendersText place)
 Does old (command.Cat node host unit) outcome new = Reads old outcome new node (RendersFiles host unit)
 Does old (command.Ask node host inquiry) outcome new = Reads old outcome new node (RendersInquiry host inquiry)
 Does old (command.Workers count) outcome new = WorkerCounts old outcome new count

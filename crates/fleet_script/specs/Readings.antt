@@ -8,6 +8,7 @@ use Rattle.script_commands.specs.declared.commands.Command.TheVariants as comman
 -- the command reads one node and changes nothing
 abbrev pub IsReading : Command → Type 0
 IsReading (command.Files node) = Unit {0}
+IsReading (command.Text node place) = Unit {0}
 IsReading (command.Cat node host unit) = Unit {0}
 IsReading (command.Ask node host inquiry) = Unit {0}
 IsReading (command.Crowd node seats edits) = Unit {0}
@@ -16,6 +17,7 @@ IsReading other = ⊥
 -- the same command for the node with this name
 abbrev pub of_node : List ℕ → Command → Command
 of_node name (command.Files node) = command.Files name
+of_node name (command.Text node place) = command.Text name place
 of_node name (command.Cat node host unit) = command.Cat name host unit
 of_node name (command.Ask node host inquiry) = command.Ask name host inquiry
 of_node name (command.Crowd node seats edits) = command.Crowd name seats edits

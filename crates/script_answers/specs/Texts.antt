@@ -1,7 +1,7 @@
 -- How answers are written.
 -- Source: this project's own.
 use Rattle.std.proofs.Common.{◌++◌}
-use Rattle.script_answers.specs.Prelude.{[], Arguments, Bad, BadByte, BadLink, BadText, codes, Component, Conflict, Content, Cycle, decimal, Depth, Directory, EmptyPrefix, Entry, EntryMap, Err, File, FileTooLarge, flat_map, Gone, HostName, Kind, Length, length, LineRefusal, LineTooLong, Link, List, ManualStart, Masked, Name, NodeTaken, NotFound, Nothing, Ok, Outcome, place_text, PlaceParts, Requisite, Seats, Template, TooManyUnits, UnknownCommand, UnknownNode, UnknownPiece, Version, VersionsSpent, Workers, WriterTaken, ℕ}
+use Rattle.script_answers.specs.Prelude.{[], Arguments, Bad, BadByte, BadLink, BadText, codes, Component, Conflict, Content, Cycle, decimal, Depth, Directory, EmptyPrefix, Entry, EntryMap, Err, File, FileTooLarge, flat_map, Gone, HostName, Kind, Length, length, LineRefusal, LineTooLong, Link, List, ManualStart, Masked, Name, NodeTaken, NotFound, Nothing, NotVisible, Ok, Outcome, place_text, PlaceParts, Requisite, Seats, Template, TooManyUnits, UnknownCommand, UnknownNode, UnknownPiece, Version, VersionsSpent, Workers, WriterTaken, ℕ}
 use Rattle.std.specs.FinMap as finmap
 
 -- the counter, a dot, the writer
@@ -51,6 +51,7 @@ refusal_name FileTooLarge = codes "C1 FileTooLarge"
 refusal_name BadLink = codes "C2 BadLink"
 refusal_name VersionsSpent = codes "E1 VersionsSpent"
 refusal_name Nothing = codes "E2 Nothing"
+refusal_name NotVisible = codes "E3 NotVisible"
 refusal_name Length = codes "N1 Length"
 refusal_name Kind = codes "N2 Kind"
 refusal_name EmptyPrefix = codes "N3 EmptyPrefix"

@@ -32,6 +32,7 @@ fn code_and_name(refusal: &LineRefusal) -> &'static [u8]
         LineRefusal::BadLink => b"C2 BadLink",
         LineRefusal::VersionsSpent => b"E1 VersionsSpent",
         LineRefusal::Nothing => b"E2 Nothing",
+        LineRefusal::NotVisible => b"E3 NotVisible",
         LineRefusal::Length => b"N1 Length",
         LineRefusal::Kind => b"N2 Kind",
         LineRefusal::EmptyPrefix => b"N3 EmptyPrefix",

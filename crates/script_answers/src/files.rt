@@ -25,8 +25,9 @@ fn bytes_of<'a>(content: Option<&'a Content>) -> &'a [u8]
     }
 }
 
-// Appends a file: its place after `# `, and its bytes, with a line feed added if the last byte is none.
-fn append_file(out: &mut Vec<u8>, place: &Place, bytes: &[u8]) -> Result<(), AllocError>
+/// Appends a file: its place after `# `, and its bytes, with a line feed added if the last byte is none. Fails only if
+/// memory runs out.
+pub(crate) fn append_file(out: &mut Vec<u8>, place: &Place, bytes: &[u8]) -> Result<(), AllocError>
     ensures appended { OnOk result (out.new.items ≡ out.old.items ++ file_lines place.now bytes.now) }
 {
     out.extend_from_slice(b"# ")?;

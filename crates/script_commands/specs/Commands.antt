@@ -2,7 +2,7 @@
 -- Source: this project's own.
 use Rattle.std.proofs.Common.{if◌then◌else◌, ◌&&◌, ◌∷◌}
 use Rattle.script_commands.specs.Prelude.{[], bytes_eq, codes, Err, is_name, List, nat_le, None, number_of, Ok, Option, Result, Some, text_after, words_of, ℕ}
-use Rattle.script_commands.specs.{declared.commands.{Command.{Command, TheVariants.{Ask, Cat, Crowd, Files, Link, Merge, Node, Part, Put, Remove, Same, Send, Sweep, Workers}}, Inquiry.{Inquiry}, LineRefusal.{LineRefusal, TheVariants.{Arguments, UnknownCommand}}}, Hosts.{host_in, node_in}}
+use Rattle.script_commands.specs.{declared.commands.{Command.{Command, TheVariants.{Ask, Cat, Crowd, Files, Link, Merge, Node, Part, Put, Remove, Same, Send, Sweep, Text, Workers}}, Inquiry.{Inquiry}, LineRefusal.{LineRefusal, TheVariants.{Arguments, UnknownCommand}}}, Hosts.{host_in, node_in}}
 use Rattle.script_commands.specs.declared.commands.Inquiry.TheVariants as inquiry
 
 -- a command with a name and a word
@@ -92,10 +92,11 @@ unit_question_of verb words =
 abbrev pub question_of : List ℕ → List (List ℕ) → Result Command LineRefusal
 question_of verb words =
     if bytes_eq verb (codes "files") then files_command words
+    else (if bytes_eq verb (codes "text") then with_name_and_word Text words
     else (if bytes_eq verb (codes "workers") then workers_command words
     else (if bytes_eq verb (codes "same") then with_two_names Same words
     else (if bytes_eq verb (codes "crowd") then crowd_command words
-    else unit_question_of verb words)))
+    else unit_question_of verb words))))
 
 -- the first word names the command, which brings to one node what another holds, or changes none
 abbrev pub exchange_of : List ℕ → List (List ℕ) → Result Command LineRefusal

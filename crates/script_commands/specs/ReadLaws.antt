@@ -2,7 +2,7 @@
 -- it.
 use Rattle.std.proofs.Common.{◌&&◌, ◌∷◌, ◌≡◌, ◌⊎◌}
 use Rattle.script_commands.specs.Prelude.{[], and_from, and_parts, ap, Bool, bytes_eq, bytes_eq-Decides, codes, cond, cond-true, drop, Err, false, inl, inr, is_name, le-leb, leb-true, List, nat_le, None, number_of, Ok, Option, refl, Result, Some, subst, sym, text_after, true, true≢false, words_of, ℕ, ◌∙◌}
-use Rattle.script_commands.specs.{Commands.{asking, command_of_words, crowd_command, crowd_with, files_command, link_command, node_command, node_with, part_command, plan_command, put_command, sweep_command, with_name_and_word, with_node_and_word, with_two_names, workers_command, workers_with}, declared.commands.{Command.{Command, TheVariants.{Ask, Cat, Crowd, Files, Link, Merge, Node, Part, Put, Remove, Same, Send, Sweep, Workers}}, LineRefusal.{LineRefusal, TheVariants.{Arguments, UnknownCommand}}}, HostLaws.{node_word-read}, Hosts.{host_in, node_in, node_word}, WrittenLaws.{AreWordsOf, BeginsWithVerb, IsName, IsOneOf, JustItsWordsAreRead, node_word_is_cut, OthersAreRefused, verbs}}
+use Rattle.script_commands.specs.{Commands.{asking, command_of_words, crowd_command, crowd_with, files_command, link_command, node_command, node_with, part_command, plan_command, put_command, sweep_command, with_name_and_word, with_node_and_word, with_two_names, workers_command, workers_with}, declared.commands.{Command.{Command, TheVariants.{Ask, Cat, Crowd, Files, Link, Merge, Node, Part, Put, Remove, Same, Send, Sweep, Text, Workers}}, LineRefusal.{LineRefusal, TheVariants.{Arguments, UnknownCommand}}}, HostLaws.{node_word-read}, Hosts.{host_in, node_in, node_word}, WrittenLaws.{AreWordsOf, BeginsWithVerb, IsName, IsOneOf, JustItsWordsAreRead, node_word_is_cut, OthersAreRefused, verbs}}
 use Rattle.script_commands.specs.declared.commands.Inquiry.TheVariants as inquiry
 
 -- No other words.
@@ -131,18 +131,20 @@ module _ (c : Command) (line : List ℕ) where
       (two_names_read (codes "send") Send (λ piece node is and. (refl, is, and)) words) (λ e6.
       verb_or verb (codes "sweep") words (sweep_command words) _ e6 (sweep_read words) (λ e7.
       verb_or verb (codes "files") words (files_command words) _ e7 (files_read words) (λ e8.
-      verb_or verb (codes "workers") words (workers_command words) _ e8 (workers_read words) (λ e9.
-      verb_or verb (codes "same") words (with_two_names Same words) _ e9
-      (two_names_read (codes "same") Same (λ left right is and. (refl, is, and)) words) (λ e10.
-      verb_or verb (codes "crowd") words (crowd_command words) _ e10 (crowd_read words) (λ e11.
-      verb_or verb (codes "cat") words (with_node_and_word Cat words) _ e11
-      (node_and_word_read (codes "cat") Cat (λ node host unit named. (refl, named)) words) (λ e12.
-      verb_or verb (codes "show") words (with_node_and_word (asking inquiry.Unit) words) _ e12
-      (node_and_word_read (codes "show") (asking inquiry.Unit) (λ node host unit named. (refl, named)) words) (λ e13.
-      verb_or verb (codes "list") words (with_node_and_word (asking inquiry.List) words) _ e13
-      (node_and_word_read (codes "list") (asking inquiry.List) (λ node host unit named. (refl, named)) words) (λ e14.
-      verb_or verb (codes "plan") words (plan_command words) _ e14 (plan_read words) (λ e15.
-      absurd (never UnknownCommand c e15)))))))))))))))))
+      verb_or verb (codes "text") words (with_name_and_word Text words) _ e8
+      (name_and_word_read (codes "text") Text (λ node place named. (refl, named)) words) (λ e9.
+      verb_or verb (codes "workers") words (workers_command words) _ e9 (workers_read words) (λ e10.
+      verb_or verb (codes "same") words (with_two_names Same words) _ e10
+      (two_names_read (codes "same") Same (λ left right is and. (refl, is, and)) words) (λ e11.
+      verb_or verb (codes "crowd") words (crowd_command words) _ e11 (crowd_read words) (λ e12.
+      verb_or verb (codes "cat") words (with_node_and_word Cat words) _ e12
+      (node_and_word_read (codes "cat") Cat (λ node host unit named. (refl, named)) words) (λ e13.
+      verb_or verb (codes "show") words (with_node_and_word (asking inquiry.Unit) words) _ e13
+      (node_and_word_read (codes "show") (asking inquiry.Unit) (λ node host unit named. (refl, named)) words) (λ e14.
+      verb_or verb (codes "list") words (with_node_and_word (asking inquiry.List) words) _ e14
+      (node_and_word_read (codes "list") (asking inquiry.List) (λ node host unit named. (refl, named)) words) (λ e15.
+      verb_or verb (codes "plan") words (plan_command words) _ e15 (plan_read words) (λ e16.
+      absurd (never UnknownCommand c e16))))))))))))))))))
 
 -- lines with these words are read
 read_as : (c : Command) (words : List (List ℕ)) (line : List ℕ) → AreWordsOf c words line → command_of_words words line ≡ Ok c
@@ -157,6 +159,7 @@ read_as (Part piece from to places) words line (same, named, is, and) =
 read_as (Send piece node) words line (same, named, is) = ap (λ v. command_of_words v line) same ∙ cond-true _ _ _ (and_from _ _ named is)
 read_as Sweep words line same = ap (λ v. command_of_words v line) same
 read_as (Files node) words line (same, named) = ap (λ v. command_of_words v line) same ∙ cond-true _ _ _ named
+read_as (Text node place) words line (same, named) = ap (λ v. command_of_words v line) same ∙ cond-true _ _ _ named
 read_as (Cat node host unit) words line (same, named) =
     ap (λ v. command_of_words v line) same ∙ node_word_is_cut node host (λ n h. Cat n h unit) named
 read_as (Ask node host (inquiry.Unit unit)) words line (same, named) =
@@ -282,14 +285,15 @@ module _ (r : LineRefusal) (line : List ℕ) where
       refused_at verb (codes "send") (drop 7 verbs) (with_two_names Send words) _ e5 (two_names_refused Send words) (λ e6.
       refused_at verb (codes "sweep") (drop 8 verbs) (sweep_command words) _ e6 (sweep_refused words) (λ e7.
       refused_at verb (codes "files") (drop 9 verbs) (files_command words) _ e7 (files_refused words) (λ e8.
-      refused_at verb (codes "workers") (drop 10 verbs) (workers_command words) _ e8 (workers_refused words) (λ e9.
-      refused_at verb (codes "same") (drop 11 verbs) (with_two_names Same words) _ e9 (two_names_refused Same words) (λ e10.
-      refused_at verb (codes "crowd") (drop 12 verbs) (crowd_command words) _ e10 (crowd_refused words) (λ e11.
-      refused_at verb (codes "cat") (drop 13 verbs) (with_node_and_word Cat words) _ e11 (node_and_word_refused Cat words) (λ e12.
-      refused_at verb (codes "show") (drop 14 verbs) (with_node_and_word (asking inquiry.Unit) words) _ e12 (node_and_word_refused (asking inquiry.Unit) words) (λ e13.
-      refused_at verb (codes "list") (drop 15 verbs) (with_node_and_word (asking inquiry.List) words) _ e13 (node_and_word_refused (asking inquiry.List) words) (λ e14.
-      refused_at verb (codes "plan") (drop 16 verbs) (plan_command words) _ e14 (plan_refused words) (λ e15.
-      inr (λ none. none, same_refusal r UnknownCommand e15)))))))))))))))))
+      refused_at verb (codes "text") (drop 10 verbs) (with_name_and_word Text words) _ e8 (name_and_word_refused Text words) (λ e9.
+      refused_at verb (codes "workers") (drop 11 verbs) (workers_command words) _ e9 (workers_refused words) (λ e10.
+      refused_at verb (codes "same") (drop 12 verbs) (with_two_names Same words) _ e10 (two_names_refused Same words) (λ e11.
+      refused_at verb (codes "crowd") (drop 13 verbs) (crowd_command words) _ e11 (crowd_refused words) (λ e12.
+      refused_at verb (codes "cat") (drop 14 verbs) (with_node_and_word Cat words) _ e12 (node_and_word_refused Cat words) (λ e13.
+      refused_at verb (codes "show") (drop 15 verbs) (with_node_and_word (asking inquiry.Unit) words) _ e13 (node_and_word_refused (asking inquiry.Unit) words) (λ e14.
+      refused_at verb (codes "list") (drop 16 verbs) (with_node_and_word (asking inquiry.List) words) _ e14 (node_and_word_refused (asking inquiry.List) words) (λ e15.
+      refused_at verb (codes "plan") (drop 17 verbs) (plan_command words) _ e15 (plan_refused words) (λ e16.
+      inr (λ none. none, same_refusal r UnknownCommand e16))))))))))))))))))
 
 pub others_are_refused : OthersAreRefused
 others_are_refused line refusal e = why_refused refusal line (words_of line) e

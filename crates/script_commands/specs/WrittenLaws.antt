@@ -2,7 +2,7 @@
 use Rattle.std.proofs.Common.{◌&&◌, ◌++◌, ◌<◌, ◌^◌, ◌↔◌, ◌∷◌, ◌≡◌, ◌≢◌, ◌≤◌, ◌⊎◌}
 use Rattle.script_words.specs.Names.{is_name}
 use Rattle.script_commands.specs.Prelude.{[], All, All-append, All-cons, All-from_recursion, AllByRecursion, and_from, and_parts, ap, append_assoc, arith, Bool, codes, cond, cond-true, decimal, decimal_nonempty, digits_decimal, Err, false, is_ascii_alphanumeric, is_ascii_digit, IsDigitsTest, IsWord, join_with_byte, le-leb, length, length-append, length-decimal-le, List, list_all, nat_lt, nat_tests, None, number_of, number_of-decimal, numerals_by_value, Ok, Option, recursion_from_All, refl, Result, rules, Some, spaced, sym, text_after, text_after-last, text_after-spaced, true, true≢false, words_of, words_of-nil, words_of-spaced, words_of-word, words_of-word_space, ℕ, ◌∙◌}
-use Rattle.script_commands.specs.{Commands.{asking, command_of, command_of_words, crowd_with, node_with, with_name_and_word, with_node_and_word, with_two_names, workers_with}, declared.commands.{Command.{Command, TheVariants.{Ask, Cat, Crowd, Files, Link, Merge, Node, Part, Put, Remove, Same, Send, Sweep, Workers}}, LineRefusal.{LineRefusal, TheVariants.{Arguments, UnknownCommand}}}, HostLaws.{host_in-node_word, node_in-node_word}, Hosts.{host_in, node_in, node_word}}
+use Rattle.script_commands.specs.{Commands.{asking, command_of, command_of_words, crowd_with, node_with, with_name_and_word, with_node_and_word, with_two_names, workers_with}, declared.commands.{Command.{Command, TheVariants.{Ask, Cat, Crowd, Files, Link, Merge, Node, Part, Put, Remove, Same, Send, Sweep, Text, Workers}}, LineRefusal.{LineRefusal, TheVariants.{Arguments, UnknownCommand}}}, HostLaws.{host_in-node_word, node_in-node_word}, Hosts.{host_in, node_in, node_word}}
 use Rattle.script_commands.specs.declared.commands.Inquiry.TheVariants as inquiry
 
 -- words with one space between them
@@ -75,6 +75,9 @@ abbrev pub FilesIsReadBack : Type 0
 FilesIsReadBack = (node : List ℕ) → IsName node
     → command_of (line_of (codes "files" ∷ node ∷ [])) ≡ Ok (Files node)
 
+abbrev pub TextIsReadBack : Type 0
+TextIsReadBack = NameAndWordAreReadBack (codes "text") Text
+
 abbrev pub CatIsReadBack : Type 0
 CatIsReadBack = NodeAndWordAreReadBack (codes "cat") Cat
 
@@ -117,6 +120,7 @@ AreWordsOf (Part piece from to places) words line =
 AreWordsOf (Send piece node) words line = (words ≡ codes "send" ∷ piece ∷ node ∷ []) × IsName piece × IsName node
 AreWordsOf Sweep words line = words ≡ codes "sweep" ∷ []
 AreWordsOf (Files node) words line = (words ≡ codes "files" ∷ node ∷ []) × IsName node
+AreWordsOf (Text node place) words line = (words ≡ codes "text" ∷ node ∷ place ∷ []) × IsName node
 AreWordsOf (Cat node host unit) words line = (words ≡ codes "cat" ∷ node_word node host ∷ unit ∷ []) × IsName node
 AreWordsOf (Ask node host (inquiry.Unit unit)) words line = (words ≡ codes "show" ∷ node_word node host ∷ unit ∷ []) × IsName node
 AreWordsOf (Ask node host (inquiry.List unit)) words line = (words ≡ codes "list" ∷ node_word node host ∷ unit ∷ []) × IsName node
@@ -132,7 +136,7 @@ JustItsWordsAreRead = (line : List ℕ) (command : Command) → (command_of line
 
 -- the words that name commands
 abbrev pub verbs : List (List ℕ)
-verbs = codes "node" ∷ codes "put" ∷ codes "link" ∷ codes "remove" ∷ codes "merge" ∷ codes "part" ∷ codes "send" ∷ codes "sweep" ∷ codes "files" ∷ codes "workers" ∷ codes "same" ∷ codes "crowd" ∷ codes "cat" ∷ codes "show" ∷ codes "list" ∷ codes "plan" ∷ []
+verbs = codes "node" ∷ codes "put" ∷ codes "link" ∷ codes "remove" ∷ codes "merge" ∷ codes "part" ∷ codes "send" ∷ codes "sweep" ∷ codes "files" ∷ codes "text" ∷ codes "workers" ∷ codes "same" ∷ codes "crowd" ∷ codes "cat" ∷ codes "show" ∷ codes "list" ∷ codes "plan" ∷ []
 
 -- the word is one of these
 abbrev pub IsOneOf : List ℕ → List (List ℕ) → Type 0
@@ -305,6 +309,9 @@ sweep_is_read_back = read_words (codes "sweep" ∷ []) (is_verb (codes "sweep") 
 
 pub files_is_read_back : FilesIsReadBack
 files_is_read_back node is = read_words (codes "files" ∷ node ∷ []) (is_verb (codes "files") refl, (name_is_word node is, tt)) ∙ cond-true _ _ _ is
+
+pub text_is_read_back : TextIsReadBack
+text_is_read_back = name_and_word_are_read_back (codes "text") Text refl (λ words line. refl)
 
 pub cat_is_read_back : CatIsReadBack
 cat_is_read_back = node_and_word_are_read_back (codes "cat") Cat refl (λ words line. refl)

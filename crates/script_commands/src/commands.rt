@@ -140,6 +140,11 @@ pub enum Command<'a> {
     Files {
         node: Word<'a>,
     },
+    /// Prints the file or the link that is visible at a place of a node.
+    Text {
+        node: Word<'a>,
+        place: Word<'a>,
+    },
     /// Prints the files of a unit, as a node has them for a host or for the fleet. The host isn't parsed yet, here and
     /// below.
     Cat {
@@ -190,6 +195,8 @@ pub enum LineRefusal {
     BadLink,
     VersionsSpent,
     Nothing,
+    /// Nothing is visible at the place that is asked for.
+    NotVisible,
     Length,
     Kind,
     EmptyPrefix,

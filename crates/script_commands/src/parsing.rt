@@ -92,6 +92,11 @@ fn question<'a>(verb: &[u8], mut fields: Fields<'a>) -> Result<Command<'a>, Line
         Ok(Command::Files {
             node: fields.last_name()?,
         })
+    } else if is_same(verb, b"text") {
+        Ok(Command::Text {
+            node: fields.name()?,
+            place: fields.last_word()?,
+        })
     } else if is_same(verb, b"workers") {
         Ok(Command::Workers {
             count: fields.last_number()?,

@@ -57,6 +57,7 @@ impl Shell {
             Command::Send { piece, node } => self.send(alloc, piece.as_slice(), node.as_slice()),
             Command::Sweep => self.sweep(alloc),
             Command::Files { node } => self.files(alloc, node.as_slice()),
+            Command::Text { node, place } => self.text(alloc, node.as_slice(), place.as_slice()),
             Command::Cat { node, host, unit } => {
                 self.cat(alloc, node.as_slice(), host, unit.as_slice())
             }

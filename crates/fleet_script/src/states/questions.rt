@@ -1,10 +1,10 @@
 //! Commands that only read.
-ghost use Rattle.script_commands.specs.declared.commands.Command.TheVariants.{Files, Cat, Same, Crowd};
+ghost use Rattle.script_commands.specs.declared.commands.Command.TheVariants.{Files, Text, Cat, Same, Crowd};
 ghost use Rattle.script_answers.specs.Renders.{RendersInquiry};
 ghost use Rattle.fleet_script.specs.{Does.{Reads}, Holds.{Executes, Goes, HasRoom, kept_in}};
 
 use crate::states::{Rendered, Shell};
-use script_answers::{list_files, render_crowd, render_files, render_inquiry};
+use script_answers::{list_files, render_crowd, render_files, render_inquiry, render_text};
 use script_commands::{EditCount, Inquiry, Word};
 use std::alloc::Global;
 use std::sync::Wait;
@@ -16,6 +16,14 @@ impl Shell {
     {
         let replica = self.replica(alloc, node)?;
         Ok(list_files(alloc, replica.store())?)
+    }
+
+    // What is visible at a place.
+    pub(super) fn text(&self, alloc: Global, node: &[u8], place: &[u8]) -> Rendered
+        ensures done { Executes self.now self.now (Text node.now place.now) result }
+    {
+        let replica = self.replica(alloc, node)?;
+        render_text(alloc, replica.store(), place)
     }
 
     // The files of a unit, as a host sees them or as they are seen without one: its fragment, and then its drop-ins.

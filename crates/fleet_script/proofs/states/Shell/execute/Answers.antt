@@ -1,4 +1,4 @@
-use Rattle.fleet_script.proofs.{Lines.{executed}, Prelude.{ap, Ask, Cat, Crowd, Files, kept_in, Link, Merge, Node, Ok, Part, Put, Remove, rules, Same, Send, Sweep, sym, Workers, ◌∙◌}}
+use Rattle.fleet_script.proofs.{Lines.{executed}, Prelude.{ap, Ask, Cat, Crowd, Files, kept_in, Link, Merge, Node, Ok, Part, Put, Remove, rules, Same, Send, Sweep, sym, Text, Workers, ◌∙◌}}
 use Rattle.fleet_script.proofs.states.Shell.execute.Goals as goal
 
 pub returns-in-Node : goal.returns-in-Node
@@ -30,6 +30,9 @@ returns-in-Send g c = record { done = executed (kept_in c.args.self.now) (kept_i
 
 pub returns-in-Sweep : goal.returns-in-Sweep
 returns-in-Sweep g c = record { done = executed (kept_in c.args.self.now) (kept_in c.sweep.new.self) c.args.line.now Sweep c.sweep.result (ap Ok (sym c.in-Sweep.is) ∙ c.in_ok-name.ensures.command) c.sweep.ensures.done }
+
+pub returns-in-Text : goal.returns-in-Text
+returns-in-Text g c = record { done = executed (kept_in c.args.self.now) (kept_in c.args.self.now) c.args.line.now (Text c.in-Text.node c.in-Text.place) c.text.result (ap Ok (sym c.in-Text.is) ∙ c.in_ok-name.ensures.command) (rw c.as_slice-in-Text-2.ensures.bytes at (rw c.as_slice-in-Text.ensures.bytes at c.text.ensures.done)) }
 
 pub returns-in-Cat : goal.returns-in-Cat
 returns-in-Cat g c = record { done = executed (kept_in c.args.self.now) (kept_in c.args.self.now) c.args.line.now (Cat c.in-Cat.node c.in-Cat.host c.in-Cat.unit) c.cat.result (ap Ok (sym c.in-Cat.is) ∙ c.in_ok-name.ensures.command) (rw c.as_slice-in-Cat-2.ensures.bytes at (rw c.as_slice-in-Cat.ensures.bytes at c.cat.ensures.done)) }
