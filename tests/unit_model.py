@@ -521,9 +521,8 @@ def asked_graph(store, host, names):
     return Graph(*units.load(names))
 
 
-def show(store, host, name):
-    graph = asked_graph(store, host, [name])
-    unit = graph.units[graph.mains[name]]
+def shown(graph, name):
+    unit = graph.units[name]
     said = unit["said"]
     status = {"fragment": "loaded", "bad": "bad", "masked": "masked", "not-found": "not-found"}[said[0]]
     told = {"fragment": said[-1], "bad": f"{said[-1]} {FAULT_NAMES.get(said[-1])}"}.get(said[0], "")
@@ -533,6 +532,16 @@ def show(store, host, name):
         names = graph.to([kind], unit["name"])
         lines += ["".join([f"{kind}:", *[f" {it}" for it in names]])] if names else []
     return lines + [f"note {it}" for it in unit["notes"]] + ["end"]
+
+
+def show(store, host, name):
+    graph = asked_graph(store, host, [name])
+    return shown(graph, graph.mains[name])
+
+
+def units(store, host):
+    graph = asked_graph(store, host, [])
+    return [*[line for name in sorted(graph.units) for line in shown(graph, name)], "end"]
 
 
 def list_pulled(store, host, name):

@@ -4,3 +4,4 @@ mod Fleets
 mod Held
 mod Returned
 mod Touched
+mod Units

@@ -1,7 +1,7 @@
 -- Laws of answers: a store and a question have one answer, and no place of another host changes it.
 use Rattle.std.proofs.Common.{◌↔◌, ◌∷◌, ◌≡◌, ◌≢◌}
-use Rattle.fleet_answers.specs.Prelude.{[], ap, AreDepths, AreEdges, AreEdgesOf, AreSameSuccessors, Bad, Case, Conflict, Cycle, DependencyList, EdgeMap, EntryMap, host_view_of, HostViewMap, inl, inr, IsAmong, IsAmong-append_right, IsDistance, IsDistances, IsFault, IsKnown, IsLoad, IsPlan, IsPlanned, IsRefusal, IsRefusalOf, IsRefused, known_names, LeadsBy, level_for, List, Listed, LoadedUnit, LoadMap, ManualStart, Masked, Memory, Name, name_cmp, nat_list_cmp_total, None, NotFound, one_case, one_list_by_kind, one_list_of_distances, one_list_of_edges, one_load, one_plan, one_refusal_returned, other_hosts_are_not_in_view, PlaceParts, plan_or_refusal, PlanMap, pulling, refl, Refusal, Request, Requisite, same_distance, Some, subst, sym, Template, unit_in, Why, ℕ, ◌∙◌}
-use Rattle.fleet_answers.specs.{Answers.{AreKnown, ArePulled, asked, graph_of, host_asked, IsAnswer, IsLinkedUnit, IsPlanBy, IsReturned, IsReturnedFrom, IsWholeAnswer, names_asked}, declared.questions.{Answer.{Answer}, LinkedUnit.{LinkedUnit}, Question.{Question, TheVariants.{Plan as OfPlan, Pulled as OfPulled, Unit as OfUnit}}}}
+use Rattle.fleet_answers.specs.Prelude.{[], All, All-head, All-tail, ap, AreDepths, AreEdges, AreEdgesOf, AreSameSuccessors, Bad, Case, Conflict, Cycle, DependencyList, EdgeMap, EntryMap, host_view_of, HostViewMap, inl, inr, IsAmong, IsAmong-append_right, IsDistance, IsDistances, IsFault, IsKnown, IsLoad, IsPlan, IsPlanned, IsRefusal, IsRefusalOf, IsRefused, known_names, LeadsBy, level_for, List, Listed, LoadedUnit, LoadMap, ManualStart, map, Masked, Memory, Name, name_cmp, nat_list_cmp_total, None, NotFound, one_case, one_list_by_kind, one_list_of_distances, one_list_of_edges, one_load, one_plan, one_refusal_returned, other_hosts_are_not_in_view, PlaceParts, plan_or_refusal, PlanMap, pulling, refl, Refusal, Request, Requisite, same_distance, Some, subst, sym, Template, unit_in, units_are_their_own_mains, Why, ℕ, ◌∙◌}
+use Rattle.fleet_answers.specs.{Answers.{AreKnown, AreLinkedUnits, ArePulled, asked, graph_of, host_asked, IsAnswer, IsLinkedUnit, IsUnitWithEdges, IsPlanBy, IsReturned, IsReturnedFrom, IsWholeAnswer, names_asked}, declared.questions.{Answer.{Answer}, LinkedUnit.{LinkedUnit}, Question.{Question, TheVariants.{Plan as OfPlan, Pulled as OfPulled, Unit as OfUnit, Units as OfUnits}}}}
 use Rattle.std.specs.FinMap as finmap
 use Rattle.fleet_answers.specs.declared.questions.Answer.TheVariants as answer
 
@@ -28,10 +28,10 @@ own_are_known s extra question load is n a = names_are_known s (asked extra ques
 same_some : {X : Type 0} (x y : X) → Some x ≡ Some y → x ≡ y
 same_some x y e = cc (e)
 
-linked : LoadedUnit → List DependencyList → LinkedUnit
+pub linked : LoadedUnit → List DependencyList → LinkedUnit
 linked unit edges = record { unit = unit; edges = edges }
 
-linked_is : (a b : LinkedUnit) → a.unit ≡ b.unit → a.edges ≡ b.edges → a ≡ b
+pub linked_is : (a b : LinkedUnit) → a.unit ≡ b.unit → a.edges ≡ b.edges → a ≡ b
 unfolding linked
 linked_is a b p q = ap (λ x. linked x a.edges) p ∙ ap (linked b.unit) q
 
@@ -40,6 +40,48 @@ one_linked load name a b l m =
     let mains : l.main ≡ m.main = same_some l.main m.main (sym l.main_is ∙ m.main_is) in
     linked_is a b (same_some a.unit b.unit (sym l.unit_is ∙ ap (unit_in load) mains ∙ m.unit_is))
     (one_list_by_kind load m.main a.edges b.edges (subst (λ (main : Name). AreEdgesOf load main a.edges) mains l.edges_are) m.edges_are)
+
+-- ---- all units
+
+-- each unit of the load stands at its own name
+abbrev pub AreAtTheirNames : LoadMap → Type 0
+AreAtTheirNames load = (n : Name) (unit : LoadedUnit) → unit_in load n ≡ Some unit → unit.name ≡ n
+
+pub at_their_names : (s : HostViewMap) (extra : List Name) (load : LoadMap) → IsLoad s extra load → AreAtTheirNames load
+at_their_names s extra load is n unit e =
+    let own = (units_are_their_own_mains s extra load n unit is e).2 in
+    ap (λ (u : LoadedUnit). u.name) own.by_mains_is ∙ own.is_unit.name_is
+
+module _ (load : LoadMap) (right : AreAtTheirNames load) where
+  abbrev HasEdges : LinkedUnit → Type 0
+  HasEdges one = (main : Name) × IsUnitWithEdges load main one
+
+  -- one unit has one list of edges
+  one_with_edges : (a b : LinkedUnit) → a.unit ≡ b.unit → HasEdges a → HasEdges b → a ≡ b
+  one_with_edges a b e h k =
+      let mains : h.0 ≡ k.0 = sym (right h.0 a.unit h.1.unit_is) ∙ ap (λ (u : LoadedUnit). u.name) e ∙ right k.0 b.unit k.1.unit_is in
+      linked_is a b e (one_list_by_kind load k.0 a.edges b.edges (subst (λ (main : Name). AreEdgesOf load main a.edges) mains h.1.edges_are) k.1.edges_are)
+
+  one_each : (ones others : List LinkedUnit) → map (λ (one : LinkedUnit). one.unit) ones ≡ map (λ (one : LinkedUnit). one.unit) others → All HasEdges ones → All HasEdges others → ones ≡ others
+  one_each [] [] e h k = refl
+  one_each [] (b ∷ others) e h k = cc (e)
+  one_each (a ∷ ones) [] e h k = cc (e)
+  one_each (a ∷ ones) (b ∷ others) e h k =
+      let heads : a.unit ≡ b.unit = same_head _ _ _ _ e in
+      let tails = same_tail _ _ _ _ e in
+      cons_is a b ones others (one_with_edges a b heads (All-head HasEdges a ones h) (All-head HasEdges b others k)) (one_each ones others tails (All-tail HasEdges a ones h) (All-tail HasEdges b others k))
+    where
+      same_head : (x y : LoadedUnit) (xs ys : List LoadedUnit) → x ∷ xs ≡ y ∷ ys → x ≡ y
+      same_head x y xs ys f = cc (f)
+
+      same_tail : (x y : LoadedUnit) (xs ys : List LoadedUnit) → x ∷ xs ≡ y ∷ ys → xs ≡ ys
+      same_tail x y xs ys f = cc (f)
+
+      cons_is : (x y : LinkedUnit) (xs ys : List LinkedUnit) → x ≡ y → xs ≡ ys → x ∷ xs ≡ y ∷ ys
+      cons_is x y xs ys f g = cc (f, g)
+
+  one_list_of_units : (ones others : List LinkedUnit) → AreLinkedUnits load ones → AreLinkedUnits load others → ones ≡ others
+  one_list_of_units ones others h k = one_each ones others (h.units_are ∙ sym k.units_are) h.edges_are k.edges_are
 
 -- ---- all lists of a load's edges give the same answers
 
@@ -103,16 +145,17 @@ module _ (load : LoadMap) (request : Request) (x y : EdgeMap) (p : AreEdges load
 
 -- ---- answers
 
-one_returned : (load : LoadMap) (question : Question) → AreKnown load (names_asked question) → (a b : Answer) → IsReturned load question a → IsReturned load question b → a ≡ b
-one_returned load (OfUnit host name) known a b f g = f.2 ∙ ap answer.Unit (one_linked load name f.0 g.0 f.1 g.1) ∙ sym g.2
-one_returned load (OfPulled host name) known a b f g = f.2 ∙ ap answer.Pulled (one_pulled load name f.0 g.0 (known name (inl refl)) f.1 g.1) ∙ sym g.2
-one_returned load (OfPlan request) known a b f g = one_plan_by load request f.edges g.edges f.edges_are g.edges_are a b f.plan_is g.plan_is
+one_returned : (load : LoadMap) (question : Question) → AreAtTheirNames load → AreKnown load (names_asked question) → (a b : Answer) → IsReturned load question a → IsReturned load question b → a ≡ b
+one_returned load (OfUnit host name) right known a b f g = f.2 ∙ ap answer.Unit (one_linked load name f.0 g.0 f.1 g.1) ∙ sym g.2
+one_returned load (OfPulled host name) right known a b f g = f.2 ∙ ap answer.Pulled (one_pulled load name f.0 g.0 (known name (inl refl)) f.1 g.1) ∙ sym g.2
+one_returned load (OfPlan request) right known a b f g = one_plan_by load request f.edges g.edges f.edges_are g.edges_are a b f.plan_is g.plan_is
+one_returned load (OfUnits host) right known a b f g = f.2 ∙ ap answer.Units (one_list_of_units load right f.0 g.0 f.1 g.1) ∙ sym g.2
 
 module _ (s : HostViewMap) (names : List Name) (question : Question) (own : (load : LoadMap) → IsLoad s names load → AreKnown load (names_asked question)) (a b : Answer) where
   one_from : IsReturnedFrom s names question a → IsReturnedFrom s names question b → a ≡ b
   one_from f g =
       let same : f.load ≡ g.load = one_load s names f.load g.load f.snapshot.is_load g.snapshot.is_load in
-      one_returned g.load question (own g.load g.snapshot.is_load) a b (subst (λ (l : LoadMap). IsReturned l question a) same f.returned_is) g.returned_is
+      one_returned g.load question (at_their_names s names g.load g.snapshot.is_load) (own g.load g.snapshot.is_load) a b (subst (λ (l : LoadMap). IsReturned l question a) same f.returned_is) g.returned_is
 
   one_whole : IsWholeAnswer s names question a → IsWholeAnswer s names question b → a ≡ b
   one_whole (inl f) (inl g) = f.1 ∙ sym g.1

@@ -1,8 +1,8 @@
 -- What a question of a store is answered: a unit with its edges, what a unit pulls, the plan of a request, or the first refusal.
 -- Source: this project's own.
 use Rattle.std.proofs.Common.{◌++◌, ◌∷◌, ◌≡◌, ◌≢◌, ◌⊎◌}
-use Rattle.fleet_answers.specs.Prelude.{[], AreDepths, AreEdges, AreEdgesOf, EdgeMap, EntryMap, GraphMap, HasTemplate, host_view_of, HostViewMap, IsAmong, IsKnown, IsLoad, IsPlanned, IsRefusalOf, IsTooLarge, List, LoadMap, main_in, Memory, Name, None, PlanMap, Refusal, Request, Some, unit_in, Viewer, ℕ}
-use Rattle.fleet_answers.specs.declared.questions.{Answer.{Answer}, LinkedUnit.{LinkedUnit}, Question.{Question, TheVariants.{Plan as OfPlan, Pulled as OfPulled, Unit as OfUnit}}}
+use Rattle.fleet_answers.specs.Prelude.{[], All, AreDepths, AreEdges, AreEdgesOf, EdgeMap, EntryMap, GraphMap, HasTemplate, host_view_of, HostViewMap, IsAmong, IsKnown, IsLoad, IsPlanned, IsRefusalOf, IsTooLarge, List, LoadMap, main_in, map, Memory, Name, None, PlanMap, Refusal, Request, Some, unit_in, units_in, Viewer, ℕ}
+use Rattle.fleet_answers.specs.declared.questions.{Answer.{Answer}, LinkedUnit.{LinkedUnit}, Question.{Question, TheVariants.{Plan as OfPlan, Pulled as OfPulled, Unit as OfUnit, Units as OfUnits}}}
 use Rattle.fleet_answers.specs.declared.questions.Answer.TheVariants as answer
 
 -- ---- names
@@ -12,18 +12,21 @@ abbrev pub names_asked : Question → List Name
 names_asked (OfUnit host name) = name ∷ []
 names_asked (OfPulled host name) = name ∷ []
 names_asked (OfPlan request) = request.target ∷ request.running
+names_asked (OfUnits host) = []
 
 -- the host for which it is asked, if for one
 abbrev pub host_asked : Question → Viewer
 host_asked (OfUnit host name) = host
 host_asked (OfPulled host name) = host
 host_asked (OfPlan request) = request.host
+host_asked (OfUnits host) = host
 
 -- the same question, asked without a host
 abbrev pub without_host : Question → Question
 without_host (OfUnit host name) = OfUnit None name
 without_host (OfPulled host name) = OfPulled None name
 without_host (OfPlan request) = OfPlan (record request { host = None })
+without_host (OfUnits host) = OfUnits None
 
 -- all names that are asked for
 abbrev pub asked : List Name → Question → List Name
@@ -46,6 +49,16 @@ module _ (load : LoadMap) where
     pub main_is : main_in load name ≡ Some main
     pub unit_is : unit_in load main ≡ Some returned.unit
     pub edges_are : AreEdgesOf load main returned.edges
+
+  -- this is the unit of a main name, with its edges
+  pub record IsUnitWithEdges (main : Name) (returned : LinkedUnit) : Type 0 where
+    pub unit_is : unit_in load main ≡ Some returned.unit
+    pub edges_are : AreEdgesOf load main returned.edges
+
+  -- these are all units of the load, in byte order of their names, each with its edges
+  pub record AreLinkedUnits (returned : List LinkedUnit) : Type 0 where
+    pub units_are : map (λ one. one.unit) returned ≡ units_in load
+    pub edges_are : All (λ one. (main : Name) × IsUnitWithEdges main one) returned
 
   -- over the load's edges these are what the unit pulls for which a name stands, each with its least distance
   pub record ArePulled (name : Name) (pairs : List (ℕ × Name)) : Type 0 where
@@ -70,6 +83,7 @@ module _ (load : LoadMap) where
   IsReturned (OfUnit host name) returned = (unit : LinkedUnit) × IsLinkedUnit name unit × (returned ≡ answer.Unit unit)
   IsReturned (OfPulled host name) returned = (pairs : List (ℕ × Name)) × ArePulled name pairs × (returned ≡ answer.Pulled pairs)
   IsReturned (OfPlan request) returned = IsPlanReturned request returned
+  IsReturned (OfUnits host) returned = (all : List LinkedUnit) × AreLinkedUnits all × (returned ≡ answer.Units all)
 
 -- ---- what a store answers
 

@@ -1,7 +1,7 @@
 -- Laws of hosts: one at whose places nothing is visible has the answer to each question that is had without a host.
 use Rattle.std.proofs.Common.{◌++◌, ◌↔◌, ◌≡◌}
 use Rattle.fleet_answers.specs.Prelude.{All-weaker, ap, AreEdges, AreEdgesFrom, AreEdgesOf, Bad, Conflict, Cycle, DependencyList, DependsOn, DepKind, EdgeMap, EntryMap, HasTemplate, Host, host_view_of, hosts_without_places_are_as_large, hosts_without_places_load_alike, HostViewMap, inl, inr, IsEdge, IsFault, IsLoad, IsPlanned, IsRefusalOf, IsRefused, List, loaded_for, LoadMap, ManualStart, Masked, Memory, Name, None, NotFound, PlanMap, refl, Refusal, Request, Requisite, ShowsNothing, Some, subst, sym, Template, Viewer, viewer_of, Why, ℕ}
-use Rattle.fleet_answers.specs.{Answers.{ArePulled, asked, host_asked, IsAnswer, IsLinkedUnit, IsPlanBy, IsPlanReturned, IsReturned, IsWholeAnswer, names_asked, without_host}, declared.questions.{Answer.{Answer}, LinkedUnit.{LinkedUnit}, Question.{Question, TheVariants.{Plan as OfPlan, Pulled as OfPulled, Unit as OfUnit}}}}
+use Rattle.fleet_answers.specs.{Answers.{AreLinkedUnits, ArePulled, asked, host_asked, IsAnswer, IsLinkedUnit, IsPlanBy, IsPlanReturned, IsReturned, IsUnitWithEdges, IsWholeAnswer, names_asked, without_host}, declared.questions.{Answer.{Answer}, LinkedUnit.{LinkedUnit}, Question.{Question, TheVariants.{Plan as OfPlan, Pulled as OfPulled, Unit as OfUnit, Units as OfUnits}}}}
 
 -- A host at whose places nothing is visible has the answer to each question that is had without a host.
 abbrev pub HostsWithoutPlacesHaveTheFleetsAnswers : Type 0
@@ -45,6 +45,15 @@ module _ (load : LoadMap) (host : Viewer) where
     unit_is = is.unit_is;
     edges_are = edges_of is.main unit.edges is.edges_are;
   }
+
+  all_linked : (returned : List LinkedUnit) → AreLinkedUnits load returned → AreLinkedUnits moved returned
+  all_linked returned are =
+      let P : LinkedUnit → Type 0 = λ one. (main : Name) × IsUnitWithEdges load main one in
+      let Q : LinkedUnit → Type 0 = λ one. (main : Name) × IsUnitWithEdges moved main one in
+      record {
+        units_are = are.units_are;
+        edges_are = All-weaker P Q (λ one h. (h.0, record { unit_is = h.1.unit_is; edges_are = edges_of h.0 one.edges h.1.edges_are })) returned are.edges_are;
+      }
 
   pulled : (name : Name) (pairs : List (ℕ × Name)) → ArePulled load name pairs → ArePulled moved name pairs
   pulled name pairs are = record {
@@ -95,11 +104,13 @@ module _ (load : LoadMap) (host : Viewer) where
   returned_without (OfUnit wanted name) a returned = (returned.0, linked_unit name returned.0 returned.1, returned.2)
   returned_without (OfPulled wanted name) a returned = (returned.0, pulled name returned.0 returned.1, returned.2)
   returned_without (OfPlan request) a returned = plan_returned request None a returned
+  returned_without (OfUnits wanted) a returned = (returned.0, all_linked returned.0 returned.1, returned.2)
 
   returned_with : (question : Question) (a : Answer) → IsReturned load (without_host question) a → IsReturned moved question a
   returned_with (OfUnit wanted name) a returned = (returned.0, linked_unit name returned.0 returned.1, returned.2)
   returned_with (OfPulled wanted name) a returned = (returned.0, pulled name returned.0 returned.1, returned.2)
   returned_with (OfPlan request) a returned = plan_returned (record request { host = None }) request.host a returned
+  returned_with (OfUnits wanted) a returned = (returned.0, all_linked returned.0 returned.1, returned.2)
 
 -- what is loaded of a view is loaded for who looks
 for_looker : (v : HostViewMap) (names : List Name) (load : LoadMap) → IsLoad v names load → IsLoad v names (loaded_for (viewer_of v) load)
@@ -118,11 +129,13 @@ names_stay : (question : Question) → names_asked (without_host question) ≡ n
 names_stay (OfUnit host name) = refl
 names_stay (OfPulled host name) = refl
 names_stay (OfPlan request) = refl
+names_stay (OfUnits host) = refl
 
 no_host : (question : Question) → host_asked (without_host question) ≡ None
 no_host (OfUnit host name) = refl
 no_host (OfPulled host name) = refl
 no_host (OfPlan request) = refl
+no_host (OfUnits host) = refl
 
 -- a question has the answer of another with the same names, where it has so in what is looked at
 module _ (s : EntryMap) (extra : List Name) (one other : Question) (same : names_asked one ≡ names_asked other) (a : Answer)

@@ -5,3 +5,4 @@ pub mod Fleets
 pub mod HostLaws
 pub mod ShownLaws
 pub mod Tracked
+pub mod UnitLaws

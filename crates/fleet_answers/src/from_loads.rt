@@ -1,10 +1,10 @@
 //! What a load answers of the units that names resolve to.
 ghost use Rattle.std.specs.{Map.{keys_of}, Prelude.{IfErr, IfOk, Some, ◌<◌, ◌≡◌}};
-ghost use Rattle.inverse_deps.specs.{EdgeAdjacency.{edge_map}, Edges.{AreEdges, IsUnitIn}, Indices.{count_of, name_at}, Tables.{IsEdgeTable}};
+ghost use Rattle.inverse_deps.specs.{EdgeAdjacency.{edge_map}, Edges.{AreEdges, AreEdgesOf, IsUnitIn}, Indices.{count_of, name_at}, Tables.{IsEdgeTable}};
 ghost use Rattle.parallel_load.specs.Loads.{unit_in};
 ghost use Rattle.unit_graph.specs.Graphs.{IsKnown};
 ghost use Rattle.start_plan.specs.{Outcomes.{IsPlanned, IsRefusalOf}, Requests.{IsOfGraph}};
-ghost use Rattle.fleet_answers.specs.Answers.{ArePulled, IsLinkedUnit, IsPlanReturned};
+ghost use Rattle.fleet_answers.specs.Answers.{AreLinkedUnits, ArePulled, IsLinkedUnit, IsPlanReturned};
 
 use crate::questions::{Answer, LinkedUnit};
 use inverse_deps::{EdgeTable, edges_at};
@@ -26,8 +26,42 @@ pub(crate) fn linked_unit(
     ensures unit { IfOk result (IsLinkedUnit loaded.now name.now) }
 {
     let index = loaded.main_index(name).unwrap();
+    linked_at(loaded, table, index, unit_at(loaded, index))
+}
+
+/// All units, in byte order, each with its edges. One pass over the names and over the table of edges.
+pub(crate) fn linked_units(
+    loaded: &Loaded,
+    table: &EdgeTable,
+) -> Result<Items<LinkedUnit>, AllocError>
+    requires table { IsEdgeTable loaded.now table.now }
+    ensures units { IfOk result (AreLinkedUnits loaded.now) }
+{
+    let names = loaded.names();
+    let mut all = Vec::new(loaded.allocator());
+    for index in 0..names.len() {
+        match &names[index].1 {
+            NameLoad::Unit(unit) => all.push(linked_at(loaded, table, index, unit)?)?,
+            NameLoad::Alias(_) => {}
+        }
+    }
+    Ok(Items::from_vec(all))
+}
+
+// The unit of the name with an index, shared with the load, with its edges.
+fn linked_at(
+    loaded: &Loaded,
+    table: &EdgeTable,
+    index: usize,
+    unit: &Shared<Unit>,
+) -> Result<LinkedUnit, AllocError>
+    requires table { IsEdgeTable loaded.now table.now }
+    requires below { index < count_of loaded.now }
+    ensures unit { IfOk result (λ one. one.unit ≡ unit.now) }
+    ensures edges { IfOk result (λ one. AreEdgesOf loaded.now (name_at loaded.now index) one.edges) }
+{
     let edges = edges_at(loaded.allocator(), loaded, table, index)?;
-    let unit = shared_unit(loaded, index)?;
+    let unit = unit.try_clone()?;
     Ok(LinkedUnit { unit, edges })
 }
 
@@ -76,14 +110,14 @@ fn plan_of(loaded: &Loaded, table: &EdgeTable, request: &Request) -> Result<Plan
     plan_by_index(loaded.allocator(), &graph, request)
 }
 
-// The unit at an index, shared with the load.
-fn shared_unit(loaded: &Loaded, index: usize) -> Result<Shared<Unit>, AllocError>
+// The unit at an index.
+fn unit_at(loaded: &Loaded, index: usize) -> &Shared<Unit>
     requires below { index < count_of loaded.now }
     requires unit { IsUnitIn loaded.now (name_at loaded.now index) }
-    ensures unit { IfOk result (λ unit. unit_in loaded.now (name_at loaded.now index) ≡ Some unit) }
+    ensures unit { unit_in loaded.now (name_at loaded.now index) ≡ Some result.now }
 {
     match &loaded.names()[index].1 {
-        NameLoad::Unit(unit) => unit.try_clone(),
+        NameLoad::Unit(unit) => unit,
         NameLoad::Alias(_) => unreachable!(),
     }
 }

@@ -52,5 +52,6 @@ fn append_own(names: &mut Vec<UnitName>, question: &Question) -> Result<(), Allo
             append_copies(names, from_ref(&request.target))?;
             append_copies(names, request.running.as_slice())
         }
+        Question::Units { .. } => Ok(()),
     }
 }

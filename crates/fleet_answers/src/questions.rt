@@ -25,6 +25,8 @@ pub enum Question {
     },
     /// Which units start and which stop for a request.
     Plan(Request),
+    /// All units, with what each depends on and what depends on it.
+    Units { host: Option<HostName> },
 }
 
 impl Drop for Question {
@@ -33,6 +35,7 @@ impl Drop for Question {
             Question::Unit { host: _, name: _ } => (),
             Question::Pulled { host: _, name: _ } => (),
             Question::Plan(_) => (),
+            Question::Units { host: _ } => (),
         }
     }
 }
@@ -45,6 +48,7 @@ impl Question {
         match self {
             Question::Unit { host, .. } | Question::Pulled { host, .. } => host.as_ref(),
             Question::Plan(request) => request.host.as_ref(),
+            Question::Units { host } => host.as_ref(),
         }
     }
 }
@@ -81,6 +85,8 @@ pub enum Answer {
     Planned(Plan),
     /// The first reason why there is no plan. Never a template, and never that memory ran out.
     Refused(Refusal),
+    /// All units of the load, in byte order, each with its edges: those with files, and those that are only named.
+    Units(Items<LinkedUnit>),
 }
 
 /// Why there is no answer.

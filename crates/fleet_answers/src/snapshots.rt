@@ -5,7 +5,7 @@ ghost use Rattle.parallel_load.specs.{AskedLaws.{asked_for}, Refreshes.{IsBefore
 ghost use Rattle.parallel_load.specs.declared.faults.LoadFault.TheVariants.{Workers};
 ghost use Rattle.fleet_answers.specs.Answers.{AreKnown, IsSnapshot, IsReturned, host_asked, names_asked};
 
-use crate::from_loads::{linked_unit, planned, pulled};
+use crate::from_loads::{linked_unit, linked_units, planned, pulled};
 use crate::questions::{Answer, Question};
 use inverse_deps::EdgeTable;
 use parallel_load::{Gate, LoadFault, Loaded, Refreshed, load_fleet, load_here, refresh_in_place};
@@ -144,6 +144,9 @@ impl Snapshot {
                 Ok(Answer::Pulled(pulled(&self.loaded, &self.table, name)?))
             }
             Question::Plan(request) => planned(&self.loaded, &self.table, request),
+            Question::Units { .. } => {
+                Ok(Answer::Units(linked_units(&self.loaded, &self.table)?))
+            }
         }
     }
 }

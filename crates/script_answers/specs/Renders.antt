@@ -2,7 +2,7 @@
 -- Source: systemctl(1), "show", "list-dependencies", "start"; the texts are this project's own.
 use Rattle.std.proofs.Common.{◌≡◌}
 use Rattle.script_answers.specs.Prelude.{[], Answer, EntryMap, Err, IsAnswer, List, MatchResult, name_of, NameFault, Ok, Option, Outcome, Question, Result, Viewer, ℕ}
-use Rattle.script_answers.specs.{Files.{RefusesName}, Hosts.{ForHost}, Plans.{plan_text, RefusesPlan}, PulledLines.{pulled_text}, Requests.{request_of}, UnitLines.{unit_text}}
+use Rattle.script_answers.specs.{Files.{RefusesName}, Hosts.{ForHost}, Plans.{plan_text, RefusesPlan}, PulledLines.{pulled_text}, Requests.{request_of}, UnitLines.{unit_text, units_text}}
 use Rattle.script_commands.specs.declared.commands.LineRefusal.TheVariants as refusal
 use Rattle.fleet_answers.specs.declared.questions.Answer.TheVariants as answer
 use Rattle.fleet_answers.specs.declared.questions.Question.TheVariants as question
@@ -17,6 +17,7 @@ IsOutcomeOf (answer.Unit linked) outcome = outcome ≡ Ok (unit_text linked)
 IsOutcomeOf (answer.Pulled pairs) outcome = outcome ≡ Ok (pulled_text pairs)
 IsOutcomeOf (answer.Planned plan) outcome = outcome ≡ Ok (plan_text plan)
 IsOutcomeOf (answer.Refused cause) outcome = RefusesPlan cause outcome
+IsOutcomeOf (answer.Units all) outcome = outcome ≡ Ok (units_text all)
 
 -- the answer to the question
 abbrev pub RendersQuestion : Question → EntryMap → Outcome → Type 0
@@ -45,11 +46,16 @@ pulled_asked word host = asks (question.Pulled host) (name_of word)
 abbrev pub plan_asked : List ℕ → List (List ℕ) → Viewer → Result Question NameFault
 plan_asked unit running host = asks question.Plan (request_of host unit running)
 
+-- all units
+abbrev pub units_asked : Viewer → Result Question NameFault
+units_asked host = Ok (question.Units host)
+
 -- what words ask, for a host or without one
 abbrev pub question_asked : Inquiry → Viewer → Result Question NameFault
 question_asked (inquiry.Unit unit) = unit_asked unit
 question_asked (inquiry.List unit) = pulled_asked unit
 question_asked (inquiry.Plan unit running) = plan_asked unit running
+question_asked inquiry.Units = units_asked
 
 -- ---- answers for the host that a word names
 

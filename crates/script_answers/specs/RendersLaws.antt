@@ -44,6 +44,7 @@ one_outcome (answer.Unit linked) a b p q = p ∙ sym q
 one_outcome (answer.Pulled pairs) a b p q = p ∙ sym q
 one_outcome (answer.Planned plan) a b p q = p ∙ sym q
 one_outcome (answer.Refused cause) a b p q = rendered_alike cause a b p q
+one_outcome (answer.Units all) a b p q = p ∙ sym q
 
 question_rendered_once : (question : Question) (s : EntryMap) (a b : Outcome) → RendersQuestion question s a → RendersQuestion question s b → a ≡ b
 question_rendered_once question s a b p q = one_outcome q.0 a b (subst (λ (rendered : Answer). IsOutcomeOf rendered a) (one_answer s [] question p.0 q.0 p.1 q.1) p.2) q.2
@@ -63,6 +64,7 @@ outcome_unspent answer.TooManyUnits outcome p = ap is_spent p
 outcome_unspent (answer.Unit linked) outcome p = ap is_spent p
 outcome_unspent (answer.Pulled pairs) outcome p = ap is_spent p
 outcome_unspent (answer.Planned plan) outcome p = ap is_spent p
+outcome_unspent (answer.Units all) outcome p = ap is_spent p
 outcome_unspent (answer.Refused cause) outcome p = ap is_spent p.outcome_is ∙ refusal_unspent cause p.refusal p.rendered
 
 words_unspent : (read : Result Question NameFault) (s : EntryMap) (outcome : Outcome) → RendersWords read s outcome → is_spent outcome ≡ false

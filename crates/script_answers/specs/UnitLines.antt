@@ -54,3 +54,7 @@ text_with unit lists =
 -- The answer about a unit with its edges.
 abbrev pub unit_text : LinkedUnit → List ℕ
 unit_text linked = text_with linked.unit linked.edges
+
+-- The answers about units with their edges, one after another.
+abbrev pub units_text : List LinkedUnit → List ℕ
+units_text all = flat_map unit_text all ++ codes "end\n"

@@ -8,7 +8,7 @@ use crate::plan_lines::plan_text;
 use crate::pulled_lines::pulled_text;
 use crate::refusals::fault_of_plan;
 use crate::requests::read_question;
-use crate::unit_lines::unit_text;
+use crate::unit_lines::{unit_text, units_text};
 use crate::worker_counts::WorkerCount;
 use fleet_answers::{Answer, AnswerFault, SnapshotLimit, TrackedReplica};
 use script_commands::{Fault, Inquiry, LineRefusal, Word, read_host};
@@ -57,6 +57,7 @@ fn answer_text(alloc: Global, answer: Answer) -> Result<Vec<u8>, Fault>
         Answer::Template => Err(Fault::Refused(LineRefusal::Template)),
         Answer::TooManyUnits => Err(Fault::Refused(LineRefusal::TooManyUnits)),
         Answer::Unit(linked) => Ok(unit_text(alloc, &linked)?),
+        Answer::Units(all) => Ok(units_text(alloc, all.as_slice())?),
         Answer::Pulled(pairs) => Ok(pulled_text(alloc, pairs.as_slice())?),
         Answer::Planned(plan) => Ok(plan_text(alloc, &plan)?),
         Answer::Refused(refusal) => Err(fault_of_plan(refusal)),

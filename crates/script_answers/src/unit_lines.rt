@@ -1,6 +1,6 @@
 //! How a unit is written.
 ghost use Rattle.std.specs.{Prelude.{◌≡◌, ◌++◌, ℕ, List, IfOk, OnOk}, List.{flat_map}};
-ghost use Rattle.script_answers.specs.UnitLines.{cause_text, dropin_line, head_text, kind_line, note_line, row_line, status_text, unit_text};
+ghost use Rattle.script_answers.specs.UnitLines.{cause_text, dropin_line, head_text, kind_line, note_line, row_line, status_text, unit_text, units_text};
 
 use crate::names::append_names;
 use fleet_answers::LinkedUnit;
@@ -42,12 +42,12 @@ fn append_status(out: &mut Vec<u8>, status: &Status) -> Result<(), AllocError>
     }
 }
 
-// What is written of a unit as lines of one kind: one line for each, or none.
+// What is written as lines: of a unit one line for each value, place or kind, or none; or the lines of a whole unit.
 trait UnitLine {
-    // The line.
+    // The lines.
     ghost line: { Self → List ℕ };
 
-    // Appends it.
+    // Appends them.
     fn append_line(&self, out: &mut Vec<u8>) -> Result<(), AllocError>
         ensures appended { OnOk result (out.new.items ≡ out.old.items ++ line self.now) };
 }
@@ -144,18 +144,38 @@ fn append_note(out: &mut Vec<u8>, scratch: &mut String, note: &UnitNote) -> Resu
     }
 }
 
+// A unit with its edges.
+impl UnitLine for LinkedUnit {
+    ghost line = { unit_text };
+
+    fn append_line(&self, out: &mut Vec<u8>) -> Result<(), AllocError> {
+        let unit = self.unit.get();
+        out.extend_from_slice(b"unit ")?;
+        append_head(out, unit)?;
+        append_lines(out, unit.dropins.as_slice())?;
+        append_lines(out, unit.values.as_slice())?;
+        append_lines(out, self.edges.as_slice())?;
+        let mut scratch = String::new(*out.allocator());
+        append_notes(out, &mut scratch, unit.notes.as_slice())?;
+        out.extend_from_slice(b"end\n")
+    }
+}
+
 /// Returns the text of a unit with its edges. Linear in the length of the text.
 pub(crate) fn unit_text(alloc: Global, linked: &LinkedUnit) -> Result<Vec<u8>, AllocError>
     ensures text { IfOk result (λ text. text.items ≡ unit_text linked.now) }
 {
-    let unit = linked.unit.get();
-    let mut out = Vec::from_slice(alloc, b"unit ")?;
-    append_head(&mut out, unit)?;
-    append_lines(&mut out, unit.dropins.as_slice())?;
-    append_lines(&mut out, unit.values.as_slice())?;
-    append_lines(&mut out, linked.edges.as_slice())?;
-    let mut scratch = String::new(alloc);
-    append_notes(&mut out, &mut scratch, unit.notes.as_slice())?;
+    let mut out = Vec::new(alloc);
+    linked.append_line(&mut out)?;
+    Ok(out)
+}
+
+/// Returns the texts of units with their edges, one after another. Linear in the length of the text.
+pub(crate) fn units_text(alloc: Global, all: &[LinkedUnit]) -> Result<Vec<u8>, AllocError>
+    ensures text { IfOk result (λ text. text.items ≡ units_text all.now) }
+{
+    let mut out = Vec::new(alloc);
+    append_lines(&mut out, all)?;
     out.extend_from_slice(b"end\n")?;
     Ok(out)
 }

@@ -61,6 +61,11 @@ abbrev pub plan_command : List (List ℕ) → Result Command LineRefusal
 plan_command (first ∷ unit ∷ running) = if is_name (node_in first) then Ok (Ask (node_in first) (host_in first) (inquiry.Plan unit running)) else Err Arguments
 plan_command words = Err Arguments
 
+-- the node and its host are the only word, as in `with_node_and_word`
+abbrev pub units_command : List (List ℕ) → Result Command LineRefusal
+units_command (first ∷ []) = if is_name (node_in first) then Ok (Ask (node_in first) (host_in first) inquiry.Units) else Err Arguments
+units_command words = Err Arguments
+
 abbrev pub workers_with : Option ℕ → Result Command LineRefusal
 workers_with None = Err Arguments
 workers_with (Some count) = Ok (Workers count)
@@ -86,7 +91,8 @@ unit_question_of verb words =
     else (if bytes_eq verb (codes "show") then with_node_and_word (asking inquiry.Unit) words
     else (if bytes_eq verb (codes "list") then with_node_and_word (asking inquiry.List) words
     else (if bytes_eq verb (codes "plan") then plan_command words
-    else Err UnknownCommand)))
+    else (if bytes_eq verb (codes "units") then units_command words
+    else Err UnknownCommand))))
 
 -- the first word names the command, which changes no node
 abbrev pub question_of : List ℕ → List (List ℕ) → Result Command LineRefusal

@@ -93,6 +93,10 @@ PlanIsReadBack = (node : List ℕ) (host : Option (List ℕ)) (unit : List ℕ) 
     → IsName node → HasNoSpace host → IsWord unit → All IsWord running
     → command_of (line_of (codes "plan" ∷ node_word node host ∷ unit ∷ running)) ≡ Ok (Ask node host (inquiry.Plan unit running))
 
+abbrev pub UnitsIsReadBack : Type 0
+UnitsIsReadBack = (node : List ℕ) (host : Option (List ℕ)) → IsName node → HasNoSpace host
+    → command_of (line_of (codes "units" ∷ node_word node host ∷ [])) ≡ Ok (Ask node host inquiry.Units)
+
 -- a 32-bit number in decimal
 abbrev pub WorkersIsReadBack : Type 0
 WorkersIsReadBack = (count : ℕ) → count < 2 ^ 32
@@ -125,6 +129,7 @@ AreWordsOf (Cat node host unit) words line = (words ≡ codes "cat" ∷ node_wor
 AreWordsOf (Ask node host (inquiry.Unit unit)) words line = (words ≡ codes "show" ∷ node_word node host ∷ unit ∷ []) × IsName node
 AreWordsOf (Ask node host (inquiry.List unit)) words line = (words ≡ codes "list" ∷ node_word node host ∷ unit ∷ []) × IsName node
 AreWordsOf (Ask node host (inquiry.Plan unit running)) words line = (words ≡ codes "plan" ∷ node_word node host ∷ unit ∷ running) × IsName node
+AreWordsOf (Ask node host inquiry.Units) words line = (words ≡ codes "units" ∷ node_word node host ∷ []) × IsName node
 AreWordsOf (Workers count) words line = (number : List ℕ) × (words ≡ codes "workers" ∷ number ∷ []) × (number_of number ≡ Some count)
 AreWordsOf (Same left right) words line = (words ≡ codes "same" ∷ left ∷ right ∷ []) × IsName left × IsName right
 AreWordsOf (Crowd node seats edits) words line =
@@ -136,7 +141,7 @@ JustItsWordsAreRead = (line : List ℕ) (command : Command) → (command_of line
 
 -- the words that name commands
 abbrev pub verbs : List (List ℕ)
-verbs = codes "node" ∷ codes "put" ∷ codes "link" ∷ codes "remove" ∷ codes "merge" ∷ codes "part" ∷ codes "send" ∷ codes "sweep" ∷ codes "files" ∷ codes "text" ∷ codes "workers" ∷ codes "same" ∷ codes "crowd" ∷ codes "cat" ∷ codes "show" ∷ codes "list" ∷ codes "plan" ∷ []
+verbs = codes "node" ∷ codes "put" ∷ codes "link" ∷ codes "remove" ∷ codes "merge" ∷ codes "part" ∷ codes "send" ∷ codes "sweep" ∷ codes "files" ∷ codes "text" ∷ codes "workers" ∷ codes "same" ∷ codes "crowd" ∷ codes "cat" ∷ codes "show" ∷ codes "list" ∷ codes "plan" ∷ codes "units" ∷ []
 
 -- the word is one of these
 abbrev pub IsOneOf : List ℕ → List (List ℕ) → Type 0
@@ -327,6 +332,11 @@ plan_is_read_back node host unit running is free word all =
     let words : List (List ℕ) = codes "plan" ∷ node_word node host ∷ unit ∷ running in
     read_words words (is_verb (codes "plan") refl, (node_word_is_word node host is free, (word, recursion_from_All IsWord running all)))
     ∙ node_word_is_cut node host (λ n h. Ask n h (inquiry.Plan unit running)) is
+
+pub units_is_read_back : UnitsIsReadBack
+units_is_read_back node host is free =
+    read_words (codes "units" ∷ node_word node host ∷ []) (is_verb (codes "units") refl, (node_word_is_word node host is free, tt))
+    ∙ node_word_is_cut node host (λ n h. Ask n h inquiry.Units) is
 
 pub workers_is_read_back : WorkersIsReadBack
 workers_is_read_back count small =

@@ -90,6 +90,8 @@ pub enum Inquiry<'a> {
     /// What stops, and then what starts and in which order, if the unit that a word names is to start while those that
     /// other words name are running.
     Plan(Word<'a>, Words<'a>),
+    /// All units, each as if it were asked for by its main name.
+    Units,
 }
 
 /// A command: what a line asks for.

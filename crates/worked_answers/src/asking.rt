@@ -18,12 +18,12 @@ use unit_name::UnitName;
 use worked_lines::{Answer, LineFault, Words, is};
 use worker_rounds::OpenGate;
 
-// The question that a list of words writes: `unit NAME`, `pulled NAME`, or `plan TARGET RUNNING..`.
+// The question that a list of words writes: `unit NAME`, `pulled NAME`, `plan TARGET RUNNING..`, or `units`.
 fn question_of(words: &mut Words, host: Viewer) -> Result<Question, LineFault> {
     let kind = words.word()?;
     let mut names = words.names()?;
     if names.is_empty() {
-        return Err(LineFault::Words);
+        return units_question(kind, host);
     }
     let name = names.remove(0);
     if is(kind, b"plan") {
@@ -38,6 +38,15 @@ fn question_of(words: &mut Words, host: Viewer) -> Result<Question, LineFault> {
         Ok(Question::Unit { host, name })
     } else if is(kind, b"pulled") {
         Ok(Question::Pulled { host, name })
+    } else {
+        Err(LineFault::Words)
+    }
+}
+
+// The question that a word writes without names.
+fn units_question(kind: &[u8], host: Viewer) -> Result<Question, LineFault> {
+    if is(kind, b"units") {
+        Ok(Question::Units { host })
     } else {
         Err(LineFault::Words)
     }
@@ -63,6 +72,15 @@ fn append_linked(out: &mut Answer, linked: &LinkedUnit) {
     }
 }
 
+// Writes units and their edges.
+fn append_all_linked(out: &mut Answer, all: &[LinkedUnit]) {
+    out.write(b"units");
+    for linked in all {
+        out.write(b" | ");
+        append_linked(out, linked);
+    }
+}
+
 // Writes what a question was answered.
 fn append_returned(out: &mut Answer, returned: &Returned) {
     match returned {
@@ -75,6 +93,7 @@ fn append_returned(out: &mut Answer, returned: &Returned) {
         }
         Returned::Planned(plan) => append_plan(out, plan),
         Returned::Refused(refusal) => out.print(refusal),
+        Returned::Units(all) => append_all_linked(out, all.as_slice()),
     }
 }
 
