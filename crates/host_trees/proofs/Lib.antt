@@ -1,0 +1,5 @@
+pub mod Prelude
+pub mod Sorted
+pub mod Merges
+pub mod Scopes
+pub mod Made
