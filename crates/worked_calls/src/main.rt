@@ -29,6 +29,7 @@ mod script_lines;
 mod sections;
 mod settings;
 mod stores;
+mod trees;
 mod worlds;
 mod written;
 
@@ -57,6 +58,7 @@ fn answer(words: &mut Words, out: &mut Answer) -> Result<(), LineFault> {
         b"world" => worlds::answer(words, out),
         b"fragment" => choices::answer(words, out),
         b"dropins" => drop_ins::answer(words, out),
+        b"tree" => trees::answer(words, out),
     )
 }
 
