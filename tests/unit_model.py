@@ -385,6 +385,36 @@ def folders(names):
     return list(dict.fromkeys(found))
 
 
+# ---- trees of hosts
+
+
+def parts(path):
+    """The number of a path's directory, its folder (nothing of one component) and its last component. So paths are ordered."""
+    number = next(at for at, it in enumerate(DIRECTORIES) if path.startswith(f"{it}/"))
+    folder, _, name = path.removeprefix(f"{DIRECTORIES[number]}/").rpartition("/")
+    return number, folder, name
+
+
+def is_passed_over(path, content):
+    """Whether what stands at a path says nothing there: a link of a unit's own name to itself, a link among drop-ins, a file among links."""
+    _, folder, name = parts(path)
+    is_link, is_mask = isinstance(content, Link), content == "/dev/null"
+    if not folder:
+        unit = name_or_none(name)
+        return bool(unit) and is_link and not is_mask and content.rpartition("/")[2] in (name, unit.template())
+    if folder.endswith(".d"):
+        return name.endswith(".conf") and name != ".conf" and is_link and not is_mask
+    return folder.endswith((".wants", ".requires")) and not is_link
+
+
+def tree(store, host):
+    """The paths and contents that the manager of a host finds, or one without a host, in order of paths."""
+    scopes = [""] if host is None else [f"{host}:", ""]
+    paths = {place.removeprefix(scope) for scope in scopes for place in store if place.startswith(f"{scope}/")}
+    found = {path: [store[scope + path] for scope in scopes if scope + path in store] for path in paths}
+    return [(path, next((it for it in found[path] if not is_passed_over(path, it)), found[path][0])) for path in sorted(paths, key=parts)]
+
+
 # ---- edges and plans
 
 PULLING = ("Requires", "Requisite", "BindsTo", "Wants")
