@@ -36,12 +36,15 @@ module _ (s : HostViewMap) (extra : List Name) (load : LoadMap) (is : IsLoad s e
       by (Some (OfAlias of)) f g = cc (g)
 
   shown_alone : (one : LinkedUnit) → ((main : Name) × IsUnitWithEdges load main one) → (name : Name) × IsLinkedUnit load name one
-  shown_alone one h = (h.0, record {
-    main = h.0;
-    main_is = main_of_main h.0 one.unit h.1.unit_is;
-    unit_is = h.1.unit_is;
-    edges_are = h.1.edges_are;
-  })
+  shown_alone one h = (
+    h.0,
+    record {
+      main = h.0;
+      main_is = main_of_main h.0 one.unit h.1.unit_is;
+      unit_is = h.1.unit_is;
+      edges_are = h.1.edges_are;
+    },
+  )
 
   -- a unit that is listed is that of an element with its edges
   listed_with : (returned : List LinkedUnit) (unit : LoadedUnit) → IsAmong unit (map (λ (one : LinkedUnit). one.unit) returned)

@@ -26,7 +26,9 @@ pub enum Question {
     /// Which units start and which stop for a request.
     Plan(Request),
     /// All units, with what each depends on and what depends on it.
-    Units { host: Option<HostName> },
+    Units {
+        host: Option<HostName>,
+    },
 }
 
 impl Drop for Question {

@@ -14,17 +14,17 @@ loop-index-preserved c =
     let part = part_at load names c.names-names.ensures.names c.names-names.ensures.sorted i d c.loop-index-test.true in
     elim c.match-names-index.branch [
       | in-Unit+in_ok-linked_at-in-Unit+in_ok-push-in-Unit w ↦ (
-          ap (λ us. map unit_of us.items) w.all-is ∙ ap (map unit_of) w.in_ok-push-in-Unit.ensures.items ∙ map-append unit_of c.loop-index.all.items _
-          ∙ made_one (λ q. unit_part q.1) names i d p c.loop-index-test.true refl (map unit_of c.loop-index.all.items) _
+        ap (λ us. map unit_of us.items) w.all-is ∙ ap (map unit_of) w.in_ok-push-in-Unit.ensures.items ∙ map-append unit_of c.loop-index.all.items _
+            ∙ made_one (λ q. unit_part q.1) names i d p c.loop-index-test.true refl (map unit_of c.loop-index.all.items) _
             (ap unit_part w.in-Unit.is ∙ ap Some (sym w.in_ok-linked_at-in-Unit.ensures.unit)) c.loop-index.invariant.0,
-          subst (All P) (sym (ap (λ (us : Vec LinkedUnit Global). us.items) w.all-is ∙ w.in_ok-push-in-Unit.ensures.items)) (All-push P c.loop-index.all.items _ c.loop-index.invariant.1
+        subst (All P) (sym (ap (λ (us : Vec LinkedUnit Global). us.items) w.all-is ∙ w.in_ok-push-in-Unit.ensures.items)) (All-push P c.loop-index.all.items _ c.loop-index.invariant.1
             (name_at load i, record { unit_is = part ∙ ap unit_part w.in-Unit.is ∙ ap Some (sym w.in_ok-linked_at-in-Unit.ensures.unit); edges_are = w.in_ok-linked_at-in-Unit.ensures.edges })),
-        )
+      )
       | in-Alias w ↦ (
-          ap (λ us. map unit_of us.items) w.all-is
-          ∙ made_none (λ q. unit_part q.1) names i d p c.loop-index-test.true refl (map unit_of c.loop-index.all.items) (ap unit_part w.in-Alias.is) c.loop-index.invariant.0,
-          subst (λ (us : Vec LinkedUnit Global). All P us.items) (sym w.all-is) c.loop-index.invariant.1,
-        )
+        ap (λ us. map unit_of us.items) w.all-is
+            ∙ made_none (λ q. unit_part q.1) names i d p c.loop-index-test.true refl (map unit_of c.loop-index.all.items) (ap unit_part w.in-Alias.is) c.loop-index.invariant.0,
+        subst (λ (us : Vec LinkedUnit Global). All P us.items) (sym w.all-is) c.loop-index.invariant.1,
+      )
     ]
 
 pub returns : goal.returns
