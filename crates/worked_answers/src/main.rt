@@ -27,8 +27,8 @@
 //! - `world EDITS + QUESTION + WORKERS`: what two nodes of a world answer, by each number of workers, once the second took
 //!   what the first put: at a moment before the last edit, and at one behind it; and that there is no third node.
 //!
-//! A question is `unit NAME`, `pulled NAME`, or `plan TARGET RUNNING..`. A call may have `@HOST` behind its word: then it
-//! is made for this host.
+//! A question is `unit NAME`, `pulled NAME`, `plan TARGET RUNNING..`, or `units`. A call may have `@HOST` behind its word:
+//! then it is made for this host.
 //!
 //! An edit is `PATH=TEXT` for a file and `PATH>TARGET` for a link, its directory as `E`, `R`, `L` or `U`. In a text `\n`
 //! and `\xHH` are read. A line that is refused memory is answered by `memory`. Lines that are empty or begin with `#` are
