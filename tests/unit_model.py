@@ -291,6 +291,16 @@ class Units:
         taken = self.taken(folders(names), [], ending, lambda _, content: isinstance(content, Link))
         return sorted(file for file, (_, target) in taken.items() if target != "/dev/null" and name_or_none(file))
 
+    def contents(self, names):
+        """The drop-ins and the links that name units, of each sort, by file name and content."""
+        types = list(dict.fromkeys(Name(name).kind for name in names))
+        dropins = {file: content for file, (_, content) in self.taken(folders(names), types, ".d", is_dropin).items() if content and not isinstance(content, Link)}
+        found = [dropins]
+        for ending in (".wants", ".requires"):
+            taken = self.taken(folders(names), [], ending, lambda _, content: isinstance(content, Link))
+            found.append({file: target for file, (_, target) in taken.items() if target != "/dev/null" and name_or_none(file)})
+        return found
+
     # ---- one unit
 
     def unit(self, main):
@@ -413,6 +423,13 @@ def tree(store, host):
     paths = {place.removeprefix(scope) for scope in scopes for place in store if place.startswith(f"{scope}/")}
     found = {path: [store[scope + path] for scope in scopes if scope + path in store] for path in paths}
     return [(path, next((it for it in found[path] if not is_passed_over(path, it)), found[path][0])) for path in sorted(paths, key=parts)]
+
+
+def crossed(store, host):
+    """The units that have other drop-ins or links in the tree of a host, read alone, than for the host."""
+    seen, alone = Units(store, host), Units(dict(tree(store, host)), None)
+    _, units = seen.load([])
+    return [main for main, unit in sorted(units.items()) if seen.contents(unit["names"]) != alone.contents(unit["names"])]
 
 
 # ---- edges and plans
@@ -624,4 +641,15 @@ def text(store, place):
     content = store.get(place)
     if content is None:
         raise Refused("E3")
-    return [*([f"{place} link {content}"] if isinstance(content, Link) else file_lines(place, content)), "end"]
+    return [*shown_lines(place, content), "end"]
+
+
+def shown_lines(place, content):
+    """The lines of a file, or the line of a link."""
+    return [f"{place} link {content}"] if isinstance(content, Link) else file_lines(place, content)
+
+
+def whole_tree(store, host):
+    """The tree of a host, and the units that read otherwise in it."""
+    names = crossed(store, host)
+    return [*[line for path, content in tree(store, host) for line in shown_lines(path, content)], *[f"crossed {it}" for it in names], "end"]

@@ -8,7 +8,7 @@ from .refusals import Refusal
 from .scripts import unspelled
 
 # Commands that change no node, so that a script's nodes are the same without them; the answers to all others have one line.
-READING = ("files", "text", "cat", "show", "units", "list", "plan", "same", "crowd", "workers")
+READING = ("files", "text", "cat", "show", "units", "tree", "list", "plan", "same", "crowd", "workers")
 MOST_LINE_BYTES = 300_000
 
 # Where in a tree the trees of hosts stand.

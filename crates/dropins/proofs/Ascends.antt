@@ -1,7 +1,7 @@
 -- What is taken, as lists in ascending order of file names.
 use Rattle.std.proofs.Common.{◌++◌, ◌↔◌, ◌∷◌, ◌≡◌, ◌⊎◌}
 use Rattle.path_maps.specs.HostViews.{HostViewMap, view}
-use Rattle.dropins.proofs.Prelude.{[], AllByRecursion, ap, At, Bool, btree_map_get_iff, BTreeMap, cond, Contains, Contains-append_cases, Contains-append_left, Contains-append_right, Contains-push, dirs_with, ending, Entry, entry_name, false, filter, Folder, get, given, held_there, inl, inr, is_name, IsLinkedOf, IsName, IsOrdered, IsStrictlySortedBy, IsStrictlySortedBy-filter, IsTakenOver, keys_of, Less, Links, List, made_there, map, Name, name_cmp, name_cmp-IsAntisymmetric, nat_list_cmp_total, none_there, Nothing, only_one, over_none, over_of_names, PathParts, Placed, refl, Search, Some, subst, sym, Take, took_over, true, unmasked, ℕ, ◌∙◌}
+use Rattle.dropins.proofs.Prelude.{[], AllByRecursion, ap, AreLinksOf, At, Bool, btree_map_get_iff, BTreeMap, cond, Contains, Contains-append_cases, Contains-append_left, Contains-append_right, Contains-push, dirs_with, ending, Entry, entry_name, false, filter, Folder, get, given, held_there, inl, inr, is_name, IsLinkedOf, IsOrdered, IsStrictlySortedBy, IsStrictlySortedBy-filter, IsTakenOver, IsTrue, keys_of, Less, Links, List, made_there, map, Name, name_cmp, name_cmp-IsAntisymmetric, nat_list_cmp_total, none_there, Nothing, only_one, over_none, over_of_names, PathParts, Placed, refl, Search, Some, subst, sym, Take, took_over, true, unmasked, ℕ, ◌∙◌}
 use Rattle.dropins.proofs.Lends.{over_iff_taken, over_name}
 use Rattle.std.specs.FinMap as finmap
 
@@ -68,36 +68,37 @@ module _ (s : HostViewMap) (x : Search) (ds ts : List (List ℕ)) (m : BTreeMap 
     λ t. subst (λ qs. Contains qs p) (sym e) (there_given m.entries p.0.name p ((entry_is p.0.name (Placed p)).0 (says p.0.name ∙ (over_iff_taken s x ds ts p).1 t))),
   )
 
-name_there : (ks : List Name) (n : Name) → Contains (filter is_name ks) n → IsName n × Contains ks n
-name_there [] n c = none_there n c
-name_there (k ∷ ks) n c = step (is_name k) refl (name_there ks n) c
+-- What a filter keeps, and what of it is kept.
+kept_there : {X : Type 0} (q : X → Bool) (xs : List X) (x : X) → Contains (filter q xs) x → IsTrue (q x) × Contains xs x
+kept_there q [] x c = none_there x c
+kept_there q (y ∷ xs) x c = step (q y) refl (kept_there q xs x) c
   where
-    later : IsName n × Contains ks n → IsName n × Contains (k ∷ ks) n
-    later h = (h.0, Contains-append_right (k ∷ []) ks n h.1)
+    later : IsTrue (q x) × Contains xs x → IsTrue (q x) × Contains (y ∷ xs) x
+    later h = (h.0, Contains-append_right (y ∷ []) xs x h.1)
 
-    pick : IsName k → (Contains (filter is_name ks) n → IsName n × Contains ks n) → Contains (k ∷ []) n ⊎ Contains (filter is_name ks) n → IsName n × Contains (k ∷ ks) n
-    pick e more (inl o) = (subst IsName (only_one k n o) e, Contains-append_left (k ∷ []) ks n o)
+    pick : IsTrue (q y) → (Contains (filter q xs) x → IsTrue (q x) × Contains xs x) → Contains (y ∷ []) x ⊎ Contains (filter q xs) x → IsTrue (q x) × Contains (y ∷ xs) x
+    pick e more (inl o) = (subst (λ z. IsTrue (q z)) (only_one y x o) e, Contains-append_left (y ∷ []) xs x o)
     pick e more (inr o) = later (more o)
 
-    step : (t : Bool) → is_name k ≡ t → (Contains (filter is_name ks) n → IsName n × Contains ks n) → Contains (cond t (k ∷ filter is_name ks) (filter is_name ks)) n → IsName n × Contains (k ∷ ks) n
-    step true e more d = pick e more (Contains-append_cases (k ∷ []) (filter is_name ks) n d)
+    step : (t : Bool) → q y ≡ t → (Contains (filter q xs) x → IsTrue (q x) × Contains xs x) → Contains (cond t (y ∷ filter q xs) (filter q xs)) x → IsTrue (q x) × Contains (y ∷ xs) x
+    step true e more d = pick e more (Contains-append_cases (y ∷ []) (filter q xs) x d)
     step false e more d = later (more d)
 
-there_name : (ks : List Name) (n : Name) → IsName n → Contains ks n → Contains (filter is_name ks) n
-there_name [] n h c = none_there n c
-there_name (k ∷ ks) n h c = pick (there_name ks n h) (Contains-append_cases (k ∷ []) ks n c)
+there_kept : {X : Type 0} (q : X → Bool) (xs : List X) (x : X) → IsTrue (q x) → Contains xs x → Contains (filter q xs) x
+there_kept q [] x h c = none_there x c
+there_kept q (y ∷ xs) x h c = pick (there_kept q xs x h) (Contains-append_cases (y ∷ []) xs x c)
   where
-    kept : (t : Bool) → Contains (filter is_name ks) n → Contains (cond t (k ∷ filter is_name ks) (filter is_name ks)) n
-    kept true d = Contains-append_right (k ∷ []) (filter is_name ks) n d
+    kept : (t : Bool) → Contains (filter q xs) x → Contains (cond t (y ∷ filter q xs) (filter q xs)) x
+    kept true d = Contains-append_right (y ∷ []) (filter q xs) x d
     kept false d = d
 
-    here : (t : Bool) → t ≡ true → Contains (k ∷ []) n → Contains (cond t (k ∷ filter is_name ks) (filter is_name ks)) n
-    here true e o = Contains-append_left (k ∷ []) (filter is_name ks) n o
+    here : (t : Bool) → t ≡ true → Contains (y ∷ []) x → Contains (cond t (y ∷ filter q xs) (filter q xs)) x
+    here true e o = Contains-append_left (y ∷ []) (filter q xs) x o
     here false e o = cc (e)
 
-    pick : (Contains ks n → Contains (filter is_name ks) n) → Contains (k ∷ []) n ⊎ Contains ks n → Contains (filter is_name (k ∷ ks)) n
-    pick more (inl o) = here (is_name k) (subst IsName (sym (only_one k n o)) h) o
-    pick more (inr o) = kept (is_name k) (more o)
+    pick : (Contains xs x → Contains (filter q xs) x) → Contains (y ∷ []) x ⊎ Contains xs x → Contains (filter q (y ∷ xs)) x
+    pick more (inl o) = here (q y) (subst (λ z. IsTrue (q z)) (sym (only_one y x o)) h) o
+    pick more (inr o) = kept (q y) (more o)
 
 record HasEntry (ps : List (PathParts × Entry)) (n : Name) : Type 0 where
   entry : PathParts × Entry
@@ -119,14 +120,38 @@ linked s fs d ps ex ns e n = (there, back)
   where
     there : Contains ns n → IsLinkedOf s fs d n
     there c =
-        let h = name_there (map entry_name ps) n (subst (λ ms. Contains ms n) e c) in
+        let h = kept_there is_name (map entry_name ps) n (subst (λ ms. Contains ms n) e c) in
         let p = entry_there ps n h.1 in
         record { name = h.0; path = p.entry.0; name_is = p.name_is; taken = over_none s Links (dirs_with (ending d) fs) (At p.entry.0) p.entry.0 ((ex p.entry).0 p.there).0 }
 
     back : IsLinkedOf s fs d n → Contains ns n
     back l =
         let h = held_there s Links l.path l.path l.taken.stands.says in
-        subst (λ ms. Contains ms n) (sym e) (there_name (map entry_name ps) n l.name (subst (Contains (map entry_name ps)) l.name_is (made_there entry_name ps (l.path, h.0) ((ex (l.path, h.0)).1 (over_of_names s Links (dirs_with (ending d) fs) [] (At l.path) l.path l.taken, h.1)))))
+        subst (λ ms. Contains ms n) (sym e) (there_kept is_name (map entry_name ps) n l.name (subst (Contains (map entry_name ps)) l.name_is (made_there entry_name ps (l.path, h.0) ((ex (l.path, h.0)).1 (over_of_names s Links (dirs_with (ending d) fs) [] (At l.path) l.path l.taken, h.1)))))
 
 pub names_ascending : (ps : List (PathParts × Entry)) → IsStrictlySortedBy name_cmp (map entry_name ps) → (ns : List Name) → ns ≡ filter is_name (map entry_name ps) → IsStrictlySortedBy name_cmp ns
 names_ascending ps h ns e = subst (IsStrictlySortedBy name_cmp) (sym e) (IsStrictlySortedBy-filter name_cmp is_name (map entry_name ps) h)
+
+-- The file names of the entries that are named like units are the unit names among the file names.
+names_of_kept : (ps : List (PathParts × Entry)) → map entry_name (filter (λ p. is_name (entry_name p)) ps) ≡ filter is_name (map entry_name ps)
+names_of_kept [] = refl
+names_of_kept (p ∷ ps) = by (is_name p.0.name) (names_of_kept ps)
+  where
+    by : (b : Bool) → map entry_name (filter (λ q. is_name (entry_name q)) ps) ≡ filter is_name (map entry_name ps)
+        → map entry_name (cond b (p ∷ filter (λ q. is_name (entry_name q)) ps) (filter (λ q. is_name (entry_name q)) ps)) ≡ cond b (p.0.name ∷ filter is_name (map entry_name ps)) (filter is_name (map entry_name ps))
+    by true more = ap (λ ks. p.0.name ∷ ks) more
+    by false more = more
+
+pub links_ascending : (ps : List (PathParts × Entry)) → IsStrictlySortedBy name_cmp (map entry_name ps) → (ls : List (PathParts × Entry)) → ls ≡ filter (λ p. is_name (entry_name p)) ps → IsStrictlySortedBy name_cmp (map entry_name ls)
+links_ascending ps h ls e = names_ascending ps h (map entry_name ls) (ap (map entry_name) e ∙ names_of_kept ps)
+
+-- Of what is taken, the entries that are named like units are exactly the links.
+pub linked_entries : (s : HostViewMap) (fs : List Name) (d : Folder) (ps : List (PathParts × Entry)) → ((p : PathParts × Entry) → Contains ps p ↔ (IsTakenOver s Links (dirs_with (ending d) fs) [] (At p.0) p.0 × (finmap.get (view s) p.0 ≡ Some p.1)))
+    → (ls : List (PathParts × Entry)) → ls ≡ filter (λ p. is_name (entry_name p)) ps → AreLinksOf s fs d ls
+linked_entries s fs d ps ex ls e p = (
+  λ c.
+      let h = kept_there (λ q. is_name (entry_name q)) ps p (subst (λ qs. Contains qs p) e c) in
+      let t = (ex p).0 h.1 in
+      ((h.0, over_none s Links (dirs_with (ending d) fs) (At p.0) p.0 t.0), t.1),
+  λ l. subst (λ qs. Contains qs p) (sym e) (there_kept (λ q. is_name (entry_name q)) ps p l.0.0 ((ex p).1 (over_of_names s Links (dirs_with (ending d) fs) [] (At p.0) p.0 l.0.1, l.1))),
+)

@@ -18,7 +18,7 @@ held_there s x q p h = by (finmap.get (view s) q) refl h
     by None g k = cc (k)
     by (Some e) g k = (e, g)
 
--- If an item is in a list, its image is in the mapped list.
+-- If an item is in a list, its image is in the mapped list, and what is in the mapped list is the image of one.
 pub made_there : {A B : Type 0} (f : A → B) (xs : List A) (x : A) → Contains xs x → Contains (map f xs) (f x)
 made_there f [] x c = none_there x c
 made_there f (y ∷ ys) x c = pick (made_there f ys x) (Contains-append_cases (y ∷ []) ys x c)
@@ -27,7 +27,7 @@ made_there f (y ∷ ys) x c = pick (made_there f ys x) (Contains-append_cases (y
     pick more (inl o) = subst (λ z. Contains (z ∷ map f ys) (f x)) (sym (ap f (only_one y x o))) (Contains-append_left (f x ∷ []) (map f ys) (f x) (Contains-push [] (f x)))
     pick more (inr o) = Contains-append_right (f y ∷ []) (map f ys) (f x) (more o)
 
-made_of : {A B : Type 0} (f : A → B) (xs : List A) (y : B) → Contains (map f xs) y → (x : A) × (f x ≡ y) × Contains xs x
+pub made_of : {A B : Type 0} (f : A → B) (xs : List A) (y : B) → Contains (map f xs) y → (x : A) × (f x ≡ y) × Contains xs x
 made_of f [] y c = none_there y c
 made_of {A = A} {B = B} f (x ∷ xs) y c = pick (made_of f xs y) (Contains-append_cases (f x ∷ []) (map f xs) y c)
   where

@@ -130,6 +130,10 @@ pub record IsLinkedOf (s : HostViewMap) (fs : List Name) (d : Folder) (n : Name)
 abbrev pub IsLinked : HostViewMap → List Name → Folder → Name → Type 0
 IsLinked s ns d n = IsLinkedOf s (folders ns) d n
 
+-- the path is a link in the link folders of this sort of a unit with these folders: it is taken there, and its file name is a unit's
+abbrev pub IsLinkOf : HostViewMap → List Name → Folder → PathParts → Type 0
+IsLinkOf s fs d p = IsName p.name × IsTaken s Links (dirs_with (ending d) fs) (At p) p
+
 abbrev pub file_name : PlaceParts → List ℕ
 file_name place = place.path.name
 
@@ -143,3 +147,7 @@ entry_name p = p.0.name
 -- these entries are those that are seen at the drop-ins of a unit with these folders
 abbrev pub AreDropInsOf : HostViewMap → List Name → List (PathParts × Entry) → Type 0
 AreDropInsOf s fs ps = (p : PathParts × Entry) → Contains ps p ↔ (IsDropInOf s fs p.0 × (finmap.get (view s) p.0 ≡ Some p.1))
+
+-- these entries are those that are seen at the links in such folders
+abbrev pub AreLinksOf : HostViewMap → List Name → Folder → List (PathParts × Entry) → Type 0
+AreLinksOf s fs d ps = (p : PathParts × Entry) → Contains ps p ↔ (IsLinkOf s fs d p.0 × (finmap.get (view s) p.0 ≡ Some p.1))

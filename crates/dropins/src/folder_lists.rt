@@ -3,7 +3,7 @@ ghost use Rattle.std.specs.{List.{Contains, Sorted.{IsStrictlySortedBy}}, Option
 ghost use Rattle.load_places.specs.Places.{PlaceParts};
 ghost use Rattle.path_maps.specs.HostViews.{host_view_of};
 ghost use Rattle.unit_name.specs.Names.{is_name, IsName, Name, name_cmp};
-ghost use Rattle.dropins.specs.{FolderLists.{folders, folders_of, with_name, with_prefix, with_template}, Listings.{IsKept}, Taken.{AreDropInsOf, ending, entry_name, entry_place, file_name, IsDropInAt, IsLinked, IsLinkedOf}};
+ghost use Rattle.dropins.specs.{FolderLists.{folders, folders_of, with_name, with_prefix, with_template}, Listings.{IsKept}, Taken.{AreDropInsOf, AreLinksOf, ending, entry_name, entry_place, file_name, IsDropInAt, IsLinked, IsLinkedOf}};
 
 use crate::dirs::{name_dirs, type_dirs};
 use crate::precedence::{Search, taken_entries};
@@ -213,6 +213,27 @@ impl UnitFolders {
     }
 }
 
+impl UnitFolders {
+    /// Returns the links that give the names of `links`, in byte order of their file names (systemd.unit(5),
+    /// "Description"), as the borrowed entries that are seen there.
+    ///
+    /// Costs a search in the store for each folder at each level, and one sort by file name of the entries there. Fails
+    /// only if memory runs out. Copies no bytes of an entry.
+    pub fn link_entries<'a>(
+        &self,
+        alloc: Global,
+        view: &HostView<'a>,
+        folder: Folder,
+    ) -> Result<Vec<HostViewEntry<'a>>, AllocError>
+        ensures ascending { IfOk result (λ links. IsStrictlySortedBy name_cmp (map entry_name links.items)) }
+        ensures exact { IfOk result (λ links. AreLinksOf view.now self.now folder links.items) }
+    {
+        let dirs = name_dirs(alloc, self.names(), folder.ending())?;
+        let taken = taken_entries(alloc, view, Search::Links, &dirs, &[])?;
+        named_like_units(alloc, taken)
+    }
+}
+
 /// Returns the names that the link folders of a unit with these names give, in byte order, as a host sees them or as
 /// they are seen without a host.
 ///
@@ -245,6 +266,24 @@ fn unit_names(alloc: Global, taken: &[HostViewEntry]) -> Result<Vec<UnitName>, A
         }
     }
     Ok(units)
+}
+
+// Returns the entries whose file names are unit names.
+fn named_like_units<'a>(
+    alloc: Global,
+    taken: Vec<HostViewEntry<'a>>,
+) -> Result<Vec<HostViewEntry<'a>>, AllocError>
+    ensures named { IfOk result (λ named. named.items ≡ filter (λ p. is_name (entry_name p)) taken.entry.items) }
+{
+    let mut named = Vec::new(alloc);
+    for placed in taken {
+        match UnitName::parse(alloc, placed.name().as_slice()) {
+            Ok(_) => named.push(placed)?,
+            Err(NameFault::Memory) => return Err(AllocError),
+            Err(_) => {}
+        }
+    }
+    Ok(named)
 }
 
 impl UnitFolders {

@@ -10,8 +10,8 @@
 //!
 //! - `folders` and `UnitFolders`: the folders of a unit, listed once for its drop-ins and its links.
 //! - `order` and `UnitFolders::drop_ins`: the drop-ins of a unit; `places_of`: the places of seen entries.
-//! - `links` and `UnitFolders::links`: the units that the link folders of a unit give; `Folder`: the two kinds of link
-//!   folder.
+//! - `links` and `UnitFolders::links`: the units that the link folders of a unit give; `UnitFolders::link_entries`: the
+//!   links themselves; `Folder`: the two kinds of link folder.
 //! - `name_dirs` and `type_dirs`: the names of folders with an ending.
 //! - `drop_in_laws` and `folder_laws`: what the definitions imply.
 #![tactic(auto)]

@@ -1,5 +1,5 @@
 -- Commands between nodes: from the shell's state to the outcome.
-use Rattle.std.proofs.Common.{◌++◌, ◌+◌, ◌-◌, ◌<◌, ◌==◌, ◌∷◌, ◌≡◌}
+use Rattle.std.proofs.Common.{◌++◌, ◌+◌, ◌<◌, ◌==◌, ◌∷◌, ◌≡◌}
 use Rattle.fleet_script.proofs.Prelude.{[], ap, arith, AtNode, Bool, bytes_eq, changed_line, changed_places, cond, Continues, count_by, cut, digest_of, Edit, edit_of, entries_line, Entry, entry_cmp_total, entry_of, EntryMap, eq-eqb, eqb-true, Err, false, get_from_edits_of, get_or, Give, Gives, Global, Goes, happened, held, Holds, if_any, IfOk, inl, inr, is_eq, is_other, IsAmong, IsJoinedAt, IsNamed, IsPiece, join, join-nothing, join_idem, joined_with, Keeps, length, List, map, MatchOption, merged, merged_all, nil_from_length, None, not, Ok, OnOk, Option, parted, piece_named, PlaceParts, refl, Refuses, Replicated, Result, ScriptWorld, Sends, SendsTo, set, set-get_or, Some, subst, sum_by-cons, sum_of, sym, tied_itself, true, true≢false, UnknownNode, UnknownPiece, Vec, VersionMap, ℕ, ◌∙◌}
 use Rattle.fleet_script.proofs.Nodes.{at_place, get_or_any, get_or_here, get_or_there, get_or_twice, holds_merge, holds_part, holds_send, length_set, set_twice, slice_get_at}
 use Rattle.std.specs.FinMap as finmap

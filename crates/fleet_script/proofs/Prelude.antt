@@ -3,7 +3,7 @@ pub use Rattle.delta_gossip.specs.Sweeps.{join_all, join_of, with_store}
 pub use Rattle.edit_sums.specs.{EntryLaws.{entry_cmp_total}, SumLaws.{join-least, join-left, join-nothing, join-right, join_assoc, join_idem, store_below_antisym, store_below_refl, store_below_trans, sum_of-least, sum_of-same_edits}, Sums.{is_other}}
 pub use Rattle.fleet_script.specs.{Does.{AtNode, AtPiece, AtPlace, AtPlaces, Does, Gives, if_any, IsRead, MergesInto, Names, PartsAt, Reads, Refuses, RefusesPlace, Removes, RemovesAt, RendersPlaces, Sends, SendsTo, Sweeps, WithFile, WithTarget, WithText, Writes}, Ends.{IsPrefixWritten}, Holds.{Continues, Goes, HasNoNode, HasNoSite, HasRoom, Holds, IsBlank, IsJoinedAt, IsNamed, IsNodeNamed, IsPiece, IsSite, joined_with, Keeps, kept_in}, Prelude.{AreSameEdits, BadLink, BadText, blank, changed_line, changed_places, Command, command_of, Component, Content, cut, Depth, digest_of, Directory, entries_line, EntryMap, error_line, Fault, FileTooLarge, Gone, happened, has_writer, held, high_of, HostName, is_file, is_passed_over, is_target, IsAboveEdits, IsPlaceFault, IsSaid, IsStoreBelow, IsValid, IsWorkerCount, join, LineRefusal, lines_of, LineTooLong, Memory, merged, next_edit, node_named, NodeTaken, Nothing, ok_line, Outcome, outcome_text, parted, piece_named, place_of, PlaceFault, PlaceParts, places_of, Refused, RendersCrowd, RendersFiles, RendersInquiry, RendersText, Replicated, ScriptWorld, state, swept, took, UnknownNode, UnknownPiece, VersionsSpent, visible_at, with_node, writer_at, WriterTaken}, Readings.{IsReading, of_node, SameEditsSameOutcomes, SameEditsSameStores, StoresAreLeast}, ScriptLaws.{CountersAreLines, NoLineIsRefusedForVersions, PrefixesAreOfTheWhole, VersionsAreNeverSpent}, Scripts.{Answers, AnswersCommand, AnswersLine, AnswersPrefix, Run, Says}}
 pub use Rattle.replica_store.specs.Replicas.{next_version, with_put}
-pub use Rattle.script_answers.specs.{CrowdLaws.{crowds_are_rendered_once, crowds_spend_nothing}, FileLaws.{files_are_rendered_once, files_spend_nothing}, PlaceTextLaws.{texts_are_rendered_once, texts_spend_nothing}, Renders.{question_asked}, RendersLaws.{questions_are_rendered_once, questions_spend_nothing}}
+pub use Rattle.script_answers.specs.{CrowdLaws.{crowds_are_rendered_once, crowds_spend_nothing}, FileLaws.{files_are_rendered_once, files_spend_nothing}, PlaceTextLaws.{texts_are_rendered_once, texts_spend_nothing}, Renders.{form_of, question_asked}, RendersLaws.{questions_are_rendered_once, questions_spend_nothing}}
 pub use Rattle.script_commands.specs.{declared.commands.{Command.TheVariants.{Ask, Cat, Crowd, Files, Link, Merge, Node, Part, Put, Remove, Same, Send, Sweep, Text, Workers}, LineRefusal.TheVariants.{Arguments, UnknownCommand, Workers as NoWorkerCount}}, Faults.{fault_of_edit, fault_of_place}, Files.{bad_text, IsFileOf, IsLinkTo, IsNoFile, IsNoLink, too_large, without_memory}, Outcomes.{is_spent}, Prelude.{EditFault, words_of}, ReadLaws.{others_are_refused}, WrittenLaws.{BeginsWithVerb}}
 pub use Rattle.script_pipes.specs.{KnownBytes.{AppendsPrefix}, KnownBytesLaws.{Appends-append, Appends-nothing, AreAll-some}}
 pub use Rattle.script_words.specs.{LinesLaws.{lines_of-nil}, TextLaws.{spells_one}}

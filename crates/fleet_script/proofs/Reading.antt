@@ -1,6 +1,6 @@
 -- A command that only reads a node's store has one outcome for all nodes that took the same edits.
 use Rattle.std.proofs.Common.{◌↔◌, ◌≡◌}
-use Rattle.fleet_script.proofs.Prelude.{AreSameEdits, Ask, blank, Cat, Command, Crowd, crowds_are_rendered_once, Does, EntryMap, Files, files_are_rendered_once, held, IsAboveEdits, IsRead, IsReading, IsStoreBelow, length, Link, List, MatchOption, Merge, Node, node_named, of_node, Option, Outcome, Part, Put, question_asked, questions_are_rendered_once, Reads, Refuses, Remove, RendersCrowd, RendersFiles, RendersInquiry, RendersPlaces, RendersText, Run, Same, SameEditsSameOutcomes, SameEditsSameStores, ScriptWorld, Send, slice_get, Some, state, stores_are_sums, StoresAreLeast, subst, sum_of-least, sum_of-same_edits, Sweep, sym, Text, texts_are_rendered_once, took, UnknownNode, valid_blank, Workers, ℕ, ◌∙◌}
+use Rattle.fleet_script.proofs.Prelude.{AreSameEdits, Ask, blank, Cat, Command, Crowd, crowds_are_rendered_once, Does, EntryMap, Files, files_are_rendered_once, held, IsAboveEdits, IsRead, IsReading, IsStoreBelow, length, Link, List, MatchOption, Merge, Node, node_named, of_node, Option, Outcome, Part, Put, form_of, question_asked, questions_are_rendered_once, Reads, Refuses, Remove, RendersCrowd, RendersFiles, RendersInquiry, RendersPlaces, RendersText, Run, Same, SameEditsSameOutcomes, SameEditsSameStores, ScriptWorld, Send, slice_get, Some, state, stores_are_sums, StoresAreLeast, subst, sum_of-least, sum_of-same_edits, Sweep, sym, Text, texts_are_rendered_once, took, UnknownNode, valid_blank, Workers, ℕ, ◌∙◌}
 use Rattle.fleet_script.proofs.WholeScripts.{run_valid}
 use Rattle.world_law.specs.Worlds as worlds
 
@@ -23,7 +23,7 @@ module _ (world other : ScriptWorld) (left right : List ℕ) (j k : ℕ) (is_lef
   alike (Files node) h p q = read_alike RendersPlaces (λ s a b p q. p ∙ sym q) p q
   alike (Text node place) h p q = read_alike (RendersText place) (texts_are_rendered_once place) p q
   alike (Cat node host unit) h p q = read_alike (RendersFiles host unit) (files_are_rendered_once host unit) p q
-  alike (Ask node host inquiry) h p q = read_alike (RendersInquiry host inquiry) (questions_are_rendered_once (question_asked inquiry) host) p q
+  alike (Ask node host inquiry) h p q = read_alike (RendersInquiry host inquiry) (questions_are_rendered_once (form_of inquiry) (question_asked inquiry) host) p q
   alike (Crowd node seats edits) h p q = read_alike (RendersCrowd seats edits) (crowds_are_rendered_once seats edits) p q
   alike (Node name writer) h p q = absurd h
   alike (Put node place text) h p q = absurd h

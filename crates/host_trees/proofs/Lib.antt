@@ -3,3 +3,5 @@ pub mod Sorted
 pub mod Merges
 pub mod Scopes
 pub mod Made
+mod Pairs
+mod Stored

@@ -4,3 +4,10 @@ pub mod Trees
 pub mod Merged
 pub mod PartLaws
 pub mod TreeLaws
+pub mod Reads
+pub mod Entries
+pub mod CrossingLaws
+pub mod Ranks
+pub mod Moves
+pub mod TreeChoices
+pub mod ChoiceLaws

@@ -1,5 +1,5 @@
 //! Laws of trees: the contract of a function that does nothing.
-ghost use Rattle.host_trees.specs.{PartLaws.{FilesCount, LinksCount, LinksToThemselvesArePassedOver, OwnNamesDecide, PassedOverAtPaths}, TreeLaws.{AllPathsStand, HostsWithoutPlacesHaveTheFleetsTree, OneOfBothStands, OneTree, OwnContentsGoFirst, OwnContentsStand, VisibleContentsDecide, WhatIsPassedOverHidesNothing, WithoutAHostTheFleets}};
+ghost use Rattle.host_trees.specs.{ChoiceLaws.{TreesChooseAlike, TreesHaveTheSameFragments, TreesNameAlike, TreesResolveAlike, TreesShowTheSameNames}, CrossingLaws.{HostsWithoutPlacesHaveNoneCrossed, OneStoreTellsAll, WithoutAHostNoneIsCrossed}, PartLaws.{FilesCount, LinksCount, LinksToThemselvesArePassedOver, OwnNamesDecide, PassedOverAtPaths}, TreeLaws.{AllPathsStand, HostsWithoutPlacesHaveTheFleetsTree, OneOfBothStands, OneTree, OwnContentsGoFirst, OwnContentsStand, VisibleContentsDecide, WhatIsPassedOverHidesNothing, WithoutAHostTheFleets}};
 
 /// A host has one tree, and what is visible at its own places and at the fleet's decides it. Without a host it is what is
 /// visible of the fleet, and so it is for a host at whose places nothing is visible. Each path at which either shows
@@ -26,4 +26,23 @@ pub fn part_laws()
     ensures files { FilesCount }
     ensures links { LinksCount }
     ensures passed_over { PassedOverAtPaths }
+{}
+
+/// What a store that shows just a host's tree at the fleet's places gives without a host. Each unit name is chosen and
+/// resolves as it does for the host: only the scope of a fragment's place differs, and the fragment has the same content.
+/// So each unit has the same names. The same names are visible too.
+pub fn choice_laws()
+    ensures choices { TreesChooseAlike }
+    ensures resolutions { TreesResolveAlike }
+    ensures names { TreesNameAlike }
+    ensures shown { TreesShowTheSameNames }
+    ensures fragments { TreesHaveTheSameFragments }
+{}
+
+/// Without a host no unit is crossed, nor is any for a host at whose places nothing is visible. One store that shows just
+/// the tree tells of all such stores.
+pub fn crossing_laws()
+    ensures fleets { WithoutAHostNoneIsCrossed }
+    ensures without_places { HostsWithoutPlacesHaveNoneCrossed }
+    ensures one { OneStoreTellsAll }
 {}

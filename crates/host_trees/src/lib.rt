@@ -8,15 +8,18 @@
 //! among the links of units a file. Where the host's own content is one of these, the fleet's stands in its place,
 //! unless that is passed over too.
 //!
-//! - `tree`: the tree of a host, or the tree without a host.
-//! - `tree_laws` and `part_laws`: what the definitions imply.
+//! - `tree`: the tree of a host, or the tree without a host; `tree_store`: a store that shows just a tree.
+//! - `is_crossed`: whether a unit has other drop-ins or links in the tree, read alone, than it has for the host.
+//! - `tree_laws`, `part_laws`, `choice_laws` and `crossing_laws`: what the definitions imply.
 #![tactic(auto)]
 
+mod crossings;
 mod laws;
 mod links;
 mod merged;
 mod parts;
 mod trees;
 
-pub use laws::{part_laws, tree_laws};
-pub use trees::tree;
+pub use crossings::is_crossed;
+pub use laws::{choice_laws, crossing_laws, part_laws, tree_laws};
+pub use trees::{tree, tree_store};

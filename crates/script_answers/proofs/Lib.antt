@@ -1,4 +1,5 @@
 pub mod Prelude
 mod Borrowed
+mod Crossed
 mod Reading
 mod Rendered

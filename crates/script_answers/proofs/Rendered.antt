@@ -1,6 +1,6 @@
 -- From the answer to a question to the answer to the words that ask it.
 use Rattle.std.proofs.Common.{◌≡◌}
-use Rattle.script_answers.proofs.Prelude.{[], Answer, ap, EntryMap, Err, Fault, fault_of_host, fault_of_name, fault_of_plan, ForHost, Global, host_asked, HostFault, HostName, inl, inr, IsAnswer, IsHostFault, IsNameFault, IsOutcomeOf, IsSaid, List, MatchResult, NameFault, Ok, Option, Outcome, PlanRefusal, Question, refl, RefusesHost, RefusesName, RendersQuestion, RendersWords, Result, subst, sym, Vec, Viewer, ℕ}
+use Rattle.script_answers.proofs.Prelude.{[], Answer, EntryMap, Err, Fault, fault_of_host, fault_of_name, fault_of_plan, Form, ForHost, Global, host_asked, host_of, HostFault, HostName, inl, inr, IsAnswer, IsHostFault, IsNameFault, IsOutcomeOf, IsSaid, List, MatchResult, NameFault, Ok, Option, Outcome, PlanRefusal, Question, refl, RefusesHost, RefusesName, RendersQuestion, RendersWords, Result, subst, sym, Vec, Viewer, ℕ}
 use Rattle.load_places.specs.declared.hosts.HostFault.TheVariants as host
 use Rattle.unit_name.specs.declared.names.NameFault.TheVariants as name
 use Rattle.script_commands.specs.declared.commands.Fault.TheVariants as fault
@@ -20,9 +20,9 @@ weaker (Err (fault.Refused refusal)) P Q f p = f _ p
 weaker (Err fault.Memory) P Q f p = tt
 
 -- the refusal of a plan is that of its fault
-pub refusal_said : (cause : PlanRefusal) (f : Fault) → f ≡ fault_of_plan cause → IsRendered (Err f) (IsOutcomeOf (answer.Refused cause))
-refusal_said cause (fault.Refused r) e = record { refusal = r; rendered = sym e; outcome_is = refl }
-refusal_said cause fault.Memory e = tt
+pub refusal_said : (form : Form) (s : EntryMap) (host : Viewer) (cause : PlanRefusal) (f : Fault) → f ≡ fault_of_plan cause → IsRendered (Err f) (IsOutcomeOf form s host (answer.Refused cause))
+refusal_said form s host cause (fault.Refused r) e = record { refusal = r; rendered = sym e; outcome_is = refl }
+refusal_said form s host cause fault.Memory e = tt
 
 -- the fault of a name says why it is refused
 fault_rendered : (P : Outcome → Type 0) (f : NameFault) → ((outcome : Outcome) → RefusesName f outcome → P outcome) → IsRendered (Err (fault_of_name f)) P
@@ -32,24 +32,26 @@ fault_rendered P name.EmptyPrefix say = say _ refl
 fault_rendered P (name.BadByte place) say = say _ refl
 fault_rendered P name.Memory say = tt
 
-module _ (read : Result Question NameFault) (s : EntryMap) where
+module _ (form : Form) (read : Result Question NameFault) (s : EntryMap) where
   abbrev Renders : Outcome → Result Question NameFault → Type 0
-  Renders outcome r = RendersWords r s outcome
+  Renders outcome r = RendersWords form r s outcome
 
   -- words that aren't names are refused
-  pub words_rendered : (f : Fault) → IsNameFault read f → IsRendered (Err f) (RendersWords read s)
-  words_rendered f (inl e) = subst (λ (x : Fault). IsRendered (Err x) (RendersWords read s)) (sym e) tt
+  pub words_rendered : (f : Fault) → IsNameFault read f → IsRendered (Err f) (RendersWords form read s)
+  words_rendered f (inl e) = subst (λ (x : Fault). IsRendered (Err x) (RendersWords form read s)) (sym e) tt
   words_rendered f (inr why) =
-      subst (λ (x : Fault). IsRendered (Err x) (RendersWords read s)) (sym why.2)
-      (fault_rendered (RendersWords read s) why.0 (λ outcome rendered. subst (Renders outcome) (sym why.1) rendered))
+      subst (λ (x : Fault). IsRendered (Err x) (RendersWords form read s)) (sym why.2)
+      (fault_rendered (RendersWords form read s) why.0 (λ outcome rendered. subst (Renders outcome) (sym why.1) rendered))
 
   -- and the answer to the question is the answer to the words
-  pub question_rendered : (question : Question) → read ≡ Ok question → (r : Rendered) → IsRendered r (RendersQuestion question s) → IsRendered r (RendersWords read s)
-  question_rendered question are r rendered = weaker r (RendersQuestion question s) (RendersWords read s) (λ outcome whole. subst (Renders outcome) (sym are) whole) rendered
+  pub question_rendered : (question : Question) → read ≡ Ok question → (r : Rendered) → IsRendered r (RendersQuestion form question s) → IsRendered r (RendersWords form read s)
+  question_rendered question are r rendered = weaker r (RendersQuestion form question s) (RendersWords form read s) (λ outcome whole. subst (Renders outcome) (sym are) whole) rendered
 
 -- the text of an answer answers its question
-pub answer_rendered : (s : EntryMap) (question : Question) (rendered : Answer) → IsAnswer s [] question rendered → (r : Rendered) → IsRendered r (IsOutcomeOf rendered) → IsRendered r (RendersQuestion question s)
-answer_rendered s question rendered is r said = weaker r (IsOutcomeOf rendered) (RendersQuestion question s) (λ outcome o. (rendered, is, o)) said
+pub answer_rendered : (form : Form) (s : EntryMap) (question : Question) (rendered : Answer) → IsAnswer s [] question rendered
+    → (r : Rendered) → IsRendered r (IsOutcomeOf form s (host_of question) rendered) → IsRendered r (RendersQuestion form question s)
+answer_rendered form s question rendered is r said =
+    weaker r (IsOutcomeOf form s (host_of question) rendered) (RendersQuestion form question s) (λ outcome o. (rendered, is, o)) said
 
 -- ---- for the host that is named
 

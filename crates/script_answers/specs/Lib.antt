@@ -14,4 +14,6 @@ pub mod Requests
 pub mod Renders
 pub mod RendersLaws
 pub mod Texts
+pub mod TreeTexts
+pub mod TreeTextLaws
 pub mod UnitLines

@@ -1,8 +1,10 @@
 -- What the definitions use of std and of the crates below.
 pub use Rattle.crowds.specs.Crowds.{crowd_places, places_with}
 pub use Rattle.edit_sums.specs.Sums.{visible_at}
-pub use Rattle.fleet_answers.specs.{AnswerLaws.{one_answer}, Answers.{IsAnswer}, declared.questions.{Answer.{Answer}, LinkedUnit.{LinkedUnit}, Question.{Question}}, Prelude.{other_hosts_are_not_in_view, Request}}
+pub use Rattle.fleet_answers.specs.{AnswerLaws.{one_answer}, Answers.{host_asked as host_of, IsAnswer}, declared.questions.{Answer.{Answer}, LinkedUnit.{LinkedUnit}, Question.{Question}}, Prelude.{other_hosts_are_not_in_view, Request}}
 pub use Rattle.fragment_choice.specs.declared.choices.Cause.TheVariants.{Loop, Shape, Target}
+pub use Rattle.host_trees.specs.{Reads.{IsCrossed, ReadsItsTree, ShowsTree}, TreeLaws.{one_tree}, Trees.{IsTree}}
+pub use Rattle.path_maps.specs.{Prelude.{Fleet}, Scopes.{within}}
 pub use Rattle.join_law.specs.declared.versions.Version.{Version}
 pub use Rattle.load_places.specs.Texts.{place_text}
 pub use Rattle.script_commands.specs.{declared.commands.{Fault.{Fault, TheVariants.{Memory}}, LineRefusal.{LineRefusal, TheVariants.{Arguments, Bad, BadByte, BadLink, BadText, Component, Conflict, Cycle, Depth, Directory, EmptyPrefix, FileTooLarge, HostName, Kind, Length, LineTooLong, ManualStart, Masked, NodeTaken, NotFound, Nothing, NotVisible, Requisite, Seats, Template, TooManyUnits, UnknownCommand, UnknownNode, UnknownPiece, VersionsSpent, Workers, WriterTaken}}}, Each.{each_read}, Faults.{fault_of_name}, Hosts.{host_asked}, Outcomes.{is_spent, Outcome}, Prelude.{HostFault, NameFault, place_of, PlaceFault}}

@@ -1,31 +1,39 @@
 -- The answer to a question about a node's store: how it is written, or why the words make no question.
 -- Source: systemctl(1), "show", "list-dependencies", "start"; the texts are this project's own.
 use Rattle.std.proofs.Common.{◌≡◌}
-use Rattle.script_answers.specs.Prelude.{[], Answer, EntryMap, Err, IsAnswer, List, MatchResult, name_of, NameFault, Ok, Option, Outcome, Question, Result, Viewer, ℕ}
-use Rattle.script_answers.specs.{Files.{RefusesName}, Hosts.{ForHost}, Plans.{plan_text, RefusesPlan}, PulledLines.{pulled_text}, Requests.{request_of}, UnitLines.{unit_text, units_text}}
+use Rattle.script_answers.specs.Prelude.{[], Answer, EntryMap, Err, host_of, IsAnswer, LinkedUnit, List, MatchResult, name_of, NameFault, Ok, Option, Outcome, Question, Result, Viewer, ℕ}
+use Rattle.script_answers.specs.{Files.{RefusesName}, Hosts.{ForHost}, Plans.{plan_text, RefusesPlan}, PulledLines.{pulled_text}, Requests.{request_of}, TreeTexts.{IsTreeText}, UnitLines.{unit_text, units_text}}
+use Rattle.script_answers.specs.declared.asking.Form.{Form}
+use Rattle.script_answers.specs.declared.asking.Form.TheVariants as form
 use Rattle.script_commands.specs.declared.commands.LineRefusal.TheVariants as refusal
 use Rattle.fleet_answers.specs.declared.questions.Answer.TheVariants as answer
 use Rattle.fleet_answers.specs.declared.questions.Question.TheVariants as question
 use Rattle.script_commands.specs.declared.commands.Inquiry.{Inquiry}
 use Rattle.script_commands.specs.declared.commands.Inquiry.TheVariants as inquiry
 
--- the outcome is the text of this answer, or its refusal
-abbrev pub IsOutcomeOf : Answer → Outcome → Type 0
-IsOutcomeOf answer.Template outcome = outcome ≡ Err refusal.Template
-IsOutcomeOf answer.TooManyUnits outcome = outcome ≡ Err refusal.TooManyUnits
-IsOutcomeOf (answer.Unit linked) outcome = outcome ≡ Ok (unit_text linked)
-IsOutcomeOf (answer.Pulled pairs) outcome = outcome ≡ Ok (pulled_text pairs)
-IsOutcomeOf (answer.Planned plan) outcome = outcome ≡ Ok (plan_text plan)
-IsOutcomeOf (answer.Refused cause) outcome = RefusesPlan cause outcome
-IsOutcomeOf (answer.Units all) outcome = outcome ≡ Ok (units_text all)
+-- all units are written one after another, or as the tree of the host for which they are loaded
+abbrev pub AreWritten : Form → EntryMap → Viewer → List LinkedUnit → List ℕ → Type 0
+AreWritten form.Units s host all text = text ≡ units_text all
+AreWritten form.Tree s host all text = IsTreeText s host all text
 
--- the answer to the question
-abbrev pub RendersQuestion : Question → EntryMap → Outcome → Type 0
-RendersQuestion question s outcome = (rendered : Answer) × IsAnswer s [] question rendered × IsOutcomeOf rendered outcome
+-- the outcome is the text of this answer, in a form if it is of all units, or its refusal
+abbrev pub IsOutcomeOf : Form → EntryMap → Viewer → Answer → Outcome → Type 0
+IsOutcomeOf form s host answer.Template outcome = outcome ≡ Err refusal.Template
+IsOutcomeOf form s host answer.TooManyUnits outcome = outcome ≡ Err refusal.TooManyUnits
+IsOutcomeOf form s host (answer.Unit linked) outcome = outcome ≡ Ok (unit_text linked)
+IsOutcomeOf form s host (answer.Pulled pairs) outcome = outcome ≡ Ok (pulled_text pairs)
+IsOutcomeOf form s host (answer.Planned plan) outcome = outcome ≡ Ok (plan_text plan)
+IsOutcomeOf form s host (answer.Refused cause) outcome = RefusesPlan cause outcome
+IsOutcomeOf form s host (answer.Units all) outcome = (text : List ℕ) × AreWritten form s host all text × (outcome ≡ Ok text)
+
+-- the answer to the question, in a form
+abbrev pub RendersQuestion : Form → Question → EntryMap → Outcome → Type 0
+RendersQuestion form question s outcome =
+    (rendered : Answer) × IsAnswer s [] question rendered × IsOutcomeOf form s (host_of question) rendered outcome
 
 -- the answer to the question that words make, or the first thing wrong with the first of them that is no unit name
-abbrev pub RendersWords : Result Question NameFault → EntryMap → Outcome → Type 0
-RendersWords read s outcome = MatchResult read (λ question. RendersQuestion question s outcome) (λ fault. RefusesName fault outcome)
+abbrev pub RendersWords : Form → Result Question NameFault → EntryMap → Outcome → Type 0
+RendersWords form read s outcome = MatchResult read (λ question. RendersQuestion form question s outcome) (λ fault. RefusesName fault outcome)
 
 -- ---- the questions that words make
 
@@ -56,13 +64,22 @@ question_asked (inquiry.Unit unit) = unit_asked unit
 question_asked (inquiry.List unit) = pulled_asked unit
 question_asked (inquiry.Plan unit running) = plan_asked unit running
 question_asked inquiry.Units = units_asked
+question_asked inquiry.Tree = units_asked
+
+-- the form in which the answer is written if it is of all units
+abbrev pub form_of : Inquiry → Form
+form_of (inquiry.Unit unit) = form.Units
+form_of (inquiry.List unit) = form.Units
+form_of (inquiry.Plan unit running) = form.Units
+form_of inquiry.Units = form.Units
+form_of inquiry.Tree = form.Tree
 
 -- ---- answers for the host that a word names
 
 -- the answer to the question that is made for it
-abbrev pub RendersFor : (Viewer → Result Question NameFault) → Option (List ℕ) → EntryMap → Outcome → Type 0
-RendersFor asks_for asked = ForHost asked (λ host. RendersWords (asks_for host))
+abbrev pub RendersFor : Form → (Viewer → Result Question NameFault) → Option (List ℕ) → EntryMap → Outcome → Type 0
+RendersFor form asks_for asked = ForHost asked (λ host. RendersWords form (asks_for host))
 
 -- the answer to what words ask
 abbrev pub RendersInquiry : Option (List ℕ) → Inquiry → EntryMap → Outcome → Type 0
-RendersInquiry asked inquiry = RendersFor (question_asked inquiry) asked
+RendersInquiry asked inquiry = RendersFor (form_of inquiry) (question_asked inquiry) asked

@@ -1,20 +1,45 @@
 //! Questions on a node's store, and how their answers are rendered.
-ghost use Rattle.std.specs.Prelude.{◌≡◌, ◌<◌, length, slice_index_or};
+ghost use Rattle.std.specs.{Prelude.{◌≡◌, ◌<◌, IfOk, length, slice_index_or}, Option.{option_copied}};
 ghost use Rattle.replica_store.specs.Replicas.{Replicated};
 ghost use Rattle.script_commands.specs.Outcomes.{IsSaid};
-ghost use Rattle.script_answers.specs.Renders.{IsOutcomeOf, RendersInquiry};
+ghost use Rattle.script_answers.specs.Renders.{AreWritten, form_of, IsOutcomeOf, RendersInquiry};
 
 use crate::plan_lines::plan_text;
 use crate::pulled_lines::pulled_text;
 use crate::refusals::fault_of_plan;
 use crate::requests::read_question;
+use crate::trees::tree_text;
 use crate::unit_lines::{unit_text, units_text};
 use crate::worker_counts::WorkerCount;
-use fleet_answers::{Answer, AnswerFault, SnapshotLimit, TrackedReplica};
+use fleet_answers::{Answer, AnswerFault, LinkedUnit, SnapshotLimit, TrackedReplica};
+use replica_store::{HostName, Store};
 use script_commands::{Fault, Inquiry, LineRefusal, Word, read_host};
-use std::alloc::Global;
+use std::alloc::{AllocError, Global};
 use std::thread::Threads;
 use worker_rounds::OpenGate;
+
+// How the answer about all units is written.
+#[derive(Clone, Copy, Debug, PartialEq, Eq)]
+pub(crate) enum Form {
+    // One unit after another.
+    Units,
+    // As the tree that a unit manager finds, with the units that it reads otherwise from that.
+    Tree,
+}
+
+impl Form {
+    // The form of the answer to an inquiry, if it is about all units.
+    fn of(inquiry: &Inquiry<'_>) -> Form
+        ensures form { result ≡ form_of inquiry.now }
+    {
+        match inquiry {
+            Inquiry::Unit(_) | Inquiry::List(_) | Inquiry::Plan(_, _) | Inquiry::Units => {
+                Form::Units
+            }
+            Inquiry::Tree => Form::Tree,
+        }
+    }
+}
 
 /// Answers an inquiry on the units of a node, for the host that `host` names or for the fleet: loads what must be
 /// loaded of the node's store, and returns the answer as text. It is refused, in this order, for a word that isn't a
@@ -40,26 +65,49 @@ pub fn render_inquiry<R: Threads + Sync>(
     ensures same { nodes.new ≡ nodes.old }
 {
     let host = read_host(alloc, host)?;
+    let form = Form::of(&inquiry);
     let question = read_question(alloc, host, inquiry)?;
     let workers = workers.count() as usize;
     match snapshots.answer(rt, alloc, nodes, node, &question, workers, &OpenGate) {
-        Ok(answer) => answer_text(alloc, answer),
+        Ok(answer) => answer_text(alloc, form, nodes[node].store(), question.host(), answer),
         Err(AnswerFault::Workers) => unreachable!(),
         Err(AnswerFault::Memory) => Err(Fault::Memory),
     }
 }
 
-// An answer as text, or its refusal.
-fn answer_text(alloc: Global, answer: Answer) -> Result<Vec<u8>, Fault>
-    ensures rendered { IsSaid (λ text. text.items) result (IsOutcomeOf answer) }
+// An answer as text, or its refusal. All units are those of a store for a host, or without a host.
+fn answer_text(
+    alloc: Global,
+    form: Form,
+    store: &Store,
+    host: Option<&HostName>,
+    answer: Answer,
+) -> Result<Vec<u8>, Fault>
+    ensures rendered { IsSaid (λ text. text.items) result (IsOutcomeOf form store.now (option_copied host.entry) answer) }
 {
     match answer {
         Answer::Template => Err(Fault::Refused(LineRefusal::Template)),
         Answer::TooManyUnits => Err(Fault::Refused(LineRefusal::TooManyUnits)),
         Answer::Unit(linked) => Ok(unit_text(alloc, &linked)?),
-        Answer::Units(all) => Ok(units_text(alloc, all.as_slice())?),
+        Answer::Units(all) => Ok(written(alloc, form, store, host, all.as_slice())?),
         Answer::Pulled(pairs) => Ok(pulled_text(alloc, pairs.as_slice())?),
         Answer::Planned(plan) => Ok(plan_text(alloc, &plan)?),
         Answer::Refused(refusal) => Err(fault_of_plan(refusal)),
+    }
+}
+
+// All units as text, in a form.
+fn written(
+    alloc: Global,
+    form: Form,
+    store: &Store,
+    host: Option<&HostName>,
+    all: &[LinkedUnit],
+) -> Result<Vec<u8>, AllocError>
+    ensures written { IfOk result (λ text. AreWritten form store.now (option_copied host.entry) all.now text.items) }
+{
+    match form {
+        Form::Units => units_text(alloc, all),
+        Form::Tree => tree_text(alloc, store, host, all),
     }
 }

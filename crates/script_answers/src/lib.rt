@@ -4,7 +4,7 @@
 //! Promise: the script's answers.
 //!
 //! - `asking`, `requests`: an inquiry, from its words to its answer.
-//! - `unit_lines`, `pulled_lines`, `plan_lines`, `files`, `place_texts`: the text of each kind of answer.
+//! - `unit_lines`, `pulled_lines`, `plan_lines`, `files`, `place_texts`, `trees`: the text of each kind of answer.
 //! - `answers`, `names`, `refusals`: single lines, names and refusals.
 //! - `crews`, `crowding`: the number of workers, and crowds.
 //! - `rendering_laws`: each question has one answer.
@@ -21,6 +21,7 @@ mod plan_lines;
 mod pulled_lines;
 mod refusals;
 mod requests;
+mod trees;
 mod unit_lines;
 mod worker_counts;
 

@@ -34,7 +34,7 @@ pub(crate) fn read_question(
             let request = read_request(alloc, host, unit.as_slice(), running)?;
             Ok(Question::Plan(request))
         }
-        Inquiry::Units => Ok(Question::Units { host }),
+        Inquiry::Units | Inquiry::Tree => Ok(Question::Units { host }),
     }
 }
 

@@ -62,9 +62,13 @@ plan_command (first ∷ unit ∷ running) = if is_name (node_in first) then Ok (
 plan_command words = Err Arguments
 
 -- the node and its host are the only word, as in `with_node_and_word`
-abbrev pub units_command : List (List ℕ) → Result Command LineRefusal
-units_command (first ∷ []) = if is_name (node_in first) then Ok (Ask (node_in first) (host_in first) inquiry.Units) else Err Arguments
-units_command words = Err Arguments
+abbrev pub with_node : (List ℕ → Option (List ℕ) → Command) → List (List ℕ) → Result Command LineRefusal
+with_node command (first ∷ []) = if is_name (node_in first) then Ok (command (node_in first) (host_in first)) else Err Arguments
+with_node command words = Err Arguments
+
+-- a command that asks this about a node
+abbrev pub asking_this : Inquiry → List ℕ → Option (List ℕ) → Command
+asking_this inquiry node host = Ask node host inquiry
 
 abbrev pub workers_with : Option ℕ → Result Command LineRefusal
 workers_with None = Err Arguments
@@ -91,8 +95,9 @@ unit_question_of verb words =
     else (if bytes_eq verb (codes "show") then with_node_and_word (asking inquiry.Unit) words
     else (if bytes_eq verb (codes "list") then with_node_and_word (asking inquiry.List) words
     else (if bytes_eq verb (codes "plan") then plan_command words
-    else (if bytes_eq verb (codes "units") then units_command words
-    else Err UnknownCommand))))
+    else (if bytes_eq verb (codes "units") then with_node (asking_this inquiry.Units) words
+    else (if bytes_eq verb (codes "tree") then with_node (asking_this inquiry.Tree) words
+    else Err UnknownCommand)))))
 
 -- the first word names the command, which changes no node
 abbrev pub question_of : List ℕ → List (List ℕ) → Result Command LineRefusal

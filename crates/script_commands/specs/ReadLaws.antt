@@ -2,7 +2,7 @@
 -- it.
 use Rattle.std.proofs.Common.{◌&&◌, ◌∷◌, ◌≡◌, ◌⊎◌}
 use Rattle.script_commands.specs.Prelude.{[], and_from, and_parts, ap, Bool, bytes_eq, bytes_eq-Decides, codes, cond, cond-true, drop, Err, false, inl, inr, is_name, le-leb, leb-true, List, nat_le, None, number_of, Ok, Option, refl, Result, Some, subst, sym, text_after, true, true≢false, words_of, ℕ, ◌∙◌}
-use Rattle.script_commands.specs.{Commands.{asking, command_of_words, crowd_command, crowd_with, files_command, link_command, node_command, node_with, part_command, plan_command, put_command, sweep_command, units_command, with_name_and_word, with_node_and_word, with_two_names, workers_command, workers_with}, declared.commands.{Command.{Command, TheVariants.{Ask, Cat, Crowd, Files, Link, Merge, Node, Part, Put, Remove, Same, Send, Sweep, Text, Workers}}, LineRefusal.{LineRefusal, TheVariants.{Arguments, UnknownCommand}}}, HostLaws.{node_word-read}, Hosts.{host_in, node_in, node_word}, WrittenLaws.{AreWordsOf, BeginsWithVerb, IsName, IsOneOf, JustItsWordsAreRead, node_word_is_cut, OthersAreRefused, verbs}}
+use Rattle.script_commands.specs.{Commands.{asking, asking_this, command_of_words, crowd_command, crowd_with, files_command, link_command, node_command, node_with, part_command, plan_command, put_command, sweep_command, with_name_and_word, with_node, with_node_and_word, with_two_names, workers_command, workers_with}, declared.commands.{Command.{Command, TheVariants.{Ask, Cat, Crowd, Files, Link, Merge, Node, Part, Put, Remove, Same, Send, Sweep, Text, Workers}}, LineRefusal.{LineRefusal, TheVariants.{Arguments, UnknownCommand}}}, HostLaws.{node_word-read}, Hosts.{host_in, node_in, node_word}, WrittenLaws.{AreWordsOf, BeginsWithVerb, IsName, IsOneOf, JustItsWordsAreRead, node_word_is_cut, OthersAreRefused, verbs}}
 use Rattle.script_commands.specs.declared.commands.Inquiry.TheVariants as inquiry
 
 -- No other words.
@@ -87,11 +87,13 @@ module _ (c : Command) (line : List ℕ) where
       (λ named. (ap (λ v. codes "plan" ∷ v ∷ unit ∷ running) (sym (node_word-read first)), named)) e
   plan_read words e = absurd (never Arguments c e)
 
-  units_read : (words : List (List ℕ)) → units_command words ≡ Ok c → AreWordsOf c (codes "units" ∷ words) line
-  units_read (first ∷ []) e =
-      read_where (is_name (node_in first)) (Ask (node_in first) (host_in first) inquiry.Units) (codes "units" ∷ first ∷ [])
-      (λ named. (ap (λ v. codes "units" ∷ v ∷ []) (sym (node_word-read first)), named)) e
-  units_read words e = absurd (never Arguments c e)
+  node_read_alone : (verb : List ℕ) (command : List ℕ → Option (List ℕ) → Command)
+      → ((node : List ℕ) (host : Option (List ℕ)) (words : List (List ℕ)) → words ≡ verb ∷ node_word node host ∷ [] → IsName node → AreWordsOf (command node host) words line)
+      → (words : List (List ℕ)) → with_node command words ≡ Ok c → AreWordsOf c (verb ∷ words) line
+  node_read_alone verb command are (first ∷ []) e =
+      read_where (is_name (node_in first)) (command (node_in first) (host_in first)) (verb ∷ first ∷ [])
+      (λ named. are (node_in first) (host_in first) (verb ∷ first ∷ []) (ap (λ v. verb ∷ v ∷ []) (sym (node_word-read first))) named) e
+  node_read_alone verb command are words e = absurd (never Arguments c e)
 
   workers_read : (words : List (List ℕ)) → workers_command words ≡ Ok c → AreWordsOf c (codes "workers" ∷ words) line
   workers_read (number ∷ []) e = by (number_of number) refl e
@@ -150,8 +152,11 @@ module _ (c : Command) (line : List ℕ) where
       verb_or verb (codes "list") words (with_node_and_word (asking inquiry.List) words) _ e14
       (node_and_word_read (codes "list") (asking inquiry.List) (λ node host unit named. (refl, named)) words) (λ e15.
       verb_or verb (codes "plan") words (plan_command words) _ e15 (plan_read words) (λ e16.
-      verb_or verb (codes "units") words (units_command words) _ e16 (units_read words) (λ e17.
-      absurd (never UnknownCommand c e17)))))))))))))))))))
+      verb_or verb (codes "units") words (with_node (asking_this inquiry.Units) words) _ e16
+      (node_read_alone (codes "units") (asking_this inquiry.Units) (λ node host words same named. (same, named)) words) (λ e17.
+      verb_or verb (codes "tree") words (with_node (asking_this inquiry.Tree) words) _ e17
+      (node_read_alone (codes "tree") (asking_this inquiry.Tree) (λ node host words same named. (same, named)) words) (λ e18.
+      absurd (never UnknownCommand c e18))))))))))))))))))))
 
 -- lines with these words are read
 read_as : (c : Command) (words : List (List ℕ)) (line : List ℕ) → AreWordsOf c words line → command_of_words words line ≡ Ok c
@@ -176,7 +181,9 @@ read_as (Ask node host (inquiry.List unit)) words line (same, named) =
 read_as (Ask node host (inquiry.Plan unit running)) words line (same, named) =
     ap (λ v. command_of_words v line) same ∙ node_word_is_cut node host (λ n h. Ask n h (inquiry.Plan unit running)) named
 read_as (Ask node host inquiry.Units) words line (same, named) =
-    ap (λ v. command_of_words v line) same ∙ node_word_is_cut node host (λ n h. Ask n h inquiry.Units) named
+    ap (λ v. command_of_words v line) same ∙ node_word_is_cut node host (asking_this inquiry.Units) named
+read_as (Ask node host inquiry.Tree) words line (same, named) =
+    ap (λ v. command_of_words v line) same ∙ node_word_is_cut node host (asking_this inquiry.Tree) named
 read_as (Workers count) words line (number, same, is) = ap (λ v. command_of_words v line) same ∙ ap workers_with is
 read_as (Same left right) words line (same, is, and) = ap (λ v. command_of_words v line) same ∙ cond-true _ _ _ (and_from _ _ is and)
 read_as (Crowd node seats edits) words line (first, second, same, is, and, named, few) =
@@ -245,9 +252,9 @@ module _ (r : LineRefusal) (line : List ℕ) where
   plan_refused (first ∷ unit ∷ running) e = refused_where (is_name (node_in first)) (Ask (node_in first) (host_in first) (inquiry.Plan unit running)) r e
   plan_refused words e = same_refusal r Arguments e
 
-  units_refused : (words : List (List ℕ)) → units_command words ≡ Err r → r ≡ Arguments
-  units_refused (first ∷ []) e = refused_where (is_name (node_in first)) (Ask (node_in first) (host_in first) inquiry.Units) r e
-  units_refused words e = same_refusal r Arguments e
+  node_refused_alone : (command : List ℕ → Option (List ℕ) → Command) (words : List (List ℕ)) → with_node command words ≡ Err r → r ≡ Arguments
+  node_refused_alone command (first ∷ []) e = refused_where (is_name (node_in first)) (command (node_in first) (host_in first)) r e
+  node_refused_alone command words e = same_refusal r Arguments e
 
   workers_refused : (words : List (List ℕ)) → workers_command words ≡ Err r → r ≡ Arguments
   workers_refused (number ∷ []) e = by (number_of number) e
@@ -306,8 +313,9 @@ module _ (r : LineRefusal) (line : List ℕ) where
       refused_at verb (codes "show") (drop 15 verbs) (with_node_and_word (asking inquiry.Unit) words) _ e13 (node_and_word_refused (asking inquiry.Unit) words) (λ e14.
       refused_at verb (codes "list") (drop 16 verbs) (with_node_and_word (asking inquiry.List) words) _ e14 (node_and_word_refused (asking inquiry.List) words) (λ e15.
       refused_at verb (codes "plan") (drop 17 verbs) (plan_command words) _ e15 (plan_refused words) (λ e16.
-      refused_at verb (codes "units") (drop 18 verbs) (units_command words) _ e16 (units_refused words) (λ e17.
-      inr (λ none. none, same_refusal r UnknownCommand e17)))))))))))))))))))
+      refused_at verb (codes "units") (drop 18 verbs) (with_node (asking_this inquiry.Units) words) _ e16 (node_refused_alone (asking_this inquiry.Units) words) (λ e17.
+      refused_at verb (codes "tree") (drop 19 verbs) (with_node (asking_this inquiry.Tree) words) _ e17 (node_refused_alone (asking_this inquiry.Tree) words) (λ e18.
+      inr (λ none. none, same_refusal r UnknownCommand e18))))))))))))))))))))
 
 pub others_are_refused : OthersAreRefused
 others_are_refused line refusal e = why_refused refusal line (words_of line) e

@@ -2,7 +2,7 @@
 use Rattle.std.proofs.Common.{◌&&◌, ◌++◌, ◌<◌, ◌^◌, ◌↔◌, ◌∷◌, ◌≡◌, ◌≢◌, ◌≤◌, ◌⊎◌}
 use Rattle.script_words.specs.Names.{is_name}
 use Rattle.script_commands.specs.Prelude.{[], All, All-append, All-cons, All-from_recursion, AllByRecursion, and_from, and_parts, ap, append_assoc, arith, Bool, codes, cond, cond-true, decimal, decimal_nonempty, digits_decimal, Err, false, is_ascii_alphanumeric, is_ascii_digit, IsDigitsTest, IsWord, join_with_byte, le-leb, length, length-append, length-decimal-le, List, list_all, nat_lt, nat_tests, None, number_of, number_of-decimal, numerals_by_value, Ok, Option, recursion_from_All, refl, Result, rules, Some, spaced, sym, text_after, text_after-last, text_after-spaced, true, true≢false, words_of, words_of-nil, words_of-spaced, words_of-word, words_of-word_space, ℕ, ◌∙◌}
-use Rattle.script_commands.specs.{Commands.{asking, command_of, command_of_words, crowd_with, node_with, with_name_and_word, with_node_and_word, with_two_names, workers_with}, declared.commands.{Command.{Command, TheVariants.{Ask, Cat, Crowd, Files, Link, Merge, Node, Part, Put, Remove, Same, Send, Sweep, Text, Workers}}, LineRefusal.{LineRefusal, TheVariants.{Arguments, UnknownCommand}}}, HostLaws.{host_in-node_word, node_in-node_word}, Hosts.{host_in, node_in, node_word}}
+use Rattle.script_commands.specs.{Commands.{asking, asking_this, command_of, command_of_words, crowd_with, node_with, with_name_and_word, with_node_and_word, with_two_names, workers_with}, declared.commands.{Command.{Command, TheVariants.{Ask, Cat, Crowd, Files, Link, Merge, Node, Part, Put, Remove, Same, Send, Sweep, Text, Workers}}, LineRefusal.{LineRefusal, TheVariants.{Arguments, UnknownCommand}}}, HostLaws.{host_in-node_word, node_in-node_word}, Hosts.{host_in, node_in, node_word}}
 use Rattle.script_commands.specs.declared.commands.Inquiry.TheVariants as inquiry
 
 -- words with one space between them
@@ -93,9 +93,16 @@ PlanIsReadBack = (node : List ℕ) (host : Option (List ℕ)) (unit : List ℕ) 
     → IsName node → HasNoSpace host → IsWord unit → All IsWord running
     → command_of (line_of (codes "plan" ∷ node_word node host ∷ unit ∷ running)) ≡ Ok (Ask node host (inquiry.Plan unit running))
 
+-- a node, with or without a host, is the only word after the command's
+abbrev pub NodeIsReadAlone : List ℕ → (List ℕ → Option (List ℕ) → Command) → Type 0
+NodeIsReadAlone verb command = (node : List ℕ) (host : Option (List ℕ)) → IsName node → HasNoSpace host
+    → command_of (line_of (verb ∷ node_word node host ∷ [])) ≡ Ok (command node host)
+
 abbrev pub UnitsIsReadBack : Type 0
-UnitsIsReadBack = (node : List ℕ) (host : Option (List ℕ)) → IsName node → HasNoSpace host
-    → command_of (line_of (codes "units" ∷ node_word node host ∷ [])) ≡ Ok (Ask node host inquiry.Units)
+UnitsIsReadBack = NodeIsReadAlone (codes "units") (asking_this inquiry.Units)
+
+abbrev pub TreeIsReadBack : Type 0
+TreeIsReadBack = NodeIsReadAlone (codes "tree") (asking_this inquiry.Tree)
 
 -- a 32-bit number in decimal
 abbrev pub WorkersIsReadBack : Type 0
@@ -130,6 +137,7 @@ AreWordsOf (Ask node host (inquiry.Unit unit)) words line = (words ≡ codes "sh
 AreWordsOf (Ask node host (inquiry.List unit)) words line = (words ≡ codes "list" ∷ node_word node host ∷ unit ∷ []) × IsName node
 AreWordsOf (Ask node host (inquiry.Plan unit running)) words line = (words ≡ codes "plan" ∷ node_word node host ∷ unit ∷ running) × IsName node
 AreWordsOf (Ask node host inquiry.Units) words line = (words ≡ codes "units" ∷ node_word node host ∷ []) × IsName node
+AreWordsOf (Ask node host inquiry.Tree) words line = (words ≡ codes "tree" ∷ node_word node host ∷ []) × IsName node
 AreWordsOf (Workers count) words line = (number : List ℕ) × (words ≡ codes "workers" ∷ number ∷ []) × (number_of number ≡ Some count)
 AreWordsOf (Same left right) words line = (words ≡ codes "same" ∷ left ∷ right ∷ []) × IsName left × IsName right
 AreWordsOf (Crowd node seats edits) words line =
@@ -141,7 +149,7 @@ JustItsWordsAreRead = (line : List ℕ) (command : Command) → (command_of line
 
 -- the words that name commands
 abbrev pub verbs : List (List ℕ)
-verbs = codes "node" ∷ codes "put" ∷ codes "link" ∷ codes "remove" ∷ codes "merge" ∷ codes "part" ∷ codes "send" ∷ codes "sweep" ∷ codes "files" ∷ codes "text" ∷ codes "workers" ∷ codes "same" ∷ codes "crowd" ∷ codes "cat" ∷ codes "show" ∷ codes "list" ∷ codes "plan" ∷ codes "units" ∷ []
+verbs = codes "node" ∷ codes "put" ∷ codes "link" ∷ codes "remove" ∷ codes "merge" ∷ codes "part" ∷ codes "send" ∷ codes "sweep" ∷ codes "files" ∷ codes "text" ∷ codes "workers" ∷ codes "same" ∷ codes "crowd" ∷ codes "cat" ∷ codes "show" ∷ codes "list" ∷ codes "plan" ∷ codes "units" ∷ codes "tree" ∷ []
 
 -- the word is one of these
 abbrev pub IsOneOf : List ℕ → List (List ℕ) → Type 0
@@ -336,7 +344,12 @@ plan_is_read_back node host unit running is free word all =
 pub units_is_read_back : UnitsIsReadBack
 units_is_read_back node host is free =
     read_words (codes "units" ∷ node_word node host ∷ []) (is_verb (codes "units") refl, (node_word_is_word node host is free, tt))
-    ∙ node_word_is_cut node host (λ n h. Ask n h inquiry.Units) is
+    ∙ node_word_is_cut node host (asking_this inquiry.Units) is
+
+pub tree_is_read_back : TreeIsReadBack
+tree_is_read_back node host is free =
+    read_words (codes "tree" ∷ node_word node host ∷ []) (is_verb (codes "tree") refl, (node_word_is_word node host is free, tt))
+    ∙ node_word_is_cut node host (asking_this inquiry.Tree) is
 
 pub workers_is_read_back : WorkersIsReadBack
 workers_is_read_back count small =

@@ -92,6 +92,8 @@ pub enum Inquiry<'a> {
     Plan(Word<'a>, Words<'a>),
     /// All units, each as if it were asked for by its main name.
     Units,
+    /// The files and links that a unit manager finds there, and the units that it reads otherwise from them.
+    Tree,
 }
 
 /// A command: what a line asks for.

@@ -1,5 +1,5 @@
 //! Laws of commands: each is read back from its written form.
-ghost use Rattle.script_commands.specs.WrittenLaws.{CatIsReadBack, CrowdIsReadBack, EmptyPutIsReadBack, FilesIsReadBack, JustItsWordsAreRead, LinkIsReadBack, ListIsReadBack, MergeIsReadBack, NodeIsReadBack, OthersAreRefused, PartIsReadBack, PlanIsReadBack, PutIsReadBack, RemoveIsReadBack, SameIsReadBack, SendIsReadBack, ShowIsReadBack, SweepIsReadBack, TextIsReadBack, UnitsIsReadBack, WorkersIsReadBack};
+ghost use Rattle.script_commands.specs.WrittenLaws.{CatIsReadBack, CrowdIsReadBack, EmptyPutIsReadBack, FilesIsReadBack, JustItsWordsAreRead, LinkIsReadBack, ListIsReadBack, MergeIsReadBack, NodeIsReadBack, OthersAreRefused, PartIsReadBack, PlanIsReadBack, PutIsReadBack, RemoveIsReadBack, SameIsReadBack, SendIsReadBack, ShowIsReadBack, SweepIsReadBack, TextIsReadBack, TreeIsReadBack, UnitsIsReadBack, WorkersIsReadBack};
 
 /// Each command is read back from its words, written with one space between them. Names are valid names; numbers are in
 /// decimal; places, targets and units are any words. A node whose units are asked for is written with or without an at
@@ -22,6 +22,7 @@ pub fn commands_read_back()
     ensures list { ListIsReadBack }
     ensures plan { PlanIsReadBack }
     ensures units { UnitsIsReadBack }
+    ensures tree { TreeIsReadBack }
     ensures workers { WorkersIsReadBack }
     ensures same { SameIsReadBack }
     ensures crowd { CrowdIsReadBack }

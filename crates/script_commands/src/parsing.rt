@@ -1,7 +1,7 @@
 //! Parsing a line into a command.
 ghost use Rattle.std.specs.{Prelude.{◌≡◌}, Str.{bytes_eq}};
 ghost use Rattle.script_words.specs.Words.{words_of, text_after};
-ghost use Rattle.script_commands.specs.Commands.{change_of, command_of, exchange_of, part_command, question_of, unit_question_of, units_command};
+ghost use Rattle.script_commands.specs.Commands.{asking_this, change_of, command_of, exchange_of, part_command, question_of, unit_question_of, with_node};
 
 use crate::commands::{Command, Inquiry, LineRefusal};
 use crate::fields::Fields;
@@ -150,22 +150,24 @@ fn unit_question<'a>(verb: &[u8], mut fields: Fields<'a>) -> Result<Command<'a>,
             inquiry,
         })
     } else if is_same(verb, b"units") {
-        units(fields)
+        whole_node(fields, Inquiry::Units)
+    } else if is_same(verb, b"tree") {
+        whole_node(fields, Inquiry::Tree)
     } else {
         Err(LineRefusal::UnknownCommand)
     }
 }
 
-// Returns the command `units` with these fields.
-fn units(mut fields: Fields<'_>) -> Result<Command<'_>, LineRefusal>
-    ensures command { result ≡ units_command (words_of fields.entry) }
+// Returns the command that asks this of a node, which is its only field.
+fn whole_node<'a>(mut fields: Fields<'a>, inquiry: Inquiry<'a>) -> Result<Command<'a>, LineRefusal>
+    ensures command { result ≡ with_node (asking_this inquiry.entry) (words_of fields.entry) }
 {
     let (node, host) = fields.node_and_host()?;
     fields.end()?;
     Ok(Command::Ask {
         node,
         host,
-        inquiry: Inquiry::Units,
+        inquiry,
     })
 }
 

@@ -39,6 +39,8 @@ fn returned(
             Ok(())
         },
         b"lend" => append_borrowed(out, &store.host_view(host), names),
+        b"lend-wants" => append_lent(out, &store.host_view(host), names, Folder::Wants),
+        b"lend-requires" => append_lent(out, &store.host_view(host), names, Folder::Requires),
         b"wants" => append_links(out, store, host, names, Folder::Wants),
         b"requires" => append_links(out, store, host, names, Folder::Requires),
     )
@@ -53,6 +55,21 @@ fn append_links(
     folder: Folder,
 ) -> Result<(), LineFault> {
     append_names(out, &links(out.alloc, store, host, names, folder)?);
+    Ok(())
+}
+
+// Writes the links themselves, with their targets; `nothing` if there are none.
+fn append_lent(
+    out: &mut Answer,
+    view: &HostView,
+    names: &[UnitName],
+    folder: Folder,
+) -> Result<(), LineFault> {
+    let folders = UnitFolders::of(out.alloc, names)?;
+    for entry in &folders.link_entries(out.alloc, view, folder)? {
+        append_viewed(out, view, entry)?;
+    }
+    out.or(b"nothing");
     Ok(())
 }
 

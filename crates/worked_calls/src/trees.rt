@@ -1,7 +1,8 @@
 //! Calls on the trees of hosts: the store as words.
-use crate::edits::append_content;
-use host_trees::tree;
+use crate::edits::{append_content, append_store};
+use host_trees::{is_crossed, tree, tree_store};
 use replica_store::{HostName, Store};
+use unit_name::UnitName;
 use worked_lines::{Answer, LineFault, Words, asked_of, match_word};
 
 /// Writes the answer to a call on trees.
@@ -9,6 +10,11 @@ pub fn answer(words: &mut Words, out: &mut Answer) -> Result<(), LineFault> {
     let (call, host) = asked_of(words.alloc, words.word()?)?;
     match_word!(call;
         b"of" => append_tree(out, &words.store()?, host.as_ref()),
+        b"store" => append_tree_store(out, &words.store()?, host.as_ref()),
+        b"crossed" => {
+            let store = words.store()?;
+            append_crossed(out, &store, host.as_ref(), &words.spelled_names()?)
+        },
     )
 }
 
@@ -20,5 +26,32 @@ fn append_tree(out: &mut Answer, store: &Store, host: Option<&HostName>) -> Resu
         append_content(out, &pair.1);
     }
     out.or(b"nothing");
+    Ok(())
+}
+
+// Writes the store that is made of the tree of a host: each place with its version and content.
+fn append_tree_store(
+    out: &mut Answer,
+    store: &Store,
+    host: Option<&HostName>,
+) -> Result<(), LineFault> {
+    let pairs = tree(out.alloc, store, host)?;
+    append_store(out, &tree_store(out.alloc, pairs.as_slice())?)
+}
+
+// Writes whether the unit with these names is crossed for a host.
+fn append_crossed(
+    out: &mut Answer,
+    store: &Store,
+    host: Option<&HostName>,
+    names: &[UnitName],
+) -> Result<(), LineFault> {
+    let pairs = tree(out.alloc, store, host)?;
+    let shown = tree_store(out.alloc, pairs.as_slice())?;
+    out.either(
+        is_crossed(out.alloc, store, host, &shown, names)?,
+        b"crossed",
+        b"alike",
+    );
     Ok(())
 }

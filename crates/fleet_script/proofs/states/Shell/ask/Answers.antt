@@ -1,4 +1,4 @@
-use Rattle.std.proofs.Common.{◌<◌, ◌≡◌}
+use Rattle.std.proofs.Common.{◌≡◌}
 use Rattle.fleet_script.proofs.{Goes.{reads}, Nodes.{get_or_found}, Prelude.{arith, get_or, Goes, kept_in, length, List, Reads, refl, RendersInquiry, Replicated, subst, sym, take_at, ◌∙◌}}
 use Rattle.std.specs.FinMap as finmap
 use Rattle.fleet_script.proofs.states.Shell.ask.Goals as goal

@@ -1,0 +1,16 @@
+use Rattle.std.proofs.Common.{◌↔◌, ◌≡◌}
+use Rattle.host_trees.proofs.{Pairs.{crossed_by}, Prelude.{folders, host_view_of, HostViewMap, List, Name, None, option_copied, ReadsAlikeOf, subst, true}}
+use Rattle.host_trees.proofs.crossings.is_crossed.Goals as goal
+
+pub returns : goal.returns
+returns c =
+    let s = c.args.store.now in
+    let t = c.args.tree.now in
+    let host = option_copied c.args.host in
+    let names = c.args.names.now in
+    let alike = c.in_ok-alike.alike in
+    let tells : (alike ≡ true) ↔ ReadsAlikeOf (host_view_of s host) (host_view_of t None) (folders names) =
+    subst (λ (fs : List Name). (alike ≡ true) ↔ ReadsAlikeOf (host_view_of s host) (host_view_of t None) fs) c.in_ok-folders.ensures.folders
+    (subst (λ (w : HostViewMap). (alike ≡ true) ↔ ReadsAlikeOf (host_view_of s host) w c.in_ok-folders.folders) c.host_view-2.ensures.view
+    (subst (λ (v : HostViewMap). (alike ≡ true) ↔ ReadsAlikeOf v c.host_view-2.result c.in_ok-folders.folders) c.host_view.ensures.view c.in_ok-alike.ensures.alike)) in
+    record { crossed = crossed_by s t host names alike c.requires.tree tells }

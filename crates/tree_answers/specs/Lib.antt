@@ -1,0 +1,13 @@
+pub mod Prelude
+pub mod Alike
+pub mod DropInLaws
+pub mod UnitLaws
+pub mod ExistLaws
+pub mod UniverseLaws
+pub mod SameLoads
+pub mod LoadLaws
+pub mod FoundLaws
+pub mod PlanLaws
+pub mod ReturnedLaws
+pub mod AnswerLaws
+pub mod TreeLaws

@@ -1,0 +1,92 @@
+-- Laws of plans: loads that are the same but for places have the same plans and refusals, whatever host a request is for.
+use Rattle.std.proofs.Common.{◌∷◌, ◌≡◌}
+use Rattle.tree_answers.specs.Prelude.{[], Answer, ap, Bad, Case, case_of, Conflict, Cycle, EdgeMap, has_fragment, HostViewMap, inl, inr, IsFault, IsPlan, IsPlanBy, IsPlanned, IsRefusal, IsRefusalOf, IsRefused, is_loaded, is_manual, is_same, List, list_any, LoadedUnit, LoadMap, main_of, ManualStart, map, Masked, Memory, Name, name_cmp, None, NotFound, Option, option_map, PlanMap, refl, Refusal, Request, Requisite, Some, Status, status_in, subst, sym, Template, unit_in, unwrap_or, Why, ◌∙◌}
+use Rattle.tree_answers.specs.{Alike.{AreSameAnswers, status_at_fleet}, FoundLaws.{mains_found, units_found}, SameLoads.{AreSamePairs, IsSameUnitFound}}
+use Rattle.unit_loads.specs.declared.units.Status.TheVariants as status
+use Rattle.fleet_answers.specs.declared.questions.Answer.TheVariants as answer
+
+-- ---- what is found of units
+
+fragment_same : (x : Status) → has_fragment (status_at_fleet x) ≡ has_fragment x
+fragment_same (status.Loaded place) = refl
+fragment_same status.NotFound = refl
+fragment_same status.Masked = refl
+fragment_same (status.Bad cause) = refl
+
+module _ (v w : HostViewMap) where
+  loaded_same : (o p : Option LoadedUnit) → IsSameUnitFound v w o p → is_loaded p ≡ is_loaded o
+  loaded_same None p e = ap is_loaded e
+  loaded_same (Some u) p (t, same, at) = ap is_loaded at ∙ ap has_fragment same.status_is ∙ fragment_same u.status
+
+  manual_same : (o p : Option LoadedUnit) → IsSameUnitFound v w o p → is_manual p ≡ is_manual o
+  manual_same None p e = ap is_manual e
+  manual_same (Some u) p (t, same, at) = ap is_manual at ∙ same.manual_is
+
+  abbrev status_of : Option LoadedUnit → Option Status
+  status_of o = option_map (λ (u : LoadedUnit). u.status) o
+
+  status_same : (o p : Option LoadedUnit) → IsSameUnitFound v w o p → status_of p ≡ option_map status_at_fleet (status_of o)
+  status_same None p e = ap status_of e
+  status_same (Some u) p (t, same, at) = ap status_of at ∙ ap (λ (x : Status). Some x) same.status_is
+
+  module _ (load other : LoadMap) (same : AreSamePairs v w load.names other.names) (all : EdgeMap) (request : Request) where
+    abbrev bare : Request
+    bare = record request { host = None }
+
+    main_alike : (n : Name) → main_of other n ≡ main_of load n
+    main_alike n = ap (λ o. unwrap_or o n) (mains_found v w load other same n)
+
+    running_alike : (ns : List Name) → map (main_of other) ns ≡ map (main_of load) ns
+    running_alike [] = refl
+    running_alike (n ∷ ns) = (λ i. main_alike n i ∷ running_alike ns i)
+
+    case_alike : case_of load all request ≡ case_of other all bare
+    case_alike = (λ i. record (case_of load all request) {
+      target = sym (main_alike request.target) i;
+      is_loaded = λ u. sym (loaded_same (unit_in load u) (unit_in other u) (units_found v w load other same u)) i;
+      refuses_manual_start = λ u. sym (manual_same (unit_in load u) (unit_in other u) (units_found v w load other same u)) i;
+      is_running = λ u. list_any (is_same u) (sym (running_alike request.running) i);
+    })
+
+    planned : (plan : PlanMap) → IsPlanned load all request plan → IsPlanned other all bare plan
+    planned plan is = record {
+      no_template = is.no_template;
+      planned = subst (λ (c : Case Name). IsPlan name_cmp c plan.stop plan.start) case_alike is.planned;
+    }
+
+    refused : (why : Why Name) → IsRefused load all request why → IsRefused other all bare why
+    refused why is = record {
+      no_template = is.no_template;
+      refused = subst (λ (c : Case Name). IsRefusal name_cmp c why) case_alike is.refused;
+    }
+
+    faulted : (u : Name) → IsFault load all request u → IsFault other all bare u
+    faulted u (inl f) = inl (refused _ f)
+    faulted u (inr f) = inr (refused _ f)
+
+    status_alike : (u : Name) (x : Status) → status_in load u ≡ Some x → status_in other u ≡ Some (status_at_fleet x)
+    status_alike u x e =
+        status_same (unit_in load u) (unit_in other u) (units_found v w load other same u) ∙ ap (option_map status_at_fleet) e
+
+    refusal : (r : Refusal) → IsRefusalOf load all request r → IsRefusalOf other all bare r
+    refusal Template h = h
+    refusal (NotFound u) h = (faulted u h.0, status_alike u status.NotFound h.1)
+    refusal (Masked u) h = (faulted u h.0, status_alike u status.Masked h.1)
+    refusal (Bad u) h = (faulted u h.0, (h.1.0, status_alike u (status.Bad h.1.0) h.1.1))
+    refusal ManualStart h = refused _ h
+    refusal (Requisite u x) h = refused _ h
+    refusal (Conflict u x) h = refused _ h
+    refusal (Cycle units) h = refused _ h
+    refusal Memory h = h
+
+    pub plan_there : (a : Answer) → IsPlanBy load all request a → (b : Answer) × IsPlanBy other all bare b × AreSameAnswers v w a b
+    plan_there a (inl p) = (
+      answer.Planned p.0,
+      inl (p.0, planned p.0 p.1, refl),
+      subst (λ (x : Answer). AreSameAnswers v w x (answer.Planned p.0)) (sym p.2) refl,
+    )
+    plan_there a (inr p) = (
+      answer.Refused p.0,
+      inr (p.0, refusal p.0 p.1, p.2, refl),
+      subst (λ (x : Answer). AreSameAnswers v w x (answer.Refused p.0)) (sym p.3) refl,
+    )
