@@ -1,182 +1,15 @@
 """What unit files of a store come to: the rules of systemd.unit(5) and systemd.syntax(7) as docs/DEFINITIONS.md tells them, once more and
 in another language, without a look at the program. A store is a dictionary from the places at which something is visible to contents: the text
-of a file (a character for each byte), or a `Link`. A place is a path, which is the fleet's, or a host's name, a colon and a path."""
+of a file (a character for each byte), or a `Link`. A place is a path, which is the fleet's, or a host's name, a colon and a path.
+
+Names and texts of files are in unit_text, edges and plans in unit_graph. What a unit has beside what its files ask for is its profile's, and
+stands in implied_model: nothing in the profile `files`, and what systemd's system manager adds in the profile `manager`."""
 import re
 
-DIRECTORIES = ["/etc/systemd/system", "/run/systemd/system", "/usr/local/lib/systemd/system", "/usr/lib/systemd/system"]
-UNIT_KINDS = "service socket device mount automount swap target path timer slice scope".split()
-WITHOUT_ALIASES = {"mount", "slice", "swap", "automount"}
-MOST_ALIASES, MOST_NAMES = 8, 4096
-
-# The kinds of dependencies in order, each with its inverse.
-INVERSES = {}
-for pair in ("Before After", "Wants WantedBy", "Requires RequiredBy", "Requisite RequisiteOf", "BindsTo BoundBy", "PartOf ConsistsOf",
-             "Conflicts ConflictedBy", "OnFailure OnFailureOf", "PropagatesReloadTo ReloadPropagatedFrom"):
-    one, other = pair.split()
-    INVERSES[one], INVERSES[other] = other, one
-SETTABLE = "Before After Wants Requires Requisite BindsTo PartOf Conflicts OnFailure PropagatesReloadTo ReloadPropagatedFrom".split()
-
-FAULT_NAMES = {"H1": "HostName", "F1": "Directory", "F2": "Depth", "F3": "Component", "E3": "NotVisible", "N1": "Length", "N2": "Kind",
-               "N3": "EmptyPrefix", "N4": "BadByte", "B1": "Kind", "B2": "Shape", "B3": "Loop", "B4": "Target", "P1": "Template",
-               "P2": "NotFound", "P3": "Masked", "P4": "Bad", "P5": "ManualStart", "P6": "Requisite", "P7": "Conflict", "P8": "Cycle",
-               "L2": "TooManyUnits"}
-
-
-class Link(str):
-    """A link to this target."""
-
-
-class Refused(Exception):
-    """A refusal, by its code and what it tells beside."""
-
-    def line(self):
-        code, *told = self.args
-        return " ".join(["error:", code, FAULT_NAMES[code], *map(str, told)])
-
-
-# ---- names
-
-
-class Name:
-    """A unit name, or N1 to N4."""
-
-    def __init__(self, text):
-        if not 1 <= len(text) <= 255:
-            raise Refused("N1")
-        self.text = text
-        self.stem, dot, self.kind = text.rpartition(".")
-        if not dot or self.kind not in UNIT_KINDS:
-            raise Refused("N2")
-        self.prefix, at, self.instance = self.stem.partition("@")
-        if not self.prefix:
-            raise Refused("N3")
-        bad = re.search(r"[^A-Za-z0-9:\-_.\\@]", self.stem)
-        if bad:
-            raise Refused("N4", bad.start())
-        self.shape = "plain" if not at else "instance" if self.instance else "template"
-
-    def template(self):
-        """The template of an instance, and nothing of other names."""
-        return f"{self.prefix}@.{self.kind}" if self.shape == "instance" else None
-
-
-def name_or_none(text):
-    try:
-        return Name(text)
-    except Refused:
-        return None
-
-
-def filled(template, instance):
-    """A template with this instance, if that is a name."""
-    name = Name(template)
-    return name_or_none(f"{name.prefix}@{instance}.{name.kind}") and f"{name.prefix}@{instance}.{name.kind}"
-
-
-def unescaped(text):
-    """Undoes escapes. Nothing where one is malformed."""
-    if re.search(r"\\(?!x[0-9A-Fa-f]{2})", text):
-        return None
-    return re.sub(r"\\x(..)|-", lambda it: chr(int(it[1], 16)) if it[1] else "/", text)
-
-
-def expanded(text, unit):
-    """Puts what they stand for in the place of specifiers. Nothing where a part that is to be unescaped is malformed."""
-    name = Name(unit)
-    last = name.prefix.rpartition("-")[2]
-    stands = {"n": unit, "N": name.stem, "p": name.prefix, "i": name.instance, "j": last, "%": "%",
-              "P": unescaped(name.prefix), "I": unescaped(name.instance), "J": unescaped(last)}
-    if any(stands.get(it, "") is None for it in re.findall(r"%(.)", text, re.S)):
-        return None
-    return re.sub(r"%(.)", lambda it: stands.get(it[1], it[0]), text, flags=re.S)
-
-
-# ---- unit files
-
-
-def logical_lines(text):
-    """The logical lines of a file, each with the number of its first physical line."""
-    text = text.removeprefix("\xef\xbb\xbf")
-    lines = text.split("\n")
-    last = lines.pop()
-    lines = [it.removesuffix("\r") for it in lines] + ([last] if last else [])
-    found, begun = [], None
-    for number, line in enumerate(lines, 1):
-        bare = line.strip(" \t\r")
-        if bare[:1] in ("#", ";"):
-            continue
-        if not bare:
-            if begun:
-                found.append(begun)
-            begun = None
-            continue
-        at, before = begun or (number, "")
-        if line.endswith("\\"):
-            begun = at, before + line[:-1] + " "
-        else:
-            found.append((at, before + line))
-            begun = None
-    if begun:
-        found.append(begun)
-    return [(at, it.strip(" \t\r")) for at, it in found if it.strip(" \t\r")]
-
-
-def read(text):
-    """The assignments of a file, as section, key and value, and its notes, as code and line."""
-    items, notes, section, is_bad = [], [], None, False
-    for at, line in logical_lines(text):
-        if line.startswith("["):
-            is_bad = not (line.endswith("]") and len(line) > 2)
-            if is_bad:
-                notes.append(("K3", at))
-            else:
-                section = line[1:-1]
-        elif is_bad:
-            continue
-        elif section is None:
-            notes.append(("K1", at))
-        else:
-            key, equals, value = line.partition("=")
-            key, value = key.strip(" \t\r"), value.strip(" \t\r")
-            if equals and key:
-                items.append((section, key, value))
-            else:
-                notes.append(("K2", at))
-    return items, notes
-
-
-# ---- settings
-
-
-def family(section, key):
-    """The family of keys that an empty value of this one empties."""
-    return next((it for it in ("Condition", "Assert") if section == "Unit" and key.startswith(it)), None)
-
-
-def settings_of(items):
-    """The values of each key, and the notes on bad booleans."""
-    items = [it for it in items if not it[0].startswith("X-") and not it[1].startswith("X-")]
-    rows, notes = {}, []
-    for section, key, value in items:
-        at = section, key
-        if section == "Unit" and key in SETTABLE:
-            if value:
-                rows.setdefault(at, []).append(value)
-        elif at == ("Unit", "RefuseManualStart"):
-            if value.lower() in ("1", "yes", "true", "on", "0", "no", "false", "off"):
-                rows[at] = [value]
-            else:
-                notes.append(("K4", "Unit.RefuseManualStart"))
-        elif value:
-            rows.setdefault(at, []).append(value)
-        else:
-            rows.setdefault(at, [])
-            kin = family(section, key)
-            for other in rows:
-                if other == at or kin and family(*other) == kin:
-                    rows[other] = []
-    return rows, notes
-
+from implied_model import PROFILES
+from unit_graph import LOADED
+from unit_text import DIRECTORIES, FAULT_NAMES, MOST_ALIASES, MOST_NAMES, SETTABLE, TRUE, WITHOUT_ALIASES  # tests/questions reads SETTABLE
+from unit_text import Link, Name, Refused, expanded, filled, name_or_none, read, settings_of, stands_for
 
 # ---- what a store gives for a name
 
@@ -187,12 +20,13 @@ def is_host(text):
 
 
 class Units:
-    """What a store comes to for a host, or, without one, for the whole fleet. H1 where the host has no name that a host may have."""
+    """What a store comes to for a host, or, without one, for the whole fleet, in a profile. H1 where the host has no name that a host may
+    have."""
 
-    def __init__(self, store, host):
+    def __init__(self, store, host, profile="files"):
         if host is not None and not is_host(host):
             raise Refused("H1")
-        self.store = store
+        self.store, self.profile = store, PROFILES[profile]
         # The directories that are looked at, by levels: of each the host's own, and then the fleet's.
         scopes = [""] if host is None else [f"{host}:", ""]
         self.levels = [scope + directory for directory in DIRECTORIES for scope in scopes]
@@ -241,7 +75,8 @@ class Units:
 
     def choice(self, name):
         template = Name(name).template()
-        return self.says(name, name) or template and self.says(template, name) or ("not-found",)
+        said = self.says(name, name) or template and self.says(template, name) or ("not-found",)
+        return self.profile.choice(name, said)
 
     def resolved(self, name):
         """The main name, and what stands there."""
@@ -306,37 +141,39 @@ class Units:
     def unit(self, main):
         said = self.resolved(main)[1]
         names = self.names(main)
-        unit = {"name": main, "names": names, "said": said, "dropins": [], "values": [], "named": {it: set() for it in SETTABLE},
-                "notes": [], "manual": False}
-        if said[0] != "fragment":
+        unit = {"name": main, "names": names, "said": said, "dropins": [], "values": [], "settings": {}, "notes": [], "manual": False,
+                "named": {it: set() for it in self.profile.settable}}
+        if said[0] not in LOADED:
             return unit
         unit["dropins"] = self.dropins(names)
         items = []
-        for place in [said[1], *unit["dropins"]]:
+        for place in [*said[1:], *unit["dropins"]]:
             more, notes = read(self.store[place])
             items += more
             unit["notes"] += [f"{code} {place}:{line}" for code, line in notes]
-        rows, notes = settings_of(items)
+        rows, notes = settings_of(items, self.profile.kept, self.profile.switches)
         unit["notes"] += [f"{code} {key}" for code, key in notes]
         switch = rows.get(("Unit", "RefuseManualStart"), [])
-        unit["manual"] = bool(switch) and switch[0].lower() in ("1", "yes", "true", "on")
+        unit["manual"] = bool(switch) and switch[0].lower() in TRUE
         self.add_values(unit, rows)
         self.add_dependencies(unit, rows)
+        self.profile.imply(unit)
         return unit
 
     def add_values(self, unit, rows):
         for (section, key), values in rows.items():
-            if section == "Unit" and key in SETTABLE:
+            if section == "Unit" and key in self.profile.settable:
                 continue
             for value in values:
-                value = value if (section, key) == ("Unit", "RefuseManualStart") else expanded(value, unit["name"])
+                value = value if (section, key) in self.profile.switches else expanded(value, unit["name"])
                 if value is None:
                     unit["notes"].append(f"K5 {section}.{key}")
                 else:
                     unit["values"].append(f"{section}.{key}={value}")
+                    unit["settings"].setdefault((section, key), []).append(value)
 
     def add_dependencies(self, unit, rows):
-        for key in SETTABLE:
+        for key in self.profile.settable:
             for word in (it for value in rows.get(("Unit", key), []) for it in re.split(r"[ \t\r]+", value) if it):
                 name = expanded(word, unit["name"])
                 if name is None:
@@ -349,11 +186,9 @@ class Units:
 
     @staticmethod
     def add_named(unit, key, text):
-        name, own = name_or_none(text), Name(unit["name"])
-        if name and name.shape == "template":
-            text = filled(text, own.instance or own.prefix)
-        if name and text:
-            unit["named"][key].add(text)
+        name = stands_for(text, unit["name"])
+        if name:
+            unit["named"][key].add(name)
         else:
             unit["notes"].append(f"K6 Unit.{key}")
 
@@ -361,7 +196,7 @@ class Units:
 
     def load(self, extra):
         """The main name of each name of the universe, and the units by main name."""
-        waiting = sorted({*extra, *[it for it, _ in self.own() if name_or_none(it) and Name(it).shape != "template"]})
+        waiting = sorted({*extra, *self.profile.perpetual, *[it for it, _ in self.own() if name_or_none(it) and Name(it).shape != "template"]})
         mains, units = {}, {}
         while waiting:
             name = waiting.pop()
@@ -432,177 +267,51 @@ def crossed(store, host):
     return [main for main, unit in sorted(units.items()) if seen.contents(unit["names"]) != alone.contents(unit["names"])]
 
 
-# ---- edges and plans
-
-PULLING = ("Requires", "Requisite", "BindsTo", "Wants")
-NEEDING = ("Requires", "BindsTo")
-TYING = ("Requires", "Requisite", "BindsTo", "PartOf")
-
-
-def closure(sources, steps):
-    found, waiting = set(), [*sources]
-    while waiting:
-        at = waiting.pop()
-        if at not in found:
-            found.add(at)
-            waiting += steps(at)
-    return found
-
-
-class Graph:
-    """A load with its edges in both directions."""
-
-    def __init__(self, mains, units):
-        self.mains, self.units = mains, units
-        self.edges = {(kind, name): set() for kind in INVERSES for name in units}
-        for name, unit in units.items():
-            for kind, names in unit["named"].items():
-                for other in {mains[it] for it in names} - {name}:
-                    self.edges[kind, name].add(other)
-                    self.edges[INVERSES[kind], other].add(name)
-
-    def to(self, kinds, name):
-        return sorted(set().union(*[self.edges[kind, name] for kind in kinds]))
-
-    def is_loaded(self, name):
-        return self.units[name]["said"][0] == "fragment"
-
-    def rivals(self, name):
-        return self.to(("Conflicts", "ConflictedBy"), name)
-
-    def depths(self, name):
-        found, row, depth = {}, [name], 0
-        while row:
-            found.update(dict.fromkeys(row, depth))
-            row = sorted({it for at in row for it in self.to(PULLING, at)} - found.keys())
-            depth += 1
-        return sorted((depth, name) for name, depth in found.items())
-
-    def need(self, name):
-        return closure([name], lambda it: self.to(NEEDING, it))
-
-    def refuse_unloaded(self, name):
-        said = self.units[name]["said"][0]
-        if said != "fragment":
-            raise Refused({"not-found": "P2", "masked": "P3", "bad": "P4"}[said], name)
-
-    def refuse(self, target, running):
-        """Refuses for the first cause that stands, but for a cycle."""
-        self.refuse_unloaded(target)
-        need = sorted(self.need(target))
-        for name in need:
-            self.refuse_unloaded(name)
-        if self.units[target]["manual"]:
-            raise Refused("P5")
-        for name in need:
-            for other in self.to(["Requisite"], name):
-                if other not in running:
-                    raise Refused("P6", name, other)
-        for name in need:
-            for other in self.rivals(name):
-                if other in need:
-                    raise Refused("P7", name, other)
-
-    def chosen(self, target, running):
-        needed = self.need(target)
-
-        def is_good(name):
-            return all(
-                self.is_loaded(it) and running.issuperset(self.to(["Requisite"], it)) and needed.isdisjoint(self.rivals(it))
-                for it in self.need(name)
-            )
-
-        def asked(name):
-            return [*self.to(NEEDING, name), *[it for it in self.to(["Wants"], name) if is_good(it)]]
-
-        pulled = closure([target], asked)
-        extra = pulled - needed
-        losers = set()
-        for namer in extra:
-            for named in extra.intersection(self.to(["Conflicts"], namer)):
-                both = namer in self.to(["Conflicts"], named)
-                losers.add(max(namer, named) if both else named)
-        left = {it for it in pulled if losers.isdisjoint(self.need(it))}
-        return closure([target], lambda name: left.intersection(self.to((*NEEDING, "Wants"), name)))
-
-    def started(self, units):
-        """The units in the order in which they start; refused for a cycle."""
-        waits = {it: units.intersection(self.to(["After"], it)) for it in units}
-        found = []
-        while len(found) < len(units):
-            free = [it for it in units if it not in found and waits[it].issubset(found)]
-            if not free:
-                raise Refused("P8", *self.cycle(units.difference(found)))
-            found.append(min(free))
-        return found
-
-    def cycle(self, left):
-        while True:
-            stuck = {it for it in left if left.intersection(self.to(["After"], it))}
-            if stuck == left:
-                break
-            left = stuck
-        way = [min(left)]
-        while True:
-            at = min(left.intersection(self.to(["After"], way[-1])))
-            if at in way:
-                ring = way[way.index(at):][::-1]
-                first = ring.index(min(ring))
-                return ring[first:] + ring[:first]
-            way.append(at)
-
-    def stopped(self, chosen, running):
-        outside = running - chosen
-        ousted = [it for it in outside if chosen.intersection(self.rivals(it))]
-        takes = lambda name: [it for it in outside if name in self.to(TYING, it)]
-        return sorted(closure(ousted, takes))
-
-
 # ---- what scripts are answered
 
 
-def asked_graph(store, host, names):
-    units = Units(store, host)
+def asked_graph(store, host, names, profile="files"):
+    units = Units(store, host, profile)
     if "template" in [Name(it).shape for it in names]:
         raise Refused("P1")
-    return Graph(*units.load(names))
+    return units.profile.graph(*units.load(names))
 
 
 def shown(graph, name):
     unit = graph.units[name]
     said = unit["said"]
-    status = {"fragment": "loaded", "bad": "bad", "masked": "masked", "not-found": "not-found"}[said[0]]
+    status = {"fragment": "loaded", "bad": "bad", "masked": "masked", "not-found": "not-found", "built-in": "built-in"}[said[0]]
     told = {"fragment": said[-1], "bad": f"{said[-1]} {FAULT_NAMES.get(said[-1])}"}.get(said[0], "")
     lines = [f"unit {unit['name']}", f"status {status} {told}".rstrip(), "names " + " ".join(unit["names"])]
     lines += [f"dropin {it}" for it in unit["dropins"]] + unit["values"]
-    for kind in INVERSES:
+    for kind in graph.inverses:
         names = graph.to([kind], unit["name"])
         lines += ["".join([f"{kind}:", *[f" {it}" for it in names]])] if names else []
     return lines + [f"note {it}" for it in unit["notes"]] + ["end"]
 
 
-def show(store, host, name):
-    graph = asked_graph(store, host, [name])
+def show(store, host, name, profile="files"):
+    graph = asked_graph(store, host, [name], profile)
     return shown(graph, graph.mains[name])
 
 
-def units(store, host):
-    graph = asked_graph(store, host, [])
+def units(store, host, profile="files"):
+    graph = asked_graph(store, host, [], profile)
     return [*[line for name in sorted(graph.units) for line in shown(graph, name)], "end"]
 
 
-def list_pulled(store, host, name):
-    graph = asked_graph(store, host, [name])
+def list_pulled(store, host, name, profile="files"):
+    graph = asked_graph(store, host, [name], profile)
     return [*[f"{depth} {it}" for depth, it in graph.depths(graph.mains[name])], "end"]
 
 
-def plan(store, host, name, running):
-    graph = asked_graph(store, host, [name, *running])
-    target, running = graph.mains[name], {graph.mains[it] for it in running}
+def plan(store, host, name, running, profile="files"):
+    graph = asked_graph(store, host, [name, *running], profile)
+    target, running = graph.mains[name], graph.running(running)
     graph.refuse(target, running)
     chosen = graph.chosen(target, running)
     starts = graph.started(chosen - running)
-    return [*[f"stop {it}" for it in graph.stopped(chosen, running)], *[f"start {it}" for it in starts], "end"]
+    return [*[f"stop {it}" for it in graph.stopped(target, chosen, running)], *[f"start {it}" for it in starts], "end"]
 
 
 def cat(store, host, name):
