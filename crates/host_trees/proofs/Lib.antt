@@ -5,3 +5,4 @@ pub mod Scopes
 pub mod Made
 mod Pairs
 mod Stored
+mod Owned

@@ -97,7 +97,7 @@ trees_name_alike s t host shows u names =
 -- ---- visible names
 
 -- A level is twice a rank, or one more.
-halves : (level : ℕ) → (r : ℕ) × ((level ≡ r + r) ⊎ (level ≡ r + r + 1))
+pub halves : (level : ℕ) → (r : ℕ) × ((level ≡ r + r) ⊎ (level ≡ r + r + 1))
 halves zero = (0, inl refl)
 halves (suc l) = next (halves l)
   where

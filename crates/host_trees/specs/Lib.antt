@@ -11,3 +11,4 @@ pub mod Ranks
 pub mod Moves
 pub mod TreeChoices
 pub mod ChoiceLaws
+pub mod OwnFolders

@@ -41,7 +41,7 @@ half_of_even r = omega arith
 half_of_odd : (r : ℕ) → (r + r + 1) / 2 ≡ r
 half_of_odd r = omega arith
 
-even_level : (r : ℕ) → ((r + r) % 2 == 0) ≡ true
+pub even_level : (r : ℕ) → ((r + r) % 2 == 0) ≡ true
 even_level r = grind (arith, nat_tests)
 
 module _ (s : EntryMap) (host : Viewer) (o : Name) (r : ℕ) where

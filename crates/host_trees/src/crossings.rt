@@ -2,6 +2,7 @@
 ghost use Rattle.std.specs.{Prelude.{◌≡◌, ◌↔◌, IfOk, IsTrue, map, MatchBool}, Option.{option_copied}};
 ghost use Rattle.host_trees.specs.{Entries.{said, SameDropIns, SameLinks}, Reads.{IsCrossed, ReadsAlikeOf, ReadsItsTree, ShowsTree}};
 
+use crate::own_folders::owns_nothing;
 use dropins::{Folder, UnitFolders};
 use replica_store::{HostName, HostView, HostViewEntry, Store};
 use std::alloc::{AllocError, Global};
@@ -14,8 +15,9 @@ use unit_name::UnitName;
 /// before the fleet's of the same rank. So in one directory the host's own file in a later folder is taken before the
 /// fleet's of the same file name in an earlier one; but of one tree's files the one in the earlier folder is.
 ///
-/// `tree` is a store that shows just that tree at the fleet's places, as `tree_store` makes it. Costs two searches in each
-/// store for each of the unit's folders at each level. Fails only if memory runs out.
+/// `tree` is a store that shows just that tree at the fleet's places, as `tree_store` makes it. Costs a search for each
+/// of the unit's folders at each of the host's own levels; where the host holds something there, one in both stores for each
+/// folder at each level. Fails only if memory runs out.
 pub fn is_crossed(
     alloc: Global,
     store: &Store,
@@ -28,6 +30,10 @@ pub fn is_crossed(
         (ReadsItsTree store.now (option_copied host.entry) names.now)) }
 {
     let folders = UnitFolders::of(alloc, names)?;
+    let none = owns_nothing(alloc, &store.host_view(host), &folders)?;
+    if none {
+        return Ok(false);
+    }
     let alike = reads_alike(
         alloc,
         &store.host_view(host),

@@ -17,6 +17,7 @@ mod crossings;
 mod laws;
 mod links;
 mod merged;
+mod own_folders;
 mod parts;
 mod trees;
 
