@@ -1,5 +1,5 @@
 //! The folders of names, and what a unit's folders give: its drop-ins, and the units that its link folders name.
-ghost use Rattle.std.specs.{List.{Contains, Sorted.{IsStrictlySortedBy}}, Option.{option_copied}, Prelude.{[], filter, fold, IfOk, IsTrue, List, map, OnOk, ℕ, ◌↔◌, ◌∷◌, ◌≡◌}};
+ghost use Rattle.std.specs.{List.{Contains, Sorted.{IsStrictlySortedBy}}, Prelude.{[], filter, fold, IfOk, IsTrue, List, map, OnOk, ℕ, ◌↔◌, ◌∷◌, ◌≡◌}};
 ghost use Rattle.load_places.specs.Places.{PlaceParts};
 ghost use Rattle.path_maps.specs.HostViews.{host_view_of};
 ghost use Rattle.unit_name.specs.Names.{is_name, IsName, Name, name_cmp};
@@ -8,7 +8,7 @@ ghost use Rattle.dropins.specs.{FolderLists.{folders, folders_of, with_name, wit
 use crate::dirs::{name_dirs, type_dirs};
 use crate::precedence::{Search, taken_entries};
 use plain_values::copied;
-use replica_store::{HostName, HostView, HostViewEntry, Place, Store};
+use replica_store::{HostView, HostViewEntry, Place, Store, Viewer};
 use std::alloc::{AllocError, Global};
 use std::collections::BTreeSet;
 use std::marker::Model;
@@ -241,16 +241,16 @@ impl UnitFolders {
 pub fn links(
     alloc: Global,
     store: &Store,
-    host: Option<&HostName>,
+    viewer: &Viewer,
     names: &[UnitName],
     folder: Folder,
 ) -> Result<Vec<UnitName>, AllocError>
     ensures ascending { IfOk result (λ units. IsStrictlySortedBy name_cmp units.items) }
-    ensures exact { IfOk result (λ units. (n : Name) → Contains units.items n ↔ IsLinked (host_view_of store.now (option_copied host.entry)) names.now
+    ensures exact { IfOk result (λ units. (n : Name) → Contains units.items n ↔ IsLinked (host_view_of store.now viewer.now) names.now
         folder n) }
 {
     let folders = UnitFolders::of(alloc, names)?;
-    folders.links(alloc, &store.host_view(host), folder)
+    folders.links(alloc, &store.host_view(viewer), folder)
 }
 
 // Returns the file names that are unit names.
@@ -319,15 +319,15 @@ impl UnitFolders {
 pub fn order(
     alloc: Global,
     store: &Store,
-    host: Option<&HostName>,
+    viewer: &Viewer,
     names: &[UnitName],
 ) -> Result<Vec<Place>, AllocError>
     ensures ascending { IfOk result (λ places. IsStrictlySortedBy name_cmp (map file_name places.items)) }
     ensures exact { IfOk result (λ places. (p : PlaceParts) → Contains places.items p ↔ IsDropInAt
-        (host_view_of store.now (option_copied host.entry)) names.now p) }
+        (host_view_of store.now viewer.now) names.now p) }
 {
     let folders = UnitFolders::of(alloc, names)?;
-    let view = store.host_view(host);
+    let view = store.host_view(viewer);
     let taken = folders.drop_ins(alloc, &view)?;
     places_of(alloc, &view, &taken)
 }

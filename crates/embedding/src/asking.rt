@@ -4,7 +4,8 @@ use crate::faults::EmbeddingFault;
 use crate::meeting::put;
 use fleet_answers::{Answer, Question, TrackedReplica};
 use plain_values::Items;
-use replica_store::{Content, Place, Replica};
+use profiles::Profile;
+use replica_store::{Content, Place, Replica, Viewer};
 use start_plan::Request;
 use std::alloc::{AllocError, Global};
 use std::thread::Threads;
@@ -66,7 +67,10 @@ pub fn append_starts(
 // The question which units start for a target when none runs.
 fn plan_of(alloc: Global, target: &[u8]) -> Result<Question, NameFault> {
     Ok(Question::Plan(Request {
-        host: None,
+        viewer: Viewer {
+            host: None,
+            profile: Profile::Files,
+        },
         target: UnitName::parse(alloc, target)?,
         running: Items::new(alloc),
     }))

@@ -1,6 +1,6 @@
 -- A snapshot of all names of a question answers it as its store does.
 use Rattle.std.proofs.Common.{◌∷◌, ◌≡◌}
-use Rattle.fleet_answers.proofs.Prelude.{[], Answer, AreKnown, asked, EntryMap, Err, false, Global, HasTemplate, host_asked, host_view_of, IfOk, IfSome, inl, inr, is_ok, IsAnswer, IsKnown, IsOfGraph, IsReturned, IsSnapshot, List, LoadMap, MatchOption, MatchResult, Name, names_asked, Ok, one_viewer, Option, own_are_known, Question, refl, Request, Result, Some, subst, sym, true, Vec, Viewer, ◌∙◌}
+use Rattle.fleet_answers.proofs.Prelude.{[], Answer, AreKnown, asked, EntryMap, Err, false, Global, HasTemplate, viewer_asked, host_view_of, IfOk, IfSome, inl, inr, is_ok, IsAnswer, IsKnown, IsOfGraph, IsReturned, IsSnapshot, List, LoadMap, MatchOption, MatchResult, Name, names_asked, Ok, one_viewer, Option, own_are_known, Question, refl, Request, Result, Some, subst, sym, true, Vec, Viewer, ◌∙◌}
 
 -- names that are known are those of the graph
 pub of_graph : (load : LoadMap) (request : Request) → AreKnown load (request.target ∷ request.running) → IsOfGraph load request
@@ -27,18 +27,18 @@ of_mapped P Q R (Err e) (Err f) weaker same alike p = tt
 -- a snapshot of all names that are asked for answers as the store does
 module _ (s : EntryMap) (extra : List Name) (question : Question) (found : Option (Vec Name Global)) (names : Vec Name Global) (is : found ≡ Some names)
     (all : IfSome found (λ (ns : Vec Name Global). ns.items ≡ asked extra question)) (borrowed : List Name) (same : borrowed ≡ names.items)
-    (host : Viewer) (host_is : host ≡ host_asked question) (load : LoadMap) (made : IsSnapshot (host_view_of s host) borrowed load) where
-  all_asked : IsSnapshot (host_view_of s (host_asked question)) (asked extra question) load
+    (viewer : Viewer) (viewer_is : viewer ≡ viewer_asked question) (load : LoadMap) (made : IsSnapshot (host_view_of s viewer) borrowed load) where
+  all_asked : IsSnapshot (host_view_of s (viewer_asked question)) (asked extra question) load
   all_asked =
-      subst (λ (h : Viewer). IsSnapshot (host_view_of s h) (asked extra question) load) host_is
-      (subst (λ (ns : List Name). IsSnapshot (host_view_of s host) ns load) (same ∙ of_some (λ (ns : Vec Name Global). ns.items ≡ asked extra question) found names is all) made)
+      subst (λ (h : Viewer). IsSnapshot (host_view_of s h) (asked extra question) load) viewer_is
+      (subst (λ (ns : List Name). IsSnapshot (host_view_of s viewer) ns load) (same ∙ of_some (λ (ns : Vec Name Global). ns.items ≡ asked extra question) found names is all) made)
 
   pub own_known : AreKnown load (names_asked question)
-  own_known = own_are_known (host_view_of s (host_asked question)) extra question load all_asked.is_load
+  own_known = own_are_known (host_view_of s (viewer_asked question)) extra question load all_asked.is_load
 
-  -- it is for the question's host
-  pub own_host : load.host ≡ host_asked question
-  own_host = all_asked.is_load.host_is ∙ one_viewer s (host_asked question)
+  -- it is for who asks the question
+  pub own_viewer : load.viewer ≡ viewer_asked question
+  own_viewer = all_asked.is_load.viewer_is ∙ one_viewer s (viewer_asked question)
 
   pub answers : MatchOption found (HasTemplate (asked extra question)) (λ _. ¬ HasTemplate (asked extra question)) → (answer : Answer) → IsReturned load question answer
       → IsAnswer s extra question answer

@@ -1,7 +1,7 @@
 -- Laws of answers: a store and a question have one answer, and no place of another host changes it.
 use Rattle.std.proofs.Common.{◌↔◌, ◌∷◌, ◌≡◌, ◌≢◌}
 use Rattle.fleet_answers.specs.Prelude.{[], All, All-head, All-tail, ap, AreDepths, AreEdges, AreEdgesOf, AreSameSuccessors, Bad, Case, Conflict, Cycle, DependencyList, EdgeMap, EntryMap, host_view_of, HostViewMap, inl, inr, IsAmong, IsAmong-append_right, IsDistance, IsDistances, IsFault, IsKnown, IsLoad, IsPlan, IsPlanned, IsRefusal, IsRefusalOf, IsRefused, known_names, LeadsBy, level_for, List, Listed, LoadedUnit, LoadMap, ManualStart, map, Masked, Memory, Name, name_cmp, nat_list_cmp_total, None, NotFound, one_case, one_list_by_kind, one_list_of_distances, one_list_of_edges, one_load, one_plan, one_refusal_returned, other_hosts_are_not_in_view, PlaceParts, plan_or_refusal, PlanMap, pulling, refl, Refusal, Request, Requisite, same_distance, Some, subst, sym, Template, unit_in, units_are_their_own_mains, Why, ℕ, ◌∙◌}
-use Rattle.fleet_answers.specs.{Answers.{AreKnown, AreLinkedUnits, ArePulled, asked, graph_of, host_asked, IsAnswer, IsLinkedUnit, IsUnitWithEdges, IsPlanBy, IsReturned, IsReturnedFrom, IsWholeAnswer, names_asked}, declared.questions.{Answer.{Answer}, LinkedUnit.{LinkedUnit}, Question.{Question, TheVariants.{Plan as OfPlan, Pulled as OfPulled, Unit as OfUnit, Units as OfUnits}}}}
+use Rattle.fleet_answers.specs.{Answers.{AreKnown, AreLinkedUnits, ArePulled, asked, graph_of, viewer_asked, IsAnswer, IsLinkedUnit, IsUnitWithEdges, IsPlanBy, IsReturned, IsReturnedFrom, IsWholeAnswer, names_asked}, declared.questions.{Answer.{Answer}, LinkedUnit.{LinkedUnit}, Question.{Question, TheVariants.{Plan as OfPlan, Pulled as OfPulled, Unit as OfUnit, Units as OfUnits}}}}
 use Rattle.std.specs.FinMap as finmap
 use Rattle.fleet_answers.specs.declared.questions.Answer.TheVariants as answer
 
@@ -12,7 +12,7 @@ OneAnswer = (s : EntryMap) (extra : List Name) (question : Question) (a b : Answ
 -- What is at another host's place changes no answer for this host, and what is at any host's place changes none without
 -- a host.
 abbrev pub OtherHostsChangeNothing : Type 0
-OtherHostsChangeNothing = (s t : EntryMap) (extra : List Name) (question : Question) (place : PlaceParts) → level_for (host_asked question) place ≡ None
+OtherHostsChangeNothing = (s t : EntryMap) (extra : List Name) (question : Question) (place : PlaceParts) → level_for (viewer_asked question) place ≡ None
     → ((q : PlaceParts) → q ≢ place → finmap.get s q ≡ finmap.get t q) → (a : Answer) → IsAnswer s extra question a → IsAnswer t extra question a
 
 -- ---- the names of a question are in a load of them
@@ -146,10 +146,10 @@ module _ (load : LoadMap) (request : Request) (x y : EdgeMap) (p : AreEdges load
 -- ---- answers
 
 one_returned : (load : LoadMap) (question : Question) → AreAtTheirNames load → AreKnown load (names_asked question) → (a b : Answer) → IsReturned load question a → IsReturned load question b → a ≡ b
-one_returned load (OfUnit host name) right known a b f g = f.2 ∙ ap answer.Unit (one_linked load name f.0 g.0 f.1 g.1) ∙ sym g.2
-one_returned load (OfPulled host name) right known a b f g = f.2 ∙ ap answer.Pulled (one_pulled load name f.0 g.0 (known name (inl refl)) f.1 g.1) ∙ sym g.2
+one_returned load (OfUnit viewer name) right known a b f g = f.2 ∙ ap answer.Unit (one_linked load name f.0 g.0 f.1 g.1) ∙ sym g.2
+one_returned load (OfPulled viewer name) right known a b f g = f.2 ∙ ap answer.Pulled (one_pulled load name f.0 g.0 (known name (inl refl)) f.1 g.1) ∙ sym g.2
 one_returned load (OfPlan request) right known a b f g = one_plan_by load request f.edges g.edges f.edges_are g.edges_are a b f.plan_is g.plan_is
-one_returned load (OfUnits host) right known a b f g = f.2 ∙ ap answer.Units (one_list_of_units load right f.0 g.0 f.1 g.1) ∙ sym g.2
+one_returned load (OfUnits viewer) right known a b f g = f.2 ∙ ap answer.Units (one_list_of_units load right f.0 g.0 f.1 g.1) ∙ sym g.2
 
 module _ (s : HostViewMap) (names : List Name) (question : Question) (own : (load : LoadMap) → IsLoad s names load → AreKnown load (names_asked question)) (a b : Answer) where
   one_from : IsReturnedFrom s names question a → IsReturnedFrom s names question b → a ≡ b
@@ -166,10 +166,10 @@ module _ (s : HostViewMap) (names : List Name) (question : Question) (own : (loa
 pub other_hosts_change_nothing : OtherHostsChangeNothing
 other_hosts_change_nothing s t extra question place none same a (inl template) = inl template
 other_hosts_change_nothing s t extra question place none same a (inr whole) =
-    inr (whole.0, subst (λ (v : HostViewMap). IsWholeAnswer v (asked extra question) question a) (other_hosts_are_not_in_view s t (host_asked question) place none same) whole.1)
+    inr (whole.0, subst (λ (v : HostViewMap). IsWholeAnswer v (asked extra question) question a) (other_hosts_are_not_in_view s t (viewer_asked question) place none same) whole.1)
 
 pub one_answer : OneAnswer
 one_answer s extra question a b (inl f) (inl g) = f.1 ∙ sym g.1
 one_answer s extra question a b (inl f) (inr g) = absurd (g.0 f.0)
 one_answer s extra question a b (inr f) (inl g) = absurd (f.0 g.0)
-one_answer s extra question a b (inr f) (inr g) = one_whole (host_view_of s (host_asked question)) (asked extra question) question (own_are_known (host_view_of s (host_asked question)) extra question) a b f.1 g.1
+one_answer s extra question a b (inr f) (inr g) = one_whole (host_view_of s (viewer_asked question)) (asked extra question) question (own_are_known (host_view_of s (viewer_asked question)) extra question) a b f.1 g.1

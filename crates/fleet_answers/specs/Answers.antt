@@ -1,7 +1,7 @@
 -- What a question of a store is answered: a unit with its edges, what a unit pulls, the plan of a request, or the first refusal.
 -- Source: this project's own.
 use Rattle.std.proofs.Common.{◌++◌, ◌∷◌, ◌≡◌, ◌≢◌, ◌⊎◌}
-use Rattle.fleet_answers.specs.Prelude.{[], All, AreDepths, AreEdges, AreEdgesOf, EdgeMap, EntryMap, GraphMap, HasTemplate, host_view_of, HostViewMap, IsAmong, IsKnown, IsLoad, IsPlanned, IsRefusalOf, IsTooLarge, List, LoadMap, main_in, map, Memory, Name, None, PlanMap, Refusal, Request, Some, unit_in, units_in, Viewer, ℕ}
+use Rattle.fleet_answers.specs.Prelude.{[], All, AreDepths, AreEdges, AreEdgesOf, EdgeMap, EntryMap, GraphMap, HasTemplate, host_view_of, HostViewMap, IsAmong, IsKnown, IsLoad, IsPlanned, IsRefusalOf, IsTooLarge, List, LoadMap, main_in, map, Memory, Name, of_fleet, PlanMap, Refusal, Request, Some, unit_in, units_in, Viewer, ℕ}
 use Rattle.fleet_answers.specs.declared.questions.{Answer.{Answer}, LinkedUnit.{LinkedUnit}, Question.{Question, TheVariants.{Plan as OfPlan, Pulled as OfPulled, Unit as OfUnit, Units as OfUnits}}}
 use Rattle.fleet_answers.specs.declared.questions.Answer.TheVariants as answer
 
@@ -9,24 +9,24 @@ use Rattle.fleet_answers.specs.declared.questions.Answer.TheVariants as answer
 
 -- the names of a question
 abbrev pub names_asked : Question → List Name
-names_asked (OfUnit host name) = name ∷ []
-names_asked (OfPulled host name) = name ∷ []
+names_asked (OfUnit viewer name) = name ∷ []
+names_asked (OfPulled viewer name) = name ∷ []
 names_asked (OfPlan request) = request.target ∷ request.running
-names_asked (OfUnits host) = []
+names_asked (OfUnits viewer) = []
 
--- the host for which it is asked, if for one
-abbrev pub host_asked : Question → Viewer
-host_asked (OfUnit host name) = host
-host_asked (OfPulled host name) = host
-host_asked (OfPlan request) = request.host
-host_asked (OfUnits host) = host
+-- who asks it
+abbrev pub viewer_asked : Question → Viewer
+viewer_asked (OfUnit viewer name) = viewer
+viewer_asked (OfPulled viewer name) = viewer
+viewer_asked (OfPlan request) = request.viewer
+viewer_asked (OfUnits viewer) = viewer
 
--- the same question, asked without a host
+-- the same question, asked without a host and by the same rules
 abbrev pub without_host : Question → Question
-without_host (OfUnit host name) = OfUnit None name
-without_host (OfPulled host name) = OfPulled None name
-without_host (OfPlan request) = OfPlan (record request { host = None })
-without_host (OfUnits host) = OfUnits None
+without_host (OfUnit viewer name) = OfUnit (of_fleet viewer.profile) name
+without_host (OfPulled viewer name) = OfPulled (of_fleet viewer.profile) name
+without_host (OfPlan request) = OfPlan (record request { viewer = of_fleet request.viewer.profile })
+without_host (OfUnits viewer) = OfUnits (of_fleet viewer.profile)
 
 -- all names that are asked for
 abbrev pub asked : List Name → Question → List Name
@@ -80,10 +80,10 @@ module _ (load : LoadMap) where
 
   -- this is returned for a question whose names all resolve to units
   abbrev pub IsReturned : Question → Answer → Type 0
-  IsReturned (OfUnit host name) returned = (unit : LinkedUnit) × IsLinkedUnit name unit × (returned ≡ answer.Unit unit)
-  IsReturned (OfPulled host name) returned = (pairs : List (ℕ × Name)) × ArePulled name pairs × (returned ≡ answer.Pulled pairs)
+  IsReturned (OfUnit viewer name) returned = (unit : LinkedUnit) × IsLinkedUnit name unit × (returned ≡ answer.Unit unit)
+  IsReturned (OfPulled viewer name) returned = (pairs : List (ℕ × Name)) × ArePulled name pairs × (returned ≡ answer.Pulled pairs)
   IsReturned (OfPlan request) returned = IsPlanReturned request returned
-  IsReturned (OfUnits host) returned = (all : List LinkedUnit) × AreLinkedUnits all × (returned ≡ answer.Units all)
+  IsReturned (OfUnits viewer) returned = (all : List LinkedUnit) × AreLinkedUnits all × (returned ≡ answer.Units all)
 
 -- ---- what a store answers
 
@@ -92,9 +92,9 @@ pub record IsSnapshot (s : HostViewMap) (extra : List Name) (load : LoadMap) : T
   pub within : ¬ IsTooLarge s extra
   pub is_load : IsLoad s extra load
 
--- the load is that of a store for its own host, with the names that were asked for
+-- the load is that of a store for its own viewer, with the names that were asked for
 abbrev pub IsSnapshotOf : EntryMap → LoadMap → Type 0
-IsSnapshotOf store load = IsSnapshot (host_view_of store load.host) load.extra load
+IsSnapshotOf store load = IsSnapshot (host_view_of store load.viewer) load.extra load
 
 -- this is returned from such a load of all names that are asked for
 pub record IsReturnedFrom (s : HostViewMap) (names : List Name) (question : Question) (returned : Answer) : Type 0 where
@@ -111,4 +111,4 @@ IsWholeAnswer s names question returned = (IsTooLarge s names × (returned ≡ a
 abbrev pub IsAnswer : EntryMap → List Name → Question → Answer → Type 0
 IsAnswer s extra question returned =
     (HasTemplate (asked extra question) × (returned ≡ answer.Template))
-    ⊎ (¬ HasTemplate (asked extra question) × IsWholeAnswer (host_view_of s (host_asked question)) (asked extra question) question returned)
+    ⊎ (¬ HasTemplate (asked extra question) × IsWholeAnswer (host_view_of s (viewer_asked question)) (asked extra question) question returned)

@@ -1,32 +1,32 @@
 -- Laws of hosts: one at whose places nothing is visible has the answer to each question that is had without a host.
 use Rattle.std.proofs.Common.{◌++◌, ◌↔◌, ◌≡◌}
-use Rattle.fleet_answers.specs.Prelude.{All-weaker, ap, AreEdges, AreEdgesFrom, AreEdgesOf, Bad, Conflict, Cycle, DependencyList, DependsOn, DepKind, EdgeMap, EntryMap, HasTemplate, Host, host_view_of, hosts_without_places_are_as_large, hosts_without_places_load_alike, HostViewMap, inl, inr, IsEdge, IsFault, IsLoad, IsPlanned, IsRefusalOf, IsRefused, List, loaded_for, LoadMap, ManualStart, Masked, Memory, Name, None, NotFound, PlanMap, refl, Refusal, Request, Requisite, ShowsNothing, Some, subst, sym, Template, Viewer, viewer_of, Why, ℕ}
-use Rattle.fleet_answers.specs.{Answers.{AreLinkedUnits, ArePulled, asked, host_asked, IsAnswer, IsLinkedUnit, IsPlanBy, IsPlanReturned, IsReturned, IsUnitWithEdges, IsWholeAnswer, names_asked, without_host}, declared.questions.{Answer.{Answer}, LinkedUnit.{LinkedUnit}, Question.{Question, TheVariants.{Plan as OfPlan, Pulled as OfPulled, Unit as OfUnit, Units as OfUnits}}}}
+use Rattle.fleet_answers.specs.Prelude.{All-weaker, ap, AreEdges, AreEdgesFrom, AreEdgesOf, Bad, Conflict, Cycle, DependencyList, DependsOn, DepKind, EdgeMap, EntryMap, HasTemplate, Host, host_view_of, hosts_without_places_are_as_large, hosts_without_places_load_alike, HostViewMap, inl, inr, IsEdge, IsFault, IsLoad, IsPlanned, IsRefusalOf, IsRefused, List, loaded_for, LoadMap, ManualStart, Masked, Memory, Name, NotFound, of_fleet, of_host, PlanMap, Profile, refl, Refusal, Request, Requisite, ShowsNothing, subst, sym, Template, Viewer, viewer_of, Why, ℕ, ◌∙◌}
+use Rattle.fleet_answers.specs.{Answers.{AreLinkedUnits, ArePulled, asked, viewer_asked, IsAnswer, IsLinkedUnit, IsPlanBy, IsPlanReturned, IsReturned, IsUnitWithEdges, IsWholeAnswer, names_asked, without_host}, declared.questions.{Answer.{Answer}, LinkedUnit.{LinkedUnit}, Question.{Question, TheVariants.{Plan as OfPlan, Pulled as OfPulled, Unit as OfUnit, Units as OfUnits}}}}
 
 -- A host at whose places nothing is visible has the answer to each question that is had without a host.
 abbrev pub HostsWithoutPlacesHaveTheFleetsAnswers : Type 0
 HostsWithoutPlacesHaveTheFleetsAnswers =
-    (s : EntryMap) (host : List ℕ) → ShowsNothing s (Host host) → (extra : List Name) (question : Question)
-    → host_asked question ≡ Some host → (a : Answer) → IsAnswer s extra question a ↔ IsAnswer s extra (without_host question) a
+    (s : EntryMap) (host : List ℕ) (profile : Profile) → ShowsNothing s (Host host) → (extra : List Name) (question : Question)
+    → viewer_asked question ≡ of_host host profile → (a : Answer) → IsAnswer s extra question a ↔ IsAnswer s extra (without_host question) a
 
 -- ---- a load answers the same, whatever host it is for
 
 -- back again, since a load is what it has
-depends : (load : LoadMap) (host : Viewer) (dep : DepKind) (u v : Name) → DependsOn load dep u v → DependsOn (loaded_for host load) dep u v
-depends load host dep u v d = record { unit = d.unit; unit_is = d.unit_is; listed = d.listed; other = d.other }
+depends : (load : LoadMap) (viewer : Viewer) (dep : DepKind) (u v : Name) → DependsOn load dep u v → DependsOn (loaded_for viewer load) dep u v
+depends load viewer dep u v d = record { unit = d.unit; unit_is = d.unit_is; listed = d.listed; other = d.other }
 
-edge : (load : LoadMap) (host : Viewer) (dep : DepKind) (u v : Name) → IsEdge load dep u v → IsEdge (loaded_for host load) dep u v
-edge load host dep u v (inl d) = inl (depends load host _ u v d)
-edge load host dep u v (inr d) = inr (depends load host _ v u d)
+edge : (load : LoadMap) (viewer : Viewer) (dep : DepKind) (u v : Name) → IsEdge load dep u v → IsEdge (loaded_for viewer load) dep u v
+edge load viewer dep u v (inl d) = inl (depends load viewer _ u v d)
+edge load viewer dep u v (inr d) = inr (depends load viewer _ v u d)
 
-module _ (load : LoadMap) (host : Viewer) where
+module _ (load : LoadMap) (viewer : Viewer) where
   abbrev moved : LoadMap
-  moved = loaded_for host load
+  moved = loaded_for viewer load
 
   edges_from : (dep : DepKind) (u : Name) (names : List Name) → AreEdgesFrom load dep u names → AreEdgesFrom moved dep u names
   edges_from dep u names are = record {
     ascending = are.ascending;
-    exact = λ v. (λ among. edge load host dep u v ((are.exact v).0 among), λ e. (are.exact v).1 (edge moved load.host dep u v e));
+    exact = λ v. (λ among. edge load viewer dep u v ((are.exact v).0 among), λ e. (are.exact v).1 (edge moved load.viewer dep u v e));
   }
 
   edges : (all : EdgeMap) → AreEdges load all → AreEdges moved all
@@ -65,7 +65,7 @@ module _ (load : LoadMap) (host : Viewer) where
   -- and whatever host a request is for
   module _ (all : EdgeMap) (request : Request) (wanted : Viewer) where
     abbrev moved_request : Request
-    moved_request = record request { host = wanted }
+    moved_request = record request { viewer = wanted }
 
     planned : (plan : PlanMap) → IsPlanned load all request plan → IsPlanned moved all moved_request plan
     planned plan is = record { no_template = is.no_template; planned = is.planned }
@@ -93,7 +93,7 @@ module _ (load : LoadMap) (host : Viewer) where
     plan_by a (inr p) = inr (p.0, refusal p.0 p.1, p.2, p.3)
 
   plan_returned : (request : Request) (wanted : Viewer) (a : Answer)
-      → IsPlanReturned load request a → IsPlanReturned moved (record request { host = wanted }) a
+      → IsPlanReturned load request a → IsPlanReturned moved (record request { viewer = wanted }) a
   plan_returned request wanted a returned = record {
     edges = returned.edges;
     edges_are = edges returned.edges returned.edges_are;
@@ -103,19 +103,19 @@ module _ (load : LoadMap) (host : Viewer) where
   returned_without : (question : Question) (a : Answer) → IsReturned load question a → IsReturned moved (without_host question) a
   returned_without (OfUnit wanted name) a returned = (returned.0, linked_unit name returned.0 returned.1, returned.2)
   returned_without (OfPulled wanted name) a returned = (returned.0, pulled name returned.0 returned.1, returned.2)
-  returned_without (OfPlan request) a returned = plan_returned request None a returned
+  returned_without (OfPlan request) a returned = plan_returned request (of_fleet request.viewer.profile) a returned
   returned_without (OfUnits wanted) a returned = (returned.0, all_linked returned.0 returned.1, returned.2)
 
   returned_with : (question : Question) (a : Answer) → IsReturned load (without_host question) a → IsReturned moved question a
   returned_with (OfUnit wanted name) a returned = (returned.0, linked_unit name returned.0 returned.1, returned.2)
   returned_with (OfPulled wanted name) a returned = (returned.0, pulled name returned.0 returned.1, returned.2)
-  returned_with (OfPlan request) a returned = plan_returned (record request { host = None }) request.host a returned
+  returned_with (OfPlan request) a returned = plan_returned (record request { viewer = of_fleet request.viewer.profile }) request.viewer a returned
   returned_with (OfUnits wanted) a returned = (returned.0, all_linked returned.0 returned.1, returned.2)
 
 -- what is loaded of a view is loaded for who looks
 for_looker : (v : HostViewMap) (names : List Name) (load : LoadMap) → IsLoad v names load → IsLoad v names (loaded_for (viewer_of v) load)
 for_looker v names load is = record {
-  host_is = refl;
+  viewer_is = refl;
   extra_is = is.extra_is;
   universe = is.universe;
   loaded = is.loaded;
@@ -126,21 +126,21 @@ for_looker v names load is = record {
 -- ---- a host without places
 
 names_stay : (question : Question) → names_asked (without_host question) ≡ names_asked question
-names_stay (OfUnit host name) = refl
-names_stay (OfPulled host name) = refl
+names_stay (OfUnit viewer name) = refl
+names_stay (OfPulled viewer name) = refl
 names_stay (OfPlan request) = refl
-names_stay (OfUnits host) = refl
+names_stay (OfUnits viewer) = refl
 
-no_host : (question : Question) → host_asked (without_host question) ≡ None
-no_host (OfUnit host name) = refl
-no_host (OfPulled host name) = refl
+no_host : (question : Question) → viewer_asked (without_host question) ≡ of_fleet (viewer_asked question).profile
+no_host (OfUnit viewer name) = refl
+no_host (OfPulled viewer name) = refl
 no_host (OfPlan request) = refl
-no_host (OfUnits host) = refl
+no_host (OfUnits viewer) = refl
 
 -- a question has the answer of another with the same names, where it has so in what is looked at
 module _ (s : EntryMap) (extra : List Name) (one other : Question) (same : names_asked one ≡ names_asked other) (a : Answer)
     (whole : (names : List Name)
-    → IsWholeAnswer (host_view_of s (host_asked one)) names one a → IsWholeAnswer (host_view_of s (host_asked other)) names other a) where
+    → IsWholeAnswer (host_view_of s (viewer_asked one)) names one a → IsWholeAnswer (host_view_of s (viewer_asked other)) names other a) where
   all_same : asked extra one ≡ asked extra other
   all_same = ap (λ names. extra ++ names) same
 
@@ -148,58 +148,62 @@ module _ (s : EntryMap) (extra : List Name) (one other : Question) (same : names
   answered (inl template) = inl (subst HasTemplate all_same template.0, template.1)
   answered (inr returned) = inr (
     λ template. returned.0 (subst HasTemplate (sym all_same) template),
-    subst (λ names. IsWholeAnswer (host_view_of s (host_asked other)) names other a) all_same (whole (asked extra one) returned.1),
+    subst (λ names. IsWholeAnswer (host_view_of s (viewer_asked other)) names other a) all_same (whole (asked extra one) returned.1),
   )
 
-module _ (s : EntryMap) (host : List ℕ) (none : ShowsNothing s (Host host)) (question : Question) (a : Answer) where
+module _ (s : EntryMap) (host : List ℕ) (profile : Profile) (none : ShowsNothing s (Host host)) (question : Question) (a : Answer) where
   abbrev hosts : HostViewMap
-  hosts = host_view_of s (Some host)
+  hosts = host_view_of s (of_host host profile)
 
   abbrev fleets : HostViewMap
-  fleets = host_view_of s None
+  fleets = host_view_of s (of_fleet profile)
 
   abbrev bare : Question
   bare = without_host question
 
   whole_without : (names : List Name) → IsWholeAnswer hosts names question a → IsWholeAnswer fleets names bare a
-  whole_without names (inl large) = inl ((hosts_without_places_are_as_large s host none names).0 large.0, large.1)
+  whole_without names (inl large) = inl ((hosts_without_places_are_as_large s host profile none names).0 large.0, large.1)
   whole_without names (inr returned) = inr (record {
-    load = loaded_for None returned.load;
+    load = loaded_for (of_fleet profile) returned.load;
     snapshot = record {
-      within = λ large. returned.snapshot.within ((hosts_without_places_are_as_large s host none names).1 large);
-      is_load = (hosts_without_places_load_alike s host none names returned.load).0 (for_looker hosts names returned.load returned.snapshot.is_load);
+      within = λ large. returned.snapshot.within ((hosts_without_places_are_as_large s host profile none names).1 large);
+      is_load = (hosts_without_places_load_alike s host profile none names returned.load).0 (for_looker hosts names returned.load returned.snapshot.is_load);
     };
-    returned_is = returned_without returned.load None question a returned.returned_is;
+    returned_is = returned_without returned.load (of_fleet profile) question a returned.returned_is;
   })
 
   whole_with : (names : List Name) → IsWholeAnswer fleets names bare a → IsWholeAnswer hosts names question a
-  whole_with names (inl large) = inl ((hosts_without_places_are_as_large s host none names).1 large.0, large.1)
+  whole_with names (inl large) = inl ((hosts_without_places_are_as_large s host profile none names).1 large.0, large.1)
   whole_with names (inr returned) = inr (record {
-    load = loaded_for (Some host) returned.load;
+    load = loaded_for (of_host host profile) returned.load;
     snapshot = record {
-      within = λ large. returned.snapshot.within ((hosts_without_places_are_as_large s host none names).0 large);
-      is_load = (hosts_without_places_load_alike s host none names returned.load).1 (for_looker fleets names returned.load returned.snapshot.is_load);
+      within = λ large. returned.snapshot.within ((hosts_without_places_are_as_large s host profile none names).0 large);
+      is_load = (hosts_without_places_load_alike s host profile none names returned.load).1 (for_looker fleets names returned.load returned.snapshot.is_load);
     };
-    returned_is = returned_with returned.load (Some host) question a returned.returned_is;
+    returned_is = returned_with returned.load (of_host host profile) question a returned.returned_is;
   })
 
   -- the same where the question's host is this one
-  module _ (is : host_asked question ≡ Some host) where
+  module _ (is : viewer_asked question ≡ of_host host profile) where
     abbrev WholeFor : Viewer → Question → List Name → Type 0
     WholeFor viewer asking names = IsWholeAnswer (host_view_of s viewer) names asking a
 
-    there : (names : List Name) → WholeFor (host_asked question) question names → WholeFor (host_asked bare) bare names
+    -- asked without a host it is for the fleet
+    bare_is : viewer_asked bare ≡ of_fleet profile
+    bare_is = no_host question ∙ ap (λ (viewer : Viewer). of_fleet viewer.profile) is
+
+    there : (names : List Name) → WholeFor (viewer_asked question) question names → WholeFor (viewer_asked bare) bare names
     there names h =
-        subst (λ (viewer : Viewer). WholeFor viewer bare names) (sym (no_host question))
+        subst (λ (viewer : Viewer). WholeFor viewer bare names) (sym bare_is)
         (whole_without names (subst (λ (viewer : Viewer). WholeFor viewer question names) is h))
 
-    back : (names : List Name) → WholeFor (host_asked bare) bare names → WholeFor (host_asked question) question names
+    back : (names : List Name) → WholeFor (viewer_asked bare) bare names → WholeFor (viewer_asked question) question names
     back names h =
         subst (λ (viewer : Viewer). WholeFor viewer question names) (sym is)
-        (whole_with names (subst (λ (viewer : Viewer). WholeFor viewer bare names) (no_host question) h))
+        (whole_with names (subst (λ (viewer : Viewer). WholeFor viewer bare names) bare_is h))
 
 pub hosts_without_places_have_the_fleets_answers : HostsWithoutPlacesHaveTheFleetsAnswers
-hosts_without_places_have_the_fleets_answers s host none extra question is a = (
-  answered s extra question (without_host question) (sym (names_stay question)) a (there s host none question a is),
-  answered s extra (without_host question) question (names_stay question) a (back s host none question a is),
+hosts_without_places_have_the_fleets_answers s host profile none extra question is a = (
+  answered s extra question (without_host question) (sym (names_stay question)) a (there s host profile none question a is),
+  answered s extra (without_host question) question (names_stay question) a (back s host profile none question a is),
 )

@@ -10,31 +10,31 @@ ShowTheSame s t = (place : PlaceParts) → visible_at s place ≡ visible_at t p
 
 -- Then what is a snapshot of one is a snapshot of the other.
 abbrev pub SnapshotsStay : Type 0
-SnapshotsStay = (s t : EntryMap) (host : Viewer) (extra : List Name) (load : LoadMap) → ShowTheSame s t → IsSnapshot (host_view_of s host) extra load → IsSnapshot (host_view_of t host) extra load
+SnapshotsStay = (s t : EntryMap) (viewer : Viewer) (extra : List Name) (load : LoadMap) → ShowTheSame s t → IsSnapshot (host_view_of s viewer) extra load → IsSnapshot (host_view_of t viewer) extra load
 
-module _ (s t : EntryMap) (host : Viewer) (same : ShowTheSame s t) where
+module _ (s t : EntryMap) (viewer : Viewer) (same : ShowTheSame s t) where
   abbrev v : HostViewMap
-  v = host_view_of s host
+  v = host_view_of s viewer
 
   abbrev w : HostViewMap
-  w = host_view_of t host
+  w = host_view_of t viewer
 
   words : SameWords v w
-  words = touched_words_decide s t host [] (λ place. inr (same place)) (λ place among. absurd among)
+  words = touched_words_decide s t viewer [] (λ place. inr (same place)) (λ place among. absurd among)
 
   leads : SameLeads v w
   leads = link_targets_decide v w words
 
   unit_stays : (n : Name) (unit : LoadedUnit) → IsUnit v n unit → IsUnit w n unit
-  unit_stays n unit is = store_footprints_decide s t host n unit leads (λ place starts level. same place) is
+  unit_stays n unit is = store_footprints_decide s t viewer n unit leads (λ place starts level. same place) is
 
   module _ (extra : List Name) (load : LoadMap) (l : IsLoad v extra load) where
-    -- the load is for the same host
+    -- the load is for the same viewer
     load_stays : IsLoad w extra load
     load_stays =
         let stays = same_units_make_the_load v w extra load words unit_stays l in
         record {
-          host_is = l.host_is ∙ one_viewer s host ∙ sym (one_viewer t host);
+          viewer_is = l.viewer_is ∙ one_viewer s viewer ∙ sym (one_viewer t viewer);
           extra_is = stays.extra_is;
           universe = stays.universe;
           loaded = stays.loaded;
@@ -49,7 +49,7 @@ module _ (s t : EntryMap) (host : Viewer) (same : ShowTheSame s t) where
         ((over-closure name_cmp nat_list_cmp_total (IsSource w extra) (LeadsTo w) (keys_of load.names) 4096 load_stays.universe).0 over)
 
 pub snapshots_stay : SnapshotsStay
-snapshots_stay s t host extra load same is = record {
-  within = λ over. is.within (too_large_before s t host same extra load is.is_load over);
-  is_load = load_stays s t host same extra load is.is_load;
+snapshots_stay s t viewer extra load same is = record {
+  within = λ over. is.within (too_large_before s t viewer same extra load is.is_load over);
+  is_load = load_stays s t viewer same extra load is.is_load;
 }

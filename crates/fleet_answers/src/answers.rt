@@ -26,7 +26,7 @@ pub fn answer_here(
     let Some(names) = whole_names(alloc, extra, question)? else {
         return Ok(Answer::Template);
     };
-    match Snapshot::of(alloc, store, question.host(), &names) {
+    match Snapshot::of(alloc, store, question.viewer(), &names) {
         Ok(mut snapshot) => snapshot.answer(question),
         Err(LoadFault::TooManyUnits) => Ok(Answer::TooManyUnits),
         Err(_) => Err(AllocError),
@@ -56,7 +56,7 @@ pub fn answer_question<R: Threads + Sync, G: Gate + Sync>(
     let Some(names) = names else {
         return Ok(Answer::Template);
     };
-    match Snapshot::by_workers(rt, alloc, store, question.host(), &names, workers, gate) {
+    match Snapshot::by_workers(rt, alloc, store, question.viewer(), &names, workers, gate) {
         Ok(mut snapshot) => snapshot.answer(question).map_err(|_| AnswerFault::Memory),
         Err(LoadFault::TooManyUnits) => Ok(Answer::TooManyUnits),
         Err(_) => Err(AnswerFault::Memory),

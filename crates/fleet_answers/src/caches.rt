@@ -4,7 +4,7 @@ use crate::renewing::{LoadResources, is_of, loaded_anew, renewed, serves};
 use crate::snapshots::Snapshot;
 use parallel_load::{Gate, LoadFault};
 use plain_values::append_copies;
-use replica_store::{HostName, Place, Store};
+use replica_store::{Place, Store, Viewer};
 use std::alloc::{AllocError, Global};
 use std::thread::Threads;
 use unit_name::UnitName;
@@ -22,7 +22,7 @@ pub(crate) struct Cached {
     pub(crate) mark: usize,
 }
 
-/// The cached snapshots of a store: for each host the one of the last question, and at most 64. The least recently used
+/// The cached snapshots of a store: for each viewer the one of the last question, and at most 64. The least recently used
 /// one is dropped first. And the places that were touched since the oldest of them was made, in order.
 pub(crate) struct SnapshotCache {
     touched: Vec<Place>,
@@ -39,7 +39,7 @@ impl Drop for SnapshotCache {
 }
 
 impl SnapshotCache {
-    ghost use Rattle.std.specs.{Prelude.{◌≡◌, ◌<◌, length}, List.{slice_index_or}, Option.{IfSome, option_copied}};
+    ghost use Rattle.std.specs.{Prelude.{◌≡◌, ◌<◌, length}, List.{slice_index_or}, Option.{IfSome}};
     ghost use Rattle.edit_sums.specs.Sums.{EntryMap, join, IsStoreBelow};
     ghost use Rattle.fleet_answers.specs.{Answers.{IsSnapshotOf}, Tracked.{IsCacheFor, IsCachedFor, ShowTheSameBut}};
 
@@ -101,34 +101,34 @@ impl SnapshotCache {
         }
     }
 
-    // Where the snapshot for a host is.
-    fn place_of(&self, host: Option<&HostName>) -> Option<usize>
+    // Where the snapshot for a viewer is.
+    fn place_of(&self, viewer: &Viewer) -> Option<usize>
         ensures there { IfSome result (λ at. at < length self.now.cached.items) }
-        ensures host { IfSome result (λ at. (one : _) → (slice_index_or self.now.cached.items at one).snapshot.host ≡ option_copied host.entry) }
+        ensures viewer { IfSome result (λ at. (one : _) → (slice_index_or self.now.cached.items at one).snapshot.viewer ≡ viewer.now) }
     {
         for (at, one) in self.cached.iter().enumerate() {
-            if is_of(&one.snapshot, host) {
+            if is_of(&one.snapshot, viewer) {
                 return Some(at);
             }
         }
         None
     }
 
-    // Takes out the snapshot for a host.
-    fn take(&mut self, host: Option<&HostName>) -> Option<Cached>
-        ensures host { IfSome result (λ one. one.snapshot.host ≡ option_copied host.entry) }
+    // Takes out the snapshot for a viewer.
+    fn take(&mut self, viewer: &Viewer) -> Option<Cached>
+        ensures viewer { IfSome result (λ one. one.snapshot.viewer ≡ viewer.now) }
         ensures taken { (s : EntryMap) → IsCacheFor s self.old → IfSome result (IsCachedFor s self.new.touched.items) }
         ensures kept { (s : EntryMap) → IsCacheFor s self.old → IsCacheFor s self.new }
     {
-        let at = self.place_of(host)?;
+        let at = self.place_of(viewer)?;
         Some(self.cached.remove(at))
     }
 
-    /// Drops the snapshot for a host.
-    pub(crate) fn forget(&mut self, host: Option<&HostName>)
+    /// Drops the snapshot for a viewer.
+    pub(crate) fn forget(&mut self, viewer: &Viewer)
         ensures kept { (s : EntryMap) → IsCacheFor s self.old → IsCacheFor s self.new }
     {
-        let _ = self.take(host);
+        let _ = self.take(viewer);
         if self.cached.is_empty() {
             self.clear();
         }
@@ -156,58 +156,53 @@ impl SnapshotCache {
 }
 
 impl SnapshotCache {
-    ghost use Rattle.std.specs.{Prelude.{◌≡◌, IfOk, IfErr}, Option.{IfSome, option_copied}};
+    ghost use Rattle.std.specs.{Prelude.{◌≡◌, IfOk, IfErr}, Option.{IfSome}};
     ghost use Rattle.edit_sums.specs.Sums.{EntryMap};
     ghost use Rattle.path_maps.specs.HostViews.{host_view_of};
     ghost use Rattle.parallel_load.specs.{AskedLaws.{AreSources}, Refusals.{OnTooMany}, Universe.{IsTooLarge}};
-    ghost use Rattle.fleet_answers.specs.Answers.{AreKnown, IsReturned, IsSnapshot, IsSnapshotOf, host_asked, names_asked};
+    ghost use Rattle.fleet_answers.specs.Answers.{AreKnown, IsReturned, IsSnapshot, IsSnapshotOf, viewer_asked, names_asked};
     ghost use Rattle.fleet_answers.specs.Tracked.{IsCacheFor, IsCachedFor};
 
-    /// The snapshot of the store for a host and these names: the cached one, as it is or refreshed, or else a new load. If
+    /// The snapshot of the store for a viewer and these names: the cached one, as it is or refreshed, or else a new load. If
     /// memory runs out, drops all that is cached and tries once more.
     pub(crate) fn found<R: Threads + Sync, G: Gate + Sync>(
         &mut self,
         resources: &LoadResources<R, G>,
         store: &Store,
-        host: Option<&HostName>,
+        viewer: &Viewer,
         names: &[UnitName],
     ) -> Result<Snapshot, LoadFault>
         requires cache { IsCacheFor store.now self.old }
-        ensures snapshot { IfOk result (IsSnapshot (host_view_of store.now (option_copied host.entry)) names.now) }
-        ensures over { IfErr result (λ fault. OnTooMany fault (IsTooLarge (host_view_of store.now (option_copied host.entry)) names.now)) }
+        ensures snapshot { IfOk result (IsSnapshot (host_view_of store.now viewer.now) names.now) }
+        ensures over { IfErr result (λ fault. OnTooMany fault (IsTooLarge (host_view_of store.now viewer.now) names.now)) }
         ensures cache { IsCacheFor store.now self.new }
     {
-        let made = match self.take_for(store, host, names) {
+        let made = match self.take_for(store, viewer, names) {
             Some(Cached { snapshot, mark }) => {
                 renewed(snapshot, store, &self.touched[mark..], names)
             }
-            None => loaded_anew(resources, store, host, names),
+            None => loaded_anew(resources, store, viewer, names),
         };
         match made {
             Err(LoadFault::Memory) => {
                 self.clear();
-                loaded_anew(resources, store, host, names)
+                loaded_anew(resources, store, viewer, names)
             }
             made => made,
         }
     }
 
-    // Takes out the snapshot for a host, if it serves these names and at most 1,024 places were touched since it was made.
+    // Takes out the snapshot for a viewer, if it serves these names and at most 1,024 places were touched since it was made.
     // Drops it if not.
-    fn take_for(
-        &mut self,
-        store: &Store,
-        host: Option<&HostName>,
-        names: &[UnitName],
-    ) -> Option<Cached>
+    fn take_for(&mut self, store: &Store, viewer: &Viewer, names: &[UnitName]) -> Option<Cached>
         requires cache { IsCacheFor store.now self.old }
-        ensures host { IfSome result (λ one. one.snapshot.host ≡ option_copied host.entry) }
-        ensures these { IfSome result (λ one. AreSources (host_view_of store.now one.snapshot.host) one.snapshot.extra names.now) }
-        ensures those { IfSome result (λ one. AreSources (host_view_of store.now one.snapshot.host) names.now one.snapshot.extra) }
+        ensures viewer { IfSome result (λ one. one.snapshot.viewer ≡ viewer.now) }
+        ensures these { IfSome result (λ one. AreSources (host_view_of store.now one.snapshot.viewer) one.snapshot.extra names.now) }
+        ensures those { IfSome result (λ one. AreSources (host_view_of store.now one.snapshot.viewer) names.now one.snapshot.extra) }
         ensures taken { IfSome result (IsCachedFor store.now self.new.touched.items) }
         ensures cache { IsCacheFor store.now self.new }
     {
-        let one = self.take(host)?;
+        let one = self.take(viewer)?;
         if self.touched.len() - one.mark > MOST_TOUCHED || !serves(store, &one.snapshot, names) {
             return None;
         }
@@ -220,7 +215,7 @@ impl SnapshotCache {
         snapshot: Snapshot,
         question: &Question,
     ) -> Result<Answer, AllocError>
-        requires host { snapshot.host ≡ host_asked question.now }
+        requires viewer { snapshot.viewer ≡ viewer_asked question.now }
         requires known { AreKnown snapshot (names_asked question.now) }
         ensures returned { IfOk result (IsReturned snapshot question.now) }
         ensures kept { (s : EntryMap) → IsSnapshotOf s snapshot → IsCacheFor s self.old → IsCacheFor s self.new }
@@ -233,7 +228,7 @@ impl SnapshotCache {
 
     // The answer of a snapshot. If memory runs out, drops all others and tries once more.
     fn answer(&mut self, snapshot: &mut Snapshot, question: &Question) -> Result<Answer, AllocError>
-        requires host { snapshot.old.host ≡ host_asked question.now }
+        requires viewer { snapshot.old.viewer ≡ viewer_asked question.now }
         requires known { AreKnown snapshot.old (names_asked question.now) }
         ensures returned { IfOk result (IsReturned snapshot.old question.now) }
         ensures load { snapshot.new ≡ snapshot.old }

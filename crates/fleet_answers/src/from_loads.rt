@@ -86,7 +86,7 @@ pub(crate) fn planned(
     request: &Request,
 ) -> Result<Answer, AllocError>
     requires table { IsEdgeTable loaded.now table.now }
-    requires host { request.now.host ≡ loaded.now.host }
+    requires viewer { request.now.viewer ≡ loaded.now.viewer }
     requires names { IsOfGraph loaded.now request.now }
     ensures returned { IfOk result (IsPlanReturned loaded.now request.now) }
 {
@@ -100,7 +100,7 @@ pub(crate) fn planned(
 // The plan of a request, or the first reason why there is none.
 fn plan_of(loaded: &Loaded, table: &EdgeTable, request: &Request) -> Result<Plan, Refusal>
     requires table { IsEdgeTable loaded.now table.now }
-    requires host { request.now.host ≡ loaded.now.host }
+    requires viewer { request.now.viewer ≡ loaded.now.viewer }
     requires names { IsOfGraph loaded.now request.now }
     ensures edges { AreEdges loaded.now (edge_map (keys_of loaded.now.names) table.now) }
     ensures plan { IfOk result (IsPlanned loaded.now (edge_map (keys_of loaded.now.names) table.now) request.now) }

@@ -9,19 +9,19 @@ use crate::caches::MOST_SNAPSHOTS;
 use crate::questions::{Answer, AnswerFault, Question};
 use crate::tracked::TrackedReplica;
 use parallel_load::Gate;
-use replica_store::HostName;
+use replica_store::Viewer;
 use std::alloc::{AllocError, Global};
 use std::thread::Threads;
 
-// A snapshot that a replica may have cached: the replica's index, and the host.
+// A snapshot that a replica may have cached: the replica's index, and who it is for.
 struct Used {
     at: usize,
-    host: Option<HostName>,
+    viewer: Viewer,
 }
 
 impl Drop for Used {
     fn drop(self) {
-        let Used { at: _, host: _ } = self;
+        let Used { at: _, viewer: _ } = self;
     }
 }
 
@@ -66,7 +66,7 @@ impl SnapshotLimit {
             self.clear(replicas);
             return answer_of(rt, alloc, replicas, at, question, workers, gate);
         }
-        self.note(replicas, at, question.host());
+        self.note(replicas, at, question.viewer());
         answered
     }
 
@@ -75,47 +75,44 @@ impl SnapshotLimit {
         ensures same { replicas.new ≡ replicas.old }
     {
         for one in &self.used {
-            drop_snapshot(replicas, one.at, one.host.as_ref());
+            drop_snapshot(replicas, one.at, &one.viewer);
         }
         self.used.clear();
     }
 
-    // Notes that a replica's snapshot for a host was used last. Drops the one that was used before all others, if they are too
+    // Notes that a replica's snapshot for a viewer was used last. Drops the one that was used before all others, if they are too
     // many.
-    fn note(&mut self, replicas: &mut [TrackedReplica], at: usize, host: Option<&HostName>)
+    fn note(&mut self, replicas: &mut [TrackedReplica], at: usize, viewer: &Viewer)
         ensures same { replicas.new ≡ replicas.old }
     {
-        if let Some(place) = self.place_of(at, host) {
+        if let Some(place) = self.place_of(at, viewer) {
             self.used.remove(place);
         }
         if self.used.len() >= MOST_SNAPSHOTS {
             let oldest = self.used.remove(0);
-            drop_snapshot(replicas, oldest.at, oldest.host.as_ref());
+            drop_snapshot(replicas, oldest.at, &oldest.viewer);
         }
-        if self.append(at, host).is_err() {
-            drop_snapshot(replicas, at, host);
+        if self.append(at, viewer).is_err() {
+            drop_snapshot(replicas, at, viewer);
         }
     }
 
-    // Where a replica's snapshot for a host is.
-    fn place_of(&self, at: usize, host: Option<&HostName>) -> Option<usize>
+    // Where a replica's snapshot for a viewer is.
+    fn place_of(&self, at: usize, viewer: &Viewer) -> Option<usize>
         ensures there { IfSome result (λ place. place < length self.now.used.items) }
     {
         for (place, one) in self.used.iter().enumerate() {
-            if one.at == at && one.host.as_ref() == host {
+            if one.at == at && one.viewer == *viewer {
                 return Some(place);
             }
         }
         None
     }
 
-    // Appends a replica's snapshot for a host.
-    fn append(&mut self, at: usize, host: Option<&HostName>) -> Result<(), AllocError> {
-        let host = match host {
-            Some(host) => Some(host.try_clone()?),
-            None => None,
-        };
-        self.used.push(Used { at, host })?;
+    // Appends a replica's snapshot for a viewer.
+    fn append(&mut self, at: usize, viewer: &Viewer) -> Result<(), AllocError> {
+        let viewer = viewer.try_clone()?;
+        self.used.push(Used { at, viewer })?;
         Ok(())
     }
 }
@@ -138,11 +135,11 @@ fn answer_of<R: Threads + Sync, G: Gate + Sync>(
     replicas[at].answer(rt, alloc, question, workers, gate)
 }
 
-// Drops a replica's snapshot for a host, if there is such a replica.
-fn drop_snapshot(replicas: &mut [TrackedReplica], at: usize, host: Option<&HostName>)
+// Drops a replica's snapshot for a viewer, if there is such a replica.
+fn drop_snapshot(replicas: &mut [TrackedReplica], at: usize, viewer: &Viewer)
     ensures same { replicas.new ≡ replicas.old }
 {
     if at < replicas.len() {
-        replicas[at].drop_snapshot(host);
+        replicas[at].drop_snapshot(viewer);
     }
 }

@@ -1,56 +1,48 @@
 //! Questions about a store, and their answers.
-ghost use Rattle.std.specs.{Prelude.{◌≡◌}, Option.{option_copied}};
-ghost use Rattle.fleet_answers.specs.Answers.{host_asked};
+ghost use Rattle.std.specs.{Prelude.{◌≡◌}};
+ghost use Rattle.fleet_answers.specs.Answers.{viewer_asked};
 
 use plain_values::{Items, Shared};
-use replica_store::HostName;
+use replica_store::Viewer;
 use setting_rules::DependencyList;
 use start_plan::{Plan, Refusal, Request};
 use thiserror::Error;
 use unit_loads::Unit;
 use unit_name::UnitName;
 
-/// A question about a store, for one host or without a host. Names may be aliases.
+/// A question about a store, for one host or without a host, and by which rules. Names may be aliases.
 #[derive(Debug)]
 pub enum Question {
     /// Which unit a name resolves to, what it depends on, and what depends on it.
-    Unit {
-        host: Option<HostName>,
-        name: UnitName,
-    },
+    Unit { viewer: Viewer, name: UnitName },
     /// Which units the unit of a name pulls, and their distances.
-    Pulled {
-        host: Option<HostName>,
-        name: UnitName,
-    },
+    Pulled { viewer: Viewer, name: UnitName },
     /// Which units start and which stop for a request.
     Plan(Request),
     /// All units, with what each depends on and what depends on it.
-    Units {
-        host: Option<HostName>,
-    },
+    Units { viewer: Viewer },
 }
 
 impl Drop for Question {
     fn drop(self) {
         match self {
-            Question::Unit { host: _, name: _ } => (),
-            Question::Pulled { host: _, name: _ } => (),
+            Question::Unit { viewer: _, name: _ } => (),
+            Question::Pulled { viewer: _, name: _ } => (),
             Question::Plan(_) => (),
-            Question::Units { host: _ } => (),
+            Question::Units { viewer: _ } => (),
         }
     }
 }
 
 impl Question {
-    /// The question's host; none for a question without one. Allocates nothing.
-    pub fn host(&self) -> Option<&HostName>
-        ensures host { option_copied result ≡ host_asked self.now }
+    /// Who asks: a host's manager or one without a host, and by which rules. Allocates nothing.
+    pub fn viewer(&self) -> &Viewer
+        ensures viewer { result.now ≡ viewer_asked self.now }
     {
         match self {
-            Question::Unit { host, .. } | Question::Pulled { host, .. } => host.as_ref(),
-            Question::Plan(request) => request.host.as_ref(),
-            Question::Units { host } => host.as_ref(),
+            Question::Unit { viewer, .. } | Question::Pulled { viewer, .. } => viewer,
+            Question::Plan(request) => &request.viewer,
+            Question::Units { viewer } => viewer,
         }
     }
 }

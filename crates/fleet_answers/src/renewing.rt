@@ -1,6 +1,5 @@
 //! Snapshots that are made anew, or from one of an earlier store.
 ghost use Rattle.std.specs.Prelude.{◌≡◌, IfOk, IfErr, IsTrue};
-ghost use Rattle.std.specs.Option.{option_copied};
 ghost use Rattle.path_maps.specs.HostViews.{host_view_of};
 ghost use Rattle.parallel_load.specs.{AskedLaws.{AreSources, asked_for}, Refusals.{OnTooMany, OnWorkers}, Universe.{IsTooLarge}};
 ghost use Rattle.fleet_answers.specs.{Answers.{IsSnapshot}, Tracked.{IsSnapshotBefore}};
@@ -8,7 +7,7 @@ ghost use Rattle.fleet_answers.specs.{Answers.{IsSnapshot}, Tracked.{IsSnapshotB
 use crate::snapshots::Snapshot;
 use parallel_load::{Gate, LoadFault, are_sources};
 use plain_values::{Items, copied};
-use replica_store::{HostName, Place, Store};
+use replica_store::{Place, Store, Viewer};
 use std::alloc::{AllocError, Global};
 use std::thread::Threads;
 use unit_name::UnitName;
@@ -26,11 +25,11 @@ pub(crate) struct LoadResources<'a, R, G> {
 pub(crate) fn loaded_anew<R: Threads + Sync, G: Gate + Sync>(
     resources: &LoadResources<R, G>,
     store: &Store,
-    host: Option<&HostName>,
+    viewer: &Viewer,
     names: &[UnitName],
 ) -> Result<Snapshot, LoadFault>
-    ensures snapshot { IfOk result (IsSnapshot (host_view_of store.now (option_copied host.entry)) names.now) }
-    ensures over { IfErr result (λ fault. OnTooMany fault (IsTooLarge (host_view_of store.now (option_copied host.entry)) names.now)) }
+    ensures snapshot { IfOk result (IsSnapshot (host_view_of store.now viewer.now) names.now) }
+    ensures over { IfErr result (λ fault. OnTooMany fault (IsTooLarge (host_view_of store.now viewer.now) names.now)) }
 {
     let LoadResources {
         rt,
@@ -38,10 +37,10 @@ pub(crate) fn loaded_anew<R: Threads + Sync, G: Gate + Sync>(
         workers,
         gate,
     } = resources;
-    Snapshot::by_workers(*rt, *alloc, store, host, names, *workers, *gate)
+    Snapshot::by_workers(*rt, *alloc, store, viewer, names, *workers, *gate)
 }
 
-/// The snapshot of a store for the same host, asked for by names that it serves, from one of a store that shows the same
+/// The snapshot of a store for the same viewer, asked for by names that it serves, from one of a store that shows the same
 /// at each place but these. Reads nothing where nothing was touched.
 pub(crate) fn renewed(
     snapshot: Snapshot,
@@ -50,10 +49,10 @@ pub(crate) fn renewed(
     names: &[UnitName],
 ) -> Result<Snapshot, LoadFault>
     requires before { IsSnapshotBefore snapshot store.now touched.now }
-    requires these { AreSources (host_view_of store.now snapshot.host) snapshot.extra names.now }
-    requires those { AreSources (host_view_of store.now snapshot.host) names.now snapshot.extra }
-    ensures snapshot { IfOk result (IsSnapshot (host_view_of store.now snapshot.host) names.now) }
-    ensures over { IfErr result (λ fault. OnTooMany fault (IsTooLarge (host_view_of store.now snapshot.host) names.now)) }
+    requires these { AreSources (host_view_of store.now snapshot.viewer) snapshot.extra names.now }
+    requires those { AreSources (host_view_of store.now snapshot.viewer) names.now snapshot.extra }
+    ensures snapshot { IfOk result (IsSnapshot (host_view_of store.now snapshot.viewer) names.now) }
+    ensures over { IfErr result (λ fault. OnTooMany fault (IsTooLarge (host_view_of store.now snapshot.viewer) names.now)) }
     ensures no_workers { IfErr result (λ fault. OnWorkers fault ⊥) }
 {
     match refreshed(snapshot, store, touched) {
@@ -62,11 +61,11 @@ pub(crate) fn renewed(
     }
 }
 
-// The snapshot of a store for the same host and names, from one of a store that shows the same at each place but these.
+// The snapshot of a store for the same viewer and names, from one of a store that shows the same at each place but these.
 fn refreshed(snapshot: Snapshot, store: &Store, touched: &[Place]) -> Result<Snapshot, LoadFault>
     requires before { IsSnapshotBefore snapshot store.now touched.now }
-    ensures snapshot { IfOk result (IsSnapshot (host_view_of store.now snapshot.host) snapshot.extra) }
-    ensures over { IfErr result (λ fault. OnTooMany fault (IsTooLarge (host_view_of store.now snapshot.host) snapshot.extra)) }
+    ensures snapshot { IfOk result (IsSnapshot (host_view_of store.now snapshot.viewer) snapshot.extra) }
+    ensures over { IfErr result (λ fault. OnTooMany fault (IsTooLarge (host_view_of store.now snapshot.viewer) snapshot.extra)) }
     ensures no_workers { IfErr result (λ fault. OnWorkers fault ⊥) }
 {
     if touched.is_empty() {
@@ -94,28 +93,24 @@ fn is_asked_by(snapshot: &Snapshot, names: &[UnitName]) -> bool
     *snapshot.loaded().extra() == *names
 }
 
-/// Whether a store's load of these names has the units of its load of the snapshot's names, for the snapshot's host: each
+/// Whether a store's load of these names has the units of its load of the snapshot's names, for the snapshot's viewer: each
 /// name was asked for or is visible, and each that was asked for is one of the names or visible.
 pub(crate) fn serves(store: &Store, snapshot: &Snapshot, names: &[UnitName]) -> bool
-    ensures these { IsTrue result → AreSources (host_view_of store.now snapshot.now.host) snapshot.now.extra names.now }
-    ensures those { IsTrue result → AreSources (host_view_of store.now snapshot.now.host) names.now snapshot.now.extra }
+    ensures these { IsTrue result → AreSources (host_view_of store.now snapshot.now.viewer) snapshot.now.extra names.now }
+    ensures those { IsTrue result → AreSources (host_view_of store.now snapshot.now.viewer) names.now snapshot.now.extra }
 {
     if is_asked_by(snapshot, names) {
         return true;
     }
     let loaded = snapshot.loaded();
-    let view = store.host_view(loaded.host());
+    let view = store.host_view(loaded.viewer());
     let asked = loaded.extra();
     are_sources(&view, asked, names) && are_sources(&view, names, asked)
 }
 
-/// Whether a snapshot is for this host, or without a host if there is none.
-pub(crate) fn is_of(snapshot: &Snapshot, host: Option<&HostName>) -> bool
-    ensures host { IsTrue result → snapshot.now.host ≡ option_copied host.entry }
+/// Whether a snapshot is for this viewer.
+pub(crate) fn is_of(snapshot: &Snapshot, viewer: &Viewer) -> bool
+    ensures viewer { IsTrue result → snapshot.now.viewer ≡ viewer.now }
 {
-    match (snapshot.loaded().host(), host) {
-        (None, None) => true,
-        (Some(own), Some(host)) => *own == *host,
-        _ => false,
-    }
+    *snapshot.loaded().viewer() == *viewer
 }

@@ -1,16 +1,16 @@
 //! The result of loading a store.
-ghost use Rattle.std.specs.{Prelude.{◌≡◌, ◌↔◌, ◌⊎◌, ◌<◌, Err, IfOk, IfErr}, Option.{IfSome, option_copied}};
+ghost use Rattle.std.specs.{Prelude.{◌≡◌, ◌↔◌, ◌⊎◌, ◌<◌, Err, IfOk, IfErr}, Option.{IfSome}};
 ghost use Rattle.path_maps.specs.HostViews.{host_view_of};
 ghost use Rattle.parallel_load.specs.{AskedLaws.{asked_for}, Refreshes.{IsBefore}, Refusals.{OnTooMany, OnWorkers}, Universe.{IsTooLarge}};
 ghost use Rattle.parallel_load.specs.declared.faults.LoadFault.TheVariants.{Workers};
-ghost use Rattle.fleet_answers.specs.Answers.{AreKnown, IsSnapshot, IsReturned, host_asked, names_asked};
+ghost use Rattle.fleet_answers.specs.Answers.{AreKnown, IsSnapshot, IsReturned, viewer_asked, names_asked};
 
 use crate::from_loads::{linked_unit, linked_units, planned, pulled};
 use crate::questions::{Answer, Question};
 use inverse_deps::EdgeTable;
 use parallel_load::{Gate, LoadFault, Loaded, Refreshed, load_fleet, load_here, refresh_in_place};
 use plain_values::Items;
-use replica_store::{HostName, Place, Store};
+use replica_store::{Place, Store, Viewer};
 use std::alloc::{AllocError, Global};
 use std::marker::Model;
 use std::thread::Threads;
@@ -54,14 +54,14 @@ impl Snapshot {
     pub fn of(
         alloc: Global,
         store: &Store,
-        host: Option<&HostName>,
+        viewer: &Viewer,
         extra: &[UnitName],
     ) -> Result<Snapshot, LoadFault>
-        ensures snapshot { IfOk result (IsSnapshot (host_view_of store.now (option_copied host.entry)) extra.now) }
-        ensures over { IfErr result (λ fault. OnTooMany fault (IsTooLarge (host_view_of store.now (option_copied host.entry)) extra.now)) }
+        ensures snapshot { IfOk result (IsSnapshot (host_view_of store.now viewer.now) extra.now) }
+        ensures over { IfErr result (λ fault. OnTooMany fault (IsTooLarge (host_view_of store.now viewer.now) extra.now)) }
         ensures no_workers { IfErr result (λ fault. OnWorkers fault ⊥) }
     {
-        let loaded = load_here(alloc, store, host, extra)?;
+        let loaded = load_here(alloc, store, viewer, extra)?;
         Ok(Snapshot::of_load(loaded)?)
     }
 
@@ -71,19 +71,19 @@ impl Snapshot {
         rt: &R,
         alloc: Global,
         store: &Store,
-        host: Option<&HostName>,
+        viewer: &Viewer,
         extra: &[UnitName],
         workers: usize,
         gate: &G,
     ) -> Result<Snapshot, LoadFault>
         ensures workers { (result ≡ Err Workers) ↔ ((workers ≡ 0) ⊎ (64 < workers)) }
-        ensures snapshot { IfOk result (IsSnapshot (host_view_of store.now (option_copied host.entry)) extra.now) }
-        ensures over { IfErr result (λ fault. OnTooMany fault (IsTooLarge (host_view_of store.now (option_copied host.entry)) extra.now)) }
+        ensures snapshot { IfOk result (IsSnapshot (host_view_of store.now viewer.now) extra.now) }
+        ensures over { IfErr result (λ fault. OnTooMany fault (IsTooLarge (host_view_of store.now viewer.now) extra.now)) }
     {
         if workers == 1 {
-            return Snapshot::of(alloc, store, host, extra);
+            return Snapshot::of(alloc, store, viewer, extra);
         }
-        let loaded = load_fleet(rt, alloc, store, host, extra, workers, gate)?;
+        let loaded = load_fleet(rt, alloc, store, viewer, extra, workers, gate)?;
         Ok(Snapshot::of_load(loaded)?)
     }
 
@@ -95,13 +95,13 @@ impl Snapshot {
         Ok(Snapshot { loaded, table })
     }
 
-    /// The snapshot of another store for the same host and names, if these places are all at which the two stores show
+    /// The snapshot of another store for the same viewer and names, if these places are all at which the two stores show
     /// different contents. The result, refusals included, is that of `of`, but only what changed is read. If names and
     /// dependencies stayed the same, the edges are reused.
     pub(crate) fn refreshed(self, store: &Store, touched: &[Place]) -> Result<Snapshot, LoadFault>
         requires before { IsBefore self store.now touched.now }
-        ensures snapshot { IfOk result (IsSnapshot (host_view_of store.now self.host) self.extra) }
-        ensures over { IfErr result (λ fault. OnTooMany fault (IsTooLarge (host_view_of store.now self.host) self.extra)) }
+        ensures snapshot { IfOk result (IsSnapshot (host_view_of store.now self.viewer) self.extra) }
+        ensures over { IfErr result (λ fault. OnTooMany fault (IsTooLarge (host_view_of store.now self.viewer) self.extra)) }
         ensures no_workers { IfErr result (λ fault. OnWorkers fault ⊥) }
     {
         let Snapshot { loaded, table } = self;
@@ -131,7 +131,7 @@ impl Snapshot {
 
     /// Answers a question for its host, if all its names are in the load. Fails only if memory runs out.
     pub fn answer(&mut self, question: &Question) -> Result<Answer, AllocError>
-        requires host { self.old.host ≡ host_asked question.now }
+        requires viewer { self.old.viewer ≡ viewer_asked question.now }
         requires known { AreKnown self.old (names_asked question.now) }
         ensures returned { IfOk result (IsReturned self.old question.now) }
         ensures load { self.new ≡ self.old }

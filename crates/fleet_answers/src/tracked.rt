@@ -13,13 +13,13 @@ use crate::questions::{Answer, AnswerFault, Question};
 use crate::renewing::LoadResources;
 use delta_gossip::HasReplica;
 use parallel_load::{Gate, LoadFault, is_worker_count};
-use replica_store::{Content, EditFault, HostName, Place, Replica, Rest, Store, Version};
+use replica_store::{Content, EditFault, Place, Replica, Rest, Store, Version, Viewer};
 use std::alloc::{AllocError, Global};
 use std::marker::Model;
 use std::slice::from_ref;
 use std::thread::Threads;
 
-/// A replica with cached snapshots of its store, for each host the one of the last question, and the places that its takes
+/// A replica with cached snapshots of its store, for each viewer the one of the last question, and the places that its takes
 /// touched since. No answer depends on what is cached. Contracts see the replica.
 pub struct TrackedReplica {
     replica: Replica,
@@ -130,15 +130,15 @@ impl TrackedReplica {
         self.replica.absorb(other)
     }
 
-    /// Drops the snapshot that is cached for a host, or without one.
-    pub fn drop_snapshot(&mut self, host: Option<&HostName>)
+    /// Drops the snapshot that is cached for a viewer.
+    pub fn drop_snapshot(&mut self, viewer: &Viewer)
         ensures same { self.new ≡ self.old }
     {
-        self.cache.forget(host);
+        self.cache.forget(viewer);
     }
 
     /// The answer that `answer_question` gives for the replica's store. What was loaded for the last question of the same
-    /// host is refreshed, so that only what was touched since is read again, and cached for the next one. What can't be
+    /// viewer is refreshed, so that only what was touched since is read again, and cached for the next one. What can't be
     /// cached because memory runs out is dropped.
     pub fn answer<R: Threads + Sync, G: Gate + Sync>(
         &mut self,
@@ -168,7 +168,10 @@ impl TrackedReplica {
             gate,
         };
         let store = self.replica.store();
-        match self.cache.found(&resources, store, question.host(), &names) {
+        match self
+            .cache
+            .found(&resources, store, question.viewer(), &names)
+        {
             Ok(snapshot) => self
                 .cache
                 .returned(snapshot, question)

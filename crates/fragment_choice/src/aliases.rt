@@ -1,5 +1,5 @@
 //! An index of a store's aliases, by the name that they are aliases of.
-ghost use Rattle.std.specs.{Prelude.{◌≡◌, Some, IfOk, OnOk}, BTreeMap.{Updates}, List.{All}, Map.{keys_of}, Option.{option_copied}};
+ghost use Rattle.std.specs.{Prelude.{◌≡◌, Some, IfOk, OnOk}, BTreeMap.{Updates}, List.{All}, Map.{keys_of}};
 ghost use Rattle.edit_sums.specs.Sums.{shown};
 ghost use Rattle.path_maps.specs.HostViews.{host_view_of};
 ghost use Rattle.unit_name.specs.Names.{name_cmp};
@@ -10,7 +10,7 @@ use crate::choices::{Choice, Chooses};
 use crate::link_targets::LinkTargets;
 use load_places::LEVELS;
 use plain_values::Bytes;
-use replica_store::{Content, HostName, HostView, HostViewEntry, Store};
+use replica_store::{Content, HostView, HostViewEntry, Store, Viewer};
 use std::alloc::{AllocError, Global};
 use std::collections::BTreeMap;
 use std::marker::Model;
@@ -62,11 +62,11 @@ impl<'a> AliasIndex<'a> {
     pub fn of(
         alloc: Global,
         store: &'a Store,
-        host: Option<&'a HostName>,
+        viewer: &'a Viewer,
     ) -> Result<AliasIndex<'a>, AllocError>
-        ensures view { IfOk result (λ index. index ≡ host_view_of store.now (option_copied host.entry)) }
+        ensures view { IfOk result (λ index. index ≡ host_view_of store.now viewer.now) }
     {
-        let view = store.host_view(host);
+        let view = store.host_view(viewer);
         let targets = linked_targets(alloc, &view)?;
         AliasIndex::of_targets(alloc, view, &targets)
     }

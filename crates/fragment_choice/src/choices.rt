@@ -1,12 +1,12 @@
 //! The choice of a unit's main file.
-ghost use Rattle.std.specs.{Prelude.{◌≡◌, IfOk}, Option.{option_copied}};
+ghost use Rattle.std.specs.{Prelude.{◌≡◌, IfOk}};
 ghost use Rattle.path_maps.specs.HostViews.{HostViewMap, viewed_place, host_view_of};
 ghost use Rattle.unit_name.specs.Names.{IsName};
 ghost use Rattle.fragment_choice.specs.{Choices.{choice, own_choice, says, content_says, link_says}, Indexes.{template_choice}};
 
 use crate::links::{last_component, target_says};
 use load_places::LEVELS;
-use replica_store::{Content, HostName, HostView, HostViewEntry, Place, Store};
+use replica_store::{Content, HostView, HostViewEntry, Place, Store, Viewer};
 use std::alloc::{AllocError, Global};
 use thiserror::Error;
 use unit_name::{NameFault, UnitName};
@@ -73,12 +73,12 @@ impl<'a> Chooses for HostView<'a> {
 pub fn choose(
     alloc: Global,
     store: &Store,
-    host: Option<&HostName>,
+    viewer: &Viewer,
     name: &UnitName,
 ) -> Result<Choice, AllocError>
-    ensures choice { IfOk result (λ chosen. chosen ≡ choice (host_view_of store.now (option_copied host.entry)) name.now) }
+    ensures choice { IfOk result (λ chosen. chosen ≡ choice (host_view_of store.now viewer.now) name.now) }
 {
-    store.host_view(host).choose(alloc, name)
+    store.host_view(viewer).choose(alloc, name)
 }
 
 /// Returns what the visible paths of a name's template say of the name: `NotFound` where there is no template.

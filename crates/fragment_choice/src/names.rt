@@ -1,6 +1,5 @@
 //! All names of a unit, found by walking back from it along aliases.
 ghost use Rattle.std.specs.{Prelude.{◌≡◌, Some, [], ◌∷◌, ◌↔◌, IsTrue, IfOk, OnOk}, BTreeSet.{insert_key}, List.Sorted.{IsStrictlySortedBy}};
-ghost use Rattle.std.specs.Option.{option_copied};
 ghost use Rattle.list_laws.specs.Members.{IsAmong};
 ghost use Rattle.path_maps.specs.HostViews.{host_view_of};
 ghost use Rattle.unit_name.specs.Names.{name_cmp};
@@ -10,7 +9,7 @@ ghost use Rattle.fragment_choice.specs.Indexes.{Adds, AreAliasesWithin, Gathers,
 use crate::aliases::AliasIndex;
 use crate::choices::{Choice, Chooses};
 use plain_values::copied;
-use replica_store::{HostName, Store};
+use replica_store::{Store, Viewer};
 use std::alloc::{AllocError, Global};
 use std::collections::BTreeSet;
 use std::slice::from_ref;
@@ -25,13 +24,13 @@ use unit_name::UnitName;
 pub fn names_of(
     alloc: Global,
     store: &Store,
-    host: Option<&HostName>,
+    viewer: &Viewer,
     name: &UnitName,
 ) -> Result<Vec<UnitName>, AllocError>
-    requires main { main (host_view_of store.now (option_copied host)) name.now ≡ name.now }
-    ensures names { IfOk result (λ names. AreNames (host_view_of store.now (option_copied host.entry)) name.now names.items) }
+    requires main { main (host_view_of store.now viewer.now) name.now ≡ name.now }
+    ensures names { IfOk result (λ names. AreNames (host_view_of store.now viewer.now) name.now names.items) }
 {
-    AliasIndex::of(alloc, store, host)?.names_of(alloc, name)
+    AliasIndex::of(alloc, store, viewer)?.names_of(alloc, name)
 }
 
 impl<'a> AliasIndex<'a> {

@@ -1,11 +1,11 @@
 //! The end of a unit's aliases.
-ghost use Rattle.std.specs.{Prelude.{◌≡◌, IfOk}, Option.{option_copied}};
+ghost use Rattle.std.specs.{Prelude.{◌≡◌, IfOk}};
 ghost use Rattle.path_maps.specs.HostViews.{host_view_of};
 ghost use Rattle.fragment_choice.specs.Resolutions.{IsEnd, Resolves, resolution};
 
 use crate::aliases::AliasIndex;
 use crate::choices::{Cause, Choice, Chooses};
-use replica_store::{HostName, Store};
+use replica_store::{Store, Viewer};
 use std::alloc::{AllocError, Global};
 use unit_name::UnitName;
 
@@ -25,14 +25,14 @@ pub struct Resolution {
 pub fn resolve(
     alloc: Global,
     store: &Store,
-    host: Option<&HostName>,
+    viewer: &Viewer,
     name: &UnitName,
 ) -> Result<Resolution, AllocError>
-    ensures resolution { IfOk result (λ it. it ≡ resolution (host_view_of store.now (option_copied host.entry)) name.now) }
-    ensures chain { IfOk result (Resolves (host_view_of store.now (option_copied host.entry)) name.now) }
+    ensures resolution { IfOk result (λ it. it ≡ resolution (host_view_of store.now viewer.now) name.now) }
+    ensures chain { IfOk result (Resolves (host_view_of store.now viewer.now) name.now) }
     ensures no_alias { IfOk result (λ it. IsEnd it.choice) }
 {
-    follow_aliases(alloc, &store.host_view(host), name)
+    follow_aliases(alloc, &store.host_view(viewer), name)
 }
 
 impl<'a> AliasIndex<'a> {

@@ -1,6 +1,6 @@
 -- What the merge of a host's own and the fleet's gives is the tree.
 use Rattle.std.proofs.Common.{◌≡◌}
-use Rattle.host_trees.proofs.Prelude.{ap, merged, Contents, EntryMap, find, Fleet, Host, IsTree, List, None, Option, option_and_then, option_map, own_at, path_cmp, PathParts, refl, Seen, seen_in, Some, standing, stands_at, sym, tree_of, Viewer, ◌∙◌}
+use Rattle.host_trees.proofs.Prelude.{ap, merged, Contents, EntryMap, find, Fleet, Host, IsTree, List, None, Option, option_and_then, option_map, own_at, path_cmp, PathParts, refl, Seen, seen_in, Some, standing, stands_at, sym, tree_of, ℕ, ◌∙◌}
 use Rattle.host_trees.proofs.{Merges.{or_neither, shown_merged, sorted_merged}, Scopes.{seen_at, seen_sorted}, Sorted.{among_found, AreSorted, ascending, found_among, found_given, sorted_given}}
 use Rattle.std.specs.FinMap as finmap
 
@@ -9,7 +9,7 @@ stands_if_any : (p : PathParts) (o : Option Contents) → option_and_then (λ c.
 stands_if_any p None = refl
 stands_if_any p (Some c) = refl
 
-module _ (s : EntryMap) (host : Viewer) where
+module _ (s : EntryMap) (host : Option (List ℕ)) where
   abbrev own : List Seen
   own = seen_in (option_map Host host) (finmap.entries s)
 
@@ -22,14 +22,14 @@ module _ (s : EntryMap) (host : Viewer) where
   own_sorted : AreSorted own
   own_sorted = by host
     where
-      by : (host : Viewer) → AreSorted (seen_in (option_map Host host) (finmap.entries s))
+      by : (host : Option (List ℕ)) → AreSorted (seen_in (option_map Host host) (finmap.entries s))
       by None = refl
       by (Some h) = seen_sorted (Host h) s
 
   own_found : (p : PathParts) → find path_cmp p own ≡ own_at s host p
   own_found p = by host
     where
-      by : (host : Viewer) → find path_cmp p (seen_in (option_map Host host) (finmap.entries s)) ≡ own_at s host p
+      by : (host : Option (List ℕ)) → find path_cmp p (seen_in (option_map Host host) (finmap.entries s)) ≡ own_at s host p
       by None = refl
       by (Some h) = seen_at (Host h) s p
 

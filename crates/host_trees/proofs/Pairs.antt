@@ -1,6 +1,6 @@
 -- The entries of drop-ins and links, by file name and content.
 use Rattle.std.proofs.Common.{◌+◌, ◌++◌, ◌<◌, ◌↔◌, ◌∷◌, ◌≡◌}
-use Rattle.host_trees.proofs.Prelude.{[], among_from_contains, ap, AreDropInsOf, AreLinksOf, as_found, At, Bool, candidate_at, Contains, contains_from_among, Content, content_cmp, content_cmp-IsAntisymmetric, content_cmp_total, DropIns, Entry, entry_name, EntryMap, eq_by_cmp, Equal, false, File, Folder, get_or, get_or-map, Gone, HasDropInOf, HasLinkOf, host_view_of, HostViewMap, is_eq, is_equal, IsAmong, IsCrossed, IsDropInOf, IsLinkOf, IsStrictlySortedBy, IsTotalOrder, length, Link, Links, List, made_of, made_there, map, map-append, MatchBool, Name, name_cmp, name_cmp-IsAntisymmetric, nat_list_cmp_total, None, not, one_ascending, one_store_tells_all, Option, option_and_then, Ordering, PathParts, ReadsAlike, ReadsAlikeOf, ReadsItsTree, refl, Requires, said, SameDropIns, SameLinks, Search, shown, ShowsTree, Some, subst, sym, take, take_more, tied_itself, true, view, viewed_at, Viewer, Wants, ℕ, ◌∙◌}
+use Rattle.host_trees.proofs.Prelude.{[], among_from_contains, ap, AreDropInsOf, AreLinksOf, as_found, At, Bool, candidate_at, Contains, contains_from_among, Content, content_cmp, content_cmp-IsAntisymmetric, content_cmp_total, DropIns, Entry, entry_name, EntryMap, eq_by_cmp, Equal, false, File, Folder, get_or, get_or-map, Gone, HasDropInOf, HasLinkOf, host_view_of, HostViewMap, is_eq, is_equal, IsAmong, IsCrossed, IsDropInOf, IsLinkOf, IsStrictlySortedBy, IsTotalOrder, length, Link, Links, List, made_of, made_there, map, map-append, MatchBool, Name, name_cmp, name_cmp-IsAntisymmetric, nat_list_cmp_total, None, not, of_fleet, one_ascending, one_store_tells_all, Option, option_and_then, Ordering, PathParts, ReadsAlike, ReadsAlikeOf, ReadsItsTree, refl, Requires, said, SameDropIns, SameLinks, Search, shown, ShowsTree, Some, subst, sym, take, take_more, tied_itself, true, view, viewed_at, Viewer, Wants, ℕ, ◌∙◌}
 use Rattle.std.specs.FinMap as finmap
 
 -- What an entry shows is its content.
@@ -136,10 +136,10 @@ module _ (v w : HostViewMap) (fs : List Name) where
       by Requires = requires
 
 -- A unit is crossed where one store tells so.
-pub crossed_by : (s t : EntryMap) (host : Viewer) (names : List Name) (b : Bool) → ShowsTree t s host
-    → (b ≡ true) ↔ ReadsAlike (host_view_of s host) (host_view_of t None) names → MatchBool (not b) (IsCrossed s host names) (ReadsItsTree s host names)
-crossed_by s t host names true shows h = one_store_tells_all s t host names shows (h.0 refl)
-crossed_by s t host names false shows h = λ reads. let wrong = h.1 (reads t shows) in cc (wrong)
+pub crossed_by : (s t : EntryMap) (viewer : Viewer) (names : List Name) (b : Bool) → ShowsTree t s viewer.host
+    → (b ≡ true) ↔ ReadsAlike (host_view_of s viewer) (host_view_of t (of_fleet viewer.profile)) names → MatchBool (not b) (IsCrossed s viewer names) (ReadsItsTree s viewer names)
+crossed_by s t viewer names true shows h = one_store_tells_all s t viewer names shows (h.0 refl)
+crossed_by s t viewer names false shows h = λ reads. let wrong = h.1 (reads t shows) in cc (wrong)
 
 -- ---- names and contents
 

@@ -1,6 +1,6 @@
 -- The store that is made of a tree shows just that tree.
 use Rattle.std.proofs.Common.{◌≡◌, ◌⊎◌}
-use Rattle.host_trees.proofs.Prelude.{ap, among_from_contains, contains_from_among, Content, Edit, edit_at_fleet, edit_of, Entry, entry_of, EntryMap, File, Fleet, fleets_at, Gone, Host, inl, inr, IsAmong, IsBelow, IsTree, Link, List, made_of, made_there, map, None, one_of_both_stands, Option, option_and_then, own_at, PathParts, PlaceParts, refl, shown, ShowsTree, Some, stands_at, subst, sum_of, sum_of-IsSum, sym, Viewer, visible_at, within, ◌∙◌}
+use Rattle.host_trees.proofs.Prelude.{ap, among_from_contains, contains_from_among, Content, Edit, edit_at_fleet, edit_of, Entry, entry_of, EntryMap, File, Fleet, fleets_at, Gone, Host, inl, inr, IsAmong, IsBelow, IsTree, Link, List, made_of, made_there, map, None, one_of_both_stands, Option, option_and_then, own_at, PathParts, PlaceParts, refl, shown, ShowsTree, Some, stands_at, subst, sum_of, sum_of-IsSum, sym, visible_at, within, ℕ, ◌∙◌}
 use Rattle.std.specs.FinMap as finmap
 
 -- What an entry shows is no removal.
@@ -24,15 +24,15 @@ seen_again s q x c is same = by (finmap.get s q) is
     by None e = cc (e)
     by (Some y) e = shows_again y x c e same
 
-stands_again : (s : EntryMap) (host : Viewer) (p : PathParts) (x : Entry) (c : Content) → stands_at s host p ≡ Some c → x.content ≡ c → shown x ≡ Some c
+stands_again : (s : EntryMap) (host : Option (List ℕ)) (p : PathParts) (x : Entry) (c : Content) → stands_at s host p ≡ Some c → x.content ≡ c → shown x ≡ Some c
 stands_again s host p x c is same = by host (one_of_both_stands s host p c is)
   where
-    by : (h : Viewer) → (own_at s h p ≡ Some c) ⊎ (fleets_at s p ≡ Some c) → shown x ≡ Some c
+    by : (h : Option (List ℕ)) → (own_at s h p ≡ Some c) ⊎ (fleets_at s p ≡ Some c) → shown x ≡ Some c
     by None (inl e) = cc (e)
     by (Some h) (inl e) = seen_again s (within (Host h) p) x c e same
     by h (inr e) = seen_again s (within Fleet p) x c e same
 
-module _ (s : EntryMap) (host : Viewer) (tree : List (PathParts × Content)) (is : IsTree s host tree) where
+module _ (s : EntryMap) (host : Option (List ℕ)) (tree : List (PathParts × Content)) (is : IsTree s host tree) where
   abbrev edits : List Edit
   edits = map edit_at_fleet tree
 

@@ -1,7 +1,7 @@
 -- Laws of choices in trees: a store that shows just a host's tree at the fleet's places has, without a host, the choices,
 -- main names, names and fragments that the first store has for the host. Only the scope of a fragment's place differs.
 use Rattle.std.proofs.Common.{◌+◌, ◌||◌, ◌↔◌, ◌≡◌, ◌⊎◌}
-use Rattle.host_trees.specs.{Parts.{counts}, Prelude.{aliases_are_alike, ap, AreNames, arith, Bool, Choice, choice, cond, Content, content_at, ended_or, EntryMap, false, Fleet, get-scope_of, host_view_of, HostViewMap, inl, inr, is_some, IsLevel, IsName, IsSome, List, main, Name, None, Option, option_and_then, option_or, or_right, own_path, PathParts, PlaceParts, refl, Resolution, resolution, shown, Some, subst, suc, sym, true, Viewer, viewed_at, within, zero, ℕ, ◌∙◌}, Reads.{ShowsTree}, TreeChoices.{choices_alike, fleets_seen, fragments_stand, own_seen, unit_path}, TreeLaws.{fleets_stand, own_stands}, Trees.{fleets_at, own_at, standing}}
+use Rattle.host_trees.specs.{Parts.{counts}, Prelude.{aliases_are_alike, ap, AreNames, arith, Bool, Choice, choice, cond, Content, content_at, ended_or, EntryMap, false, Fleet, get-scope_of, host_view_of, HostViewMap, inl, inr, is_some, IsLevel, IsName, IsSome, List, main, Name, None, of_fleet, Option, option_and_then, option_or, or_right, own_path, PathParts, PlaceParts, refl, Resolution, resolution, shown, Some, subst, suc, sym, true, Viewer, viewed_at, within, zero, ℕ, ◌∙◌}, Reads.{ShowsTree}, TreeChoices.{choices_alike, fleets_seen, fragments_stand, own_seen, unit_path}, TreeLaws.{fleets_stand, own_stands}, Trees.{fleets_at, own_at, standing}}
 use Rattle.fragment_choice.specs.Resolutions.{follow}
 use Rattle.fragment_choice.specs.declared.choices.Choice.TheVariants.{Alias, Bad, Fragment, Masked, NotFound}
 
@@ -18,18 +18,18 @@ resolution_at_fleet r = record { main = r.main; choice = choice_at_fleet r.choic
 
 -- Each unit name is chosen alike.
 abbrev pub TreesChooseAlike : Type 0
-TreesChooseAlike = (s t : EntryMap) (host : Viewer) → ShowsTree t s host → (n : Name) → IsName n
-    → choice (host_view_of t None) n ≡ choice_at_fleet (choice (host_view_of s host) n)
+TreesChooseAlike = (s t : EntryMap) (viewer : Viewer) → ShowsTree t s viewer.host → (n : Name) → IsName n
+    → choice (host_view_of t (of_fleet viewer.profile)) n ≡ choice_at_fleet (choice (host_view_of s viewer) n)
 
 -- Each unit name resolves alike.
 abbrev pub TreesResolveAlike : Type 0
-TreesResolveAlike = (s t : EntryMap) (host : Viewer) → ShowsTree t s host → (n : Name) → IsName n
-    → resolution (host_view_of t None) n ≡ resolution_at_fleet (resolution (host_view_of s host) n)
+TreesResolveAlike = (s t : EntryMap) (viewer : Viewer) → ShowsTree t s viewer.host → (n : Name) → IsName n
+    → resolution (host_view_of t (of_fleet viewer.profile)) n ≡ resolution_at_fleet (resolution (host_view_of s viewer) n)
 
 -- Each unit has the same names.
 abbrev pub TreesNameAlike : Type 0
-TreesNameAlike = (s t : EntryMap) (host : Viewer) → ShowsTree t s host → (u : Name) (names : List Name)
-    → AreNames (host_view_of s host) u names ↔ AreNames (host_view_of t None) u names
+TreesNameAlike = (s t : EntryMap) (viewer : Viewer) → ShowsTree t s viewer.host → (u : Name) (names : List Name)
+    → AreNames (host_view_of s viewer) u names ↔ AreNames (host_view_of t (of_fleet viewer.profile)) u names
 
 -- At one of a unit name's own paths something is visible in the view.
 abbrev pub IsShown : HostViewMap → Name → Type 0
@@ -37,19 +37,19 @@ IsShown v n = (level : ℕ) × IsLevel level × IsSome (viewed_at v (own_path n 
 
 -- The same unit names are visible.
 abbrev pub TreesShowTheSameNames : Type 0
-TreesShowTheSameNames = (s t : EntryMap) (host : Viewer) → ShowsTree t s host → (n : Name)
-    → IsShown (host_view_of s host) n ↔ IsShown (host_view_of t None) n
+TreesShowTheSameNames = (s t : EntryMap) (viewer : Viewer) → ShowsTree t s viewer.host → (n : Name)
+    → IsShown (host_view_of s viewer) n ↔ IsShown (host_view_of t (of_fleet viewer.profile)) n
 
 -- A fragment has the same content.
 abbrev pub TreesHaveTheSameFragments : Type 0
-TreesHaveTheSameFragments = (s t : EntryMap) (host : Viewer) → ShowsTree t s host → (n : Name) → IsName n → (p : PlaceParts)
-    → choice (host_view_of s host) n ≡ Fragment p → content_at (host_view_of t None) (within Fleet p.path) ≡ content_at (host_view_of s host) p
+TreesHaveTheSameFragments = (s t : EntryMap) (viewer : Viewer) → ShowsTree t s viewer.host → (n : Name) → IsName n → (p : PlaceParts)
+    → choice (host_view_of s viewer) n ≡ Fragment p → content_at (host_view_of t (of_fleet viewer.profile)) (within Fleet p.path) ≡ content_at (host_view_of s viewer) p
 
 -- ---- choices and main names
 
 pub trees_choose_alike : TreesChooseAlike
-trees_choose_alike s t host shows =
-    choices_alike s t host shows choice_at_fleet (record { not_found = refl; masked = refl; alias = λ m. refl; bad = λ cause. refl })
+trees_choose_alike s t viewer shows =
+    choices_alike s t viewer shows choice_at_fleet (record { not_found = refl; masked = refl; alias = λ m. refl; bad = λ cause. refl })
     (λ scope path. refl)
 
 ended_alike : (more same : Name → Resolution) (m : Name) (c : Choice) → ((a : Name) → c ≡ Alias a → more a ≡ resolution_at_fleet (same a))
@@ -61,17 +61,17 @@ ended_alike more same m (Alias a) alike = alike a refl
 ended_alike more same m (Bad cause) alike = refl
 
 -- What a name is an alias of is a name too, so it is chosen alike.
-follow_alike : (s t : EntryMap) (host : Viewer) → ShowsTree t s host → (k : ℕ) (n m : Name) → IsName m
-    → follow (host_view_of t None) k n m ≡ resolution_at_fleet (follow (host_view_of s host) k n m)
+follow_alike : (s t : EntryMap) (viewer : Viewer) → ShowsTree t s viewer.host → (k : ℕ) (n m : Name) → IsName m
+    → follow (host_view_of t (of_fleet viewer.profile)) k n m ≡ resolution_at_fleet (follow (host_view_of s viewer) k n m)
 unfolding follow
-follow_alike s t host shows zero n m good = refl
-follow_alike s t host shows (suc k) n m good =
-    ap (ended_or (follow (host_view_of t None) k n) m) (trees_choose_alike s t host shows m good)
-    ∙ ended_alike (follow (host_view_of t None) k n) (follow (host_view_of s host) k n) m (choice (host_view_of s host) m)
-    (λ a leads. follow_alike s t host shows k n a (aliases_are_alike (host_view_of s host) m a good leads).name)
+follow_alike s t viewer shows zero n m good = refl
+follow_alike s t viewer shows (suc k) n m good =
+    ap (ended_or (follow (host_view_of t (of_fleet viewer.profile)) k n) m) (trees_choose_alike s t viewer shows m good)
+    ∙ ended_alike (follow (host_view_of t (of_fleet viewer.profile)) k n) (follow (host_view_of s viewer) k n) m (choice (host_view_of s viewer) m)
+    (λ a leads. follow_alike s t viewer shows k n a (aliases_are_alike (host_view_of s viewer) m a good leads).name)
 
 pub trees_resolve_alike : TreesResolveAlike
-trees_resolve_alike s t host shows n = follow_alike s t host shows 9 n n
+trees_resolve_alike s t viewer shows n = follow_alike s t viewer shows 9 n n
 
 -- If names have the same main names in two views, a unit has the same names in both.
 names_by_mains : (v w : HostViewMap) → ((n : Name) → IsName n → main v n ≡ main w n) → (u : Name) (names : List Name)
@@ -87,11 +87,11 @@ names_by_mains v w same u names are = record {
 }
 
 pub trees_name_alike : TreesNameAlike
-trees_name_alike s t host shows u names =
-    let same : (n : Name) → IsName n → main (host_view_of t None) n ≡ main (host_view_of s host) n =
-    λ n good. ap (λ (r : Resolution). r.main) (trees_resolve_alike s t host shows n good) in (
-      names_by_mains (host_view_of s host) (host_view_of t None) (λ n good. sym (same n good)) u names,
-      names_by_mains (host_view_of t None) (host_view_of s host) same u names,
+trees_name_alike s t viewer shows u names =
+    let same : (n : Name) → IsName n → main (host_view_of t (of_fleet viewer.profile)) n ≡ main (host_view_of s viewer) n =
+    λ n good. ap (λ (r : Resolution). r.main) (trees_resolve_alike s t viewer shows n good) in (
+      names_by_mains (host_view_of s viewer) (host_view_of t (of_fleet viewer.profile)) (λ n good. sym (same n good)) u names,
+      names_by_mains (host_view_of t (of_fleet viewer.profile)) (host_view_of s viewer) same u names,
     )
 
 -- ---- visible names
@@ -116,62 +116,62 @@ stands_if_either p (Some a) (Some c) = by (counts p a) (counts p c)
     by false true = refl
     by false false = refl
 
-module _ (s t : EntryMap) (host : Viewer) (shows : ShowsTree t s host) (n : Name) where
+module _ (s t : EntryMap) (viewer : Viewer) (shows : ShowsTree t s viewer.host) (n : Name) where
   -- What is seen at a level is seen at its number written otherwise.
   at_same : (v : HostViewMap) (level other : ℕ) → level ≡ other → IsSome (viewed_at v (own_path n level))
       → IsSome (viewed_at v (own_path n other))
   at_same v level other same = subst (λ l. IsSome (viewed_at v (own_path n l))) same
 
-  shown_in_tree : IsShown (host_view_of s host) n → IsShown (host_view_of t None) n
+  shown_in_tree : IsShown (host_view_of s viewer) n → IsShown (host_view_of t (of_fleet viewer.profile)) n
   shown_in_tree (level, in_levels, seen) = by (halves level)
     where
-      stands : (r : ℕ) → IsLevel (r + r + 1) → (is_some (own_at s host (unit_path n r)) || is_some (fleets_at s (unit_path n r))) ≡ true
-          → IsShown (host_view_of t None) n
+      stands : (r : ℕ) → IsLevel (r + r + 1) → (is_some (own_at s viewer.host (unit_path n r)) || is_some (fleets_at s (unit_path n r))) ≡ true
+          → IsShown (host_view_of t (of_fleet viewer.profile)) n
       stands r it_is either = (
         r + r + 1,
         it_is,
-        ap is_some (fleets_seen t None n r ∙ shows (unit_path n r))
-            ∙ stands_if_either (unit_path n r) (own_at s host (unit_path n r)) (fleets_at s (unit_path n r)) ∙ either,
+        ap is_some (fleets_seen t (of_fleet viewer.profile) n r ∙ shows (unit_path n r))
+            ∙ stands_if_either (unit_path n r) (own_at s viewer.host (unit_path n r)) (fleets_at s (unit_path n r)) ∙ either,
       )
 
-      by : (r : ℕ) × ((level ≡ r + r) ⊎ (level ≡ r + r + 1)) → IsShown (host_view_of t None) n
+      by : (r : ℕ) × ((level ≡ r + r) ⊎ (level ≡ r + r + 1)) → IsShown (host_view_of t (of_fleet viewer.profile)) n
       by (r, inl e) =
-          let own : is_some (own_at s host (unit_path n r)) ≡ true =
-          sym (ap is_some (own_seen s host n r)) ∙ at_same (host_view_of s host) level (r + r) e seen in
+          let own : is_some (own_at s viewer.host (unit_path n r)) ≡ true =
+          sym (ap is_some (own_seen s viewer n r)) ∙ at_same (host_view_of s viewer) level (r + r) e seen in
           stands r (omega (arith, in_levels, e)) (ap (λ b. b || is_some (fleets_at s (unit_path n r))) own)
       by (r, inr e) =
           let fleets : is_some (fleets_at s (unit_path n r)) ≡ true =
-          sym (ap is_some (fleets_seen s host n r)) ∙ at_same (host_view_of s host) level (r + r + 1) e seen in
+          sym (ap is_some (fleets_seen s viewer n r)) ∙ at_same (host_view_of s viewer) level (r + r + 1) e seen in
           stands r (omega (arith, in_levels, e))
-          (or_right (is_some (own_at s host (unit_path n r))) (is_some (fleets_at s (unit_path n r))) fleets)
+          (or_right (is_some (own_at s viewer.host (unit_path n r))) (is_some (fleets_at s (unit_path n r))) fleets)
 
-  shown_for_host : IsShown (host_view_of t None) n → IsShown (host_view_of s host) n
+  shown_for_host : IsShown (host_view_of t (of_fleet viewer.profile)) n → IsShown (host_view_of s viewer) n
   shown_for_host (level, in_levels, seen) = by (halves level)
     where
       either : (r : ℕ) → IsLevel (r + r + 1) → (a b : Bool)
-          → is_some (own_at s host (unit_path n r)) ≡ a → is_some (fleets_at s (unit_path n r)) ≡ b
-          → (a || b) ≡ true → IsShown (host_view_of s host) n
-      either r it_is true b own fleets e = (r + r, omega (arith, it_is), ap is_some (own_seen s host n r) ∙ own)
-      either r it_is false true own fleets e = (r + r + 1, it_is, ap is_some (fleets_seen s host n r) ∙ fleets)
+          → is_some (own_at s viewer.host (unit_path n r)) ≡ a → is_some (fleets_at s (unit_path n r)) ≡ b
+          → (a || b) ≡ true → IsShown (host_view_of s viewer) n
+      either r it_is true b own fleets e = (r + r, omega (arith, it_is), ap is_some (own_seen s viewer n r) ∙ own)
+      either r it_is false true own fleets e = (r + r + 1, it_is, ap is_some (fleets_seen s viewer n r) ∙ fleets)
       either r it_is false false own fleets e = cc (e)
 
-      by : (r : ℕ) × ((level ≡ r + r) ⊎ (level ≡ r + r + 1)) → IsShown (host_view_of s host) n
+      by : (r : ℕ) × ((level ≡ r + r) ⊎ (level ≡ r + r + 1)) → IsShown (host_view_of s viewer) n
       by (r, inl e) =
-          let wrong : false ≡ true = sym (ap is_some (own_seen t None n r)) ∙ at_same (host_view_of t None) level (r + r) e seen in
+          let wrong : false ≡ true = sym (ap is_some (own_seen t (of_fleet viewer.profile) n r)) ∙ at_same (host_view_of t (of_fleet viewer.profile)) level (r + r) e seen in
           cc (wrong)
       by (r, inr e) =
-          let own : Option Content = own_at s host (unit_path n r) in
+          let own : Option Content = own_at s viewer.host (unit_path n r) in
           let fleets : Option Content = fleets_at s (unit_path n r) in
           let stands : is_some (standing (unit_path n r) own fleets) ≡ true =
-          sym (ap is_some (fleets_seen t None n r ∙ shows (unit_path n r))) ∙ at_same (host_view_of t None) level (r + r + 1) e seen in
+          sym (ap is_some (fleets_seen t (of_fleet viewer.profile) n r ∙ shows (unit_path n r))) ∙ at_same (host_view_of t (of_fleet viewer.profile)) level (r + r + 1) e seen in
           either r (omega (arith, in_levels, e)) (is_some own) (is_some fleets) refl refl
           (sym (stands_if_either (unit_path n r) own fleets) ∙ stands)
 
 pub trees_show_the_same_names : TreesShowTheSameNames
-trees_show_the_same_names s t host shows n = (shown_in_tree s t host shows n, shown_for_host s t host shows n)
+trees_show_the_same_names s t viewer shows n = (shown_in_tree s t viewer shows n, shown_for_host s t viewer shows n)
 
 -- ---- fragments
 
 pub trees_have_the_same_fragments : TreesHaveTheSameFragments
-trees_have_the_same_fragments s t host shows n good p e =
-    ap (option_and_then shown) (get-scope_of Fleet t p.path) ∙ shows p.path ∙ fragments_stand s host n good p e
+trees_have_the_same_fragments s t viewer shows n good p e =
+    ap (option_and_then shown) (get-scope_of Fleet t p.path) ∙ shows p.path ∙ fragments_stand s viewer n good p e

@@ -1,20 +1,20 @@
 -- Laws of crossed units: what decides whether one is crossed, and where none is.
 use Rattle.std.proofs.Common.{◌%◌, ◌==◌, ◌≡◌}
-use Rattle.host_trees.specs.{Prelude.{ap, as_found, At, Candidate, cond, Content, dirs_by, dirs_with, DropIns, ending, EntryMap, Fleet, fleets_sights, Folder, folders, folders_decide, get-scope_of, Host, host_view_of, HostViewMap, IsLevel, IsTakenOver, level_of, Links, List, Name, name_dirs, None, OfName, OfType, option_and_then, Owner, path_after, PathParts, same_sights, scope_of, Search, shown, shown_at, ShowsNothing, slice_get, Some, Stands, sym, type_dirs, Viewer, viewed_at, ℕ, ◌∙◌}, Reads.{HasDropInOf, HasLinkOf, ReadsAlike, ReadsAlikeOf, ReadsItsTree, ShowsTree}, TreeLaws.{fleets_stand}, Trees.{fleets_at, standing}}
+use Rattle.host_trees.specs.{Prelude.{ap, as_found, At, Candidate, cond, Content, dirs_by, dirs_with, DropIns, ending, EntryMap, Fleet, fleets_sights, Folder, folders, folders_decide, get-scope_of, Host, host_view_of, HostViewMap, IsLevel, IsTakenOver, level_of, Links, List, Name, name_dirs, None, of_fleet, of_host, OfName, OfType, option_and_then, Owner, path_after, PathParts, Profile, same_sights, scope_of, Search, shown, shown_at, ShowsNothing, slice_get, Some, Stands, sym, type_dirs, Viewer, viewed_at, ℕ, ◌∙◌}, Reads.{HasDropInOf, HasLinkOf, ReadsAlike, ReadsAlikeOf, ReadsItsTree, ShowsTree}, TreeLaws.{fleets_stand}, Trees.{fleets_at, standing}}
 
 -- One store that shows just the tree tells of all such stores.
 abbrev pub OneStoreTellsAll : Type 0
-OneStoreTellsAll = (s t : EntryMap) (host : Viewer) (names : List Name) → ShowsTree t s host
-    → ReadsAlike (host_view_of s host) (host_view_of t None) names → ReadsItsTree s host names
+OneStoreTellsAll = (s t : EntryMap) (viewer : Viewer) (names : List Name) → ShowsTree t s viewer.host
+    → ReadsAlike (host_view_of s viewer) (host_view_of t (of_fleet viewer.profile)) names → ReadsItsTree s viewer names
 
 -- Without a host no unit is crossed.
 abbrev pub WithoutAHostNoneIsCrossed : Type 0
-WithoutAHostNoneIsCrossed = (s : EntryMap) (names : List Name) → ReadsItsTree s None names
+WithoutAHostNoneIsCrossed = (s : EntryMap) (profile : Profile) (names : List Name) → ReadsItsTree s (of_fleet profile) names
 
 -- Nor is any for a host at whose places nothing is visible.
 abbrev pub HostsWithoutPlacesHaveNoneCrossed : Type 0
-HostsWithoutPlacesHaveNoneCrossed = (s : EntryMap) (host : List ℕ) → ShowsNothing s (Host host) → (names : List Name)
-    → ReadsItsTree s (Some host) names
+HostsWithoutPlacesHaveNoneCrossed = (s : EntryMap) (host : List ℕ) (profile : Profile) → ShowsNothing s (Host host) → (names : List Name)
+    → ReadsItsTree s (of_host host profile) names
 
 -- ---- views in which the same is visible in the folders of a unit
 
@@ -112,26 +112,26 @@ reads_on u v w fs a b = record {
 fleets_shown_at : (s : EntryMap) (p : PathParts) → shown_at (scope_of s Fleet) p ≡ fleets_at s p
 fleets_shown_at s p = ap (option_and_then shown) (get-scope_of Fleet s p)
 
-pub fleets_decide_sights : (s t : EntryMap) → ((p : PathParts) → fleets_at s p ≡ fleets_at t p)
-    → (p : PathParts) → viewed_at (host_view_of s None) p ≡ viewed_at (host_view_of t None) p
-fleets_decide_sights s t same p =
+pub fleets_decide_sights : (s t : EntryMap) (profile : Profile) → ((p : PathParts) → fleets_at s p ≡ fleets_at t p)
+    → (p : PathParts) → viewed_at (host_view_of s (of_fleet profile)) p ≡ viewed_at (host_view_of t (of_fleet profile)) p
+fleets_decide_sights s t profile same p =
     let q = path_after p in
-    fleets_sights s p ∙ ap (cond (p.rank % 2 == 0) None) (fleets_shown_at s q ∙ same q ∙ sym (fleets_shown_at t q)) ∙ sym (fleets_sights t p)
+    fleets_sights s profile p ∙ ap (cond (p.rank % 2 == 0) None) (fleets_shown_at s q ∙ same q ∙ sym (fleets_shown_at t q)) ∙ sym (fleets_sights t profile p)
 
 pub one_store_tells_all : OneStoreTellsAll
-one_store_tells_all s t host names shows alike u shown_too =
-    reads_on (host_view_of s host) (host_view_of t None) (host_view_of u None) (folders names) alike
-    (same_sights_read_alike (host_view_of t None) (host_view_of u None)
-    (fleets_decide_sights t u (λ p. shows p ∙ sym (shown_too p))) (folders names))
+one_store_tells_all s t viewer names shows alike u shown_too =
+    reads_on (host_view_of s viewer) (host_view_of t (of_fleet viewer.profile)) (host_view_of u (of_fleet viewer.profile)) (folders names) alike
+    (same_sights_read_alike (host_view_of t (of_fleet viewer.profile)) (host_view_of u (of_fleet viewer.profile))
+    (fleets_decide_sights t u viewer.profile (λ p. shows p ∙ sym (shown_too p))) (folders names))
 
 pub without_a_host_none_is_crossed : WithoutAHostNoneIsCrossed
-without_a_host_none_is_crossed s names t shows =
-    same_sights_read_alike (host_view_of s None) (host_view_of t None)
-    (fleets_decide_sights s t (λ p. sym (shows p ∙ fleets_stand p (fleets_at s p)))) (folders names)
+without_a_host_none_is_crossed s profile names t shows =
+    same_sights_read_alike (host_view_of s (of_fleet profile)) (host_view_of t (of_fleet profile))
+    (fleets_decide_sights s t profile (λ p. sym (shows p ∙ fleets_stand p (fleets_at s p)))) (folders names)
 
 pub hosts_without_places_have_none_crossed : HostsWithoutPlacesHaveNoneCrossed
-hosts_without_places_have_none_crossed s host none names t shows =
+hosts_without_places_have_none_crossed s host profile none names t shows =
     let bare : ShowsTree t s None = λ p. shows p ∙ ap (λ own. standing p own (fleets_at s p)) (none p) in
-    reads_on (host_view_of s (Some host)) (host_view_of s None) (host_view_of t None) (folders names)
-    (same_sights_read_alike (host_view_of s (Some host)) (host_view_of s None) (same_sights s host none) (folders names))
-    (without_a_host_none_is_crossed s names t bare)
+    reads_on (host_view_of s (of_host host profile)) (host_view_of s (of_fleet profile)) (host_view_of t (of_fleet profile)) (folders names)
+    (same_sights_read_alike (host_view_of s (of_host host profile)) (host_view_of s (of_fleet profile)) (same_sights s host profile none) (folders names))
+    (without_a_host_none_is_crossed s profile names t bare)

@@ -1,14 +1,14 @@
 -- Laws of trees: a host has one tree, and what stands in it.
 use Rattle.std.proofs.Common.{◌↔◌, ◌≡◌, ◌⊎◌}
-use Rattle.host_trees.specs.{Parts.{counts}, Prelude.{ap, Bool, cond, Content, EntryMap, false, Host, inl, inr, IsAmong, List, None, one_ascending, Option, option_or, path_cmp, path_cmp_total, PathParts, refl, ShowsNothing, Some, sym, true, Viewer, visible_at, within, ℕ, ◌∙◌}, Trees.{counted, fleets_at, IsTree, own_at, standing, stands_at}}
+use Rattle.host_trees.specs.{Parts.{counts}, Prelude.{ap, Bool, cond, Content, EntryMap, false, Host, inl, inr, IsAmong, List, None, one_ascending, Option, option_or, path_cmp, path_cmp_total, PathParts, refl, ShowsNothing, Some, sym, true, visible_at, within, ℕ, ◌∙◌}, Trees.{counted, fleets_at, IsTree, own_at, standing, stands_at}}
 
 -- A host has one tree.
 abbrev pub OneTree : Type 0
-OneTree = (s : EntryMap) (host : Viewer) (tree other : List (PathParts × Content)) → IsTree s host tree → IsTree s host other → tree ≡ other
+OneTree = (s : EntryMap) (host : Option (List ℕ)) (tree other : List (PathParts × Content)) → IsTree s host tree → IsTree s host other → tree ≡ other
 
 -- What is visible at the host's own places and at the fleet's decides the tree; other hosts' places don't matter.
 abbrev pub VisibleContentsDecide : Type 0
-VisibleContentsDecide = (s t : EntryMap) (host : Viewer) → ((p : PathParts) → own_at s host p ≡ own_at t host p)
+VisibleContentsDecide = (s t : EntryMap) (host : Option (List ℕ)) → ((p : PathParts) → own_at s host p ≡ own_at t host p)
     → ((p : PathParts) → fleets_at s p ≡ fleets_at t p) → (tree : List (PathParts × Content)) → IsTree s host tree → IsTree t host tree
 
 -- Without a host the tree is what is visible of the fleet.
@@ -23,10 +23,10 @@ HostsWithoutPlacesHaveTheFleetsTree = (s : EntryMap) (host : List ℕ) → Shows
 
 -- A path is in the tree just where something is visible at the host's own place or at the fleet's, and it is one of the two.
 abbrev pub AllPathsStand : Type 0
-AllPathsStand = (s : EntryMap) (host : Viewer) (p : PathParts) → (stands_at s host p ≡ None) ↔ ((own_at s host p ≡ None) × (fleets_at s p ≡ None))
+AllPathsStand = (s : EntryMap) (host : Option (List ℕ)) (p : PathParts) → (stands_at s host p ≡ None) ↔ ((own_at s host p ≡ None) × (fleets_at s p ≡ None))
 
 abbrev pub OneOfBothStands : Type 0
-OneOfBothStands = (s : EntryMap) (host : Viewer) (p : PathParts) (c : Content) → stands_at s host p ≡ Some c
+OneOfBothStands = (s : EntryMap) (host : Option (List ℕ)) (p : PathParts) (c : Content) → stands_at s host p ≡ Some c
     → (own_at s host p ≡ Some c) ⊎ (fleets_at s p ≡ Some c)
 
 -- A host's own content that counts stands, whatever the fleet has there.
@@ -52,7 +52,7 @@ one_tree s host tree other a b =
     (λ e. (λ h. (b.exact e.0 e.1).1 ((a.exact e.0 e.1).0 h), λ h. (a.exact e.0 e.1).1 ((b.exact e.0 e.1).0 h)))
 
 -- What stands decides the tree.
-same_tree : (s t : EntryMap) (host other : Viewer) → ((p : PathParts) → stands_at s host p ≡ stands_at t other p)
+same_tree : (s t : EntryMap) (host other : Option (List ℕ)) → ((p : PathParts) → stands_at s host p ≡ stands_at t other p)
     → (tree : List (PathParts × Content)) → IsTree s host tree → IsTree t other tree
 same_tree s t host other same tree is = record {
   ascending = is.ascending;

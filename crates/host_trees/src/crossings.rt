@@ -1,10 +1,10 @@
 //! Whether a unit has in a host's tree, read alone, the drop-ins and links that it has for the host.
-ghost use Rattle.std.specs.{Prelude.{◌≡◌, ◌↔◌, IfOk, IsTrue, map, MatchBool}, Option.{option_copied}};
+ghost use Rattle.std.specs.Prelude.{◌≡◌, ◌↔◌, IfOk, IsTrue, map, MatchBool};
 ghost use Rattle.host_trees.specs.{Entries.{said, SameDropIns, SameLinks}, Reads.{IsCrossed, ReadsAlikeOf, ReadsItsTree, ShowsTree}};
 
 use crate::own_folders::owns_nothing;
 use dropins::{Folder, UnitFolders};
-use replica_store::{HostName, HostView, HostViewEntry, Store};
+use replica_store::{HostView, HostViewEntry, Store, Viewer};
 use std::alloc::{AllocError, Global};
 use unit_name::UnitName;
 
@@ -21,23 +21,27 @@ use unit_name::UnitName;
 pub fn is_crossed(
     alloc: Global,
     store: &Store,
-    host: Option<&HostName>,
+    viewer: &Viewer,
     tree: &Store,
     names: &[UnitName],
 ) -> Result<bool, AllocError>
-    requires tree { ShowsTree tree.now store.now (option_copied host) }
-    ensures crossed { IfOk result (λ it. MatchBool it (IsCrossed store.now (option_copied host.entry) names.now)
-        (ReadsItsTree store.now (option_copied host.entry) names.now)) }
+    requires tree { ShowsTree tree.now store.now viewer.now.host }
+    ensures crossed { IfOk result (λ it. MatchBool it (IsCrossed store.now viewer.now names.now)
+        (ReadsItsTree store.now viewer.now names.now)) }
 {
     let folders = UnitFolders::of(alloc, names)?;
-    let none = owns_nothing(alloc, &store.host_view(host), &folders)?;
+    let none = owns_nothing(alloc, &store.host_view(viewer), &folders)?;
     if none {
         return Ok(false);
     }
+    let alone = Viewer {
+        host: None,
+        profile: viewer.profile,
+    };
     let alike = reads_alike(
         alloc,
-        &store.host_view(host),
-        &tree.host_view(None),
+        &store.host_view(viewer),
+        &tree.host_view(&alone),
         &folders,
     )?;
     Ok(!alike)

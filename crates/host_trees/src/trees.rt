@@ -1,6 +1,6 @@
 //! The tree of a host, made from a store.
-ghost use Rattle.std.specs.{Prelude.{◌≡◌, IfOk, map}, Option.{option_copied, option_map}};
-ghost use Rattle.load_places.specs.{declared.places.Scope.TheVariants.{Host}, Levels.{Viewer}};
+ghost use Rattle.std.specs.{Prelude.{◌≡◌, IfOk, List, map, Option, ℕ}, Option.{option_copied, option_map}};
+ghost use Rattle.load_places.specs.declared.places.Scope.TheVariants.{Host};
 ghost use Rattle.edit_sums.specs.Sums.{EntryMap, sum_of};
 ghost use Rattle.host_trees.specs.{Reads.{edit_at_fleet, ShowsTree}, Trees.{IsTree}};
 
@@ -48,7 +48,7 @@ fn own_scope(host: Option<&HostName>) -> Result<Option<Scope>, AllocError>
 /// A pair that comes in path order moves nothing. Paths and contents are shared. Fails only if memory runs out.
 pub fn tree_store(alloc: Global, tree: &[(Path, Content)]) -> Result<Store, AllocError>
     ensures sum { IfOk result (λ store. store ≡ sum_of (map edit_at_fleet tree.now)) }
-    ensures tree { IfOk result (λ store. (s : EntryMap) (host : Viewer) → IsTree s host tree.now → ShowsTree store s host) }
+    ensures tree { IfOk result (λ store. (s : EntryMap) (host : Option (List ℕ)) → IsTree s host tree.now → ShowsTree store s host) }
 {
     let edits = edits_at_fleet(alloc, tree)?;
     Store::from_edits(alloc, edits.as_slice())

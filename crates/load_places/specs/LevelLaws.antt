@@ -1,7 +1,7 @@
 -- Laws of levels: lesser ones come first, and which places have the lesser ones.
 use Rattle.std.proofs.Common.{◌+◌, ◌<◌, ◌↔◌, ◌≡◌, ◌≤◌, ◌⊎◌}
 use Rattle.load_places.specs.Prelude.{all_undefined, ap, arith, Bool, bytes_eq, bytes_eq-Decides, cond, drop, false, first_is, first_said, get_or, inl, inr, IsSome, List, None, none_says, Option, option_or, place_decides, refl, said_from, same_Some, Some, subst, suc, sym, true, zero, ℕ, ◌∙◌}
-use Rattle.load_places.specs.{declared.places.Scope.{Scope, TheVariants.{Fleet, Host}}, Levels.{first_level, IsLevel, level_for, level_in, levels, Viewer}, Places.{PlaceParts}}
+use Rattle.load_places.specs.{declared.{places.Scope.{Scope, TheVariants.{Fleet, Host}}, viewers.Viewer.{Viewer}}, Levels.{first_level, IsLevel, level_for, level_in, levels}, Places.{PlaceParts}}
 
 -- the least level that says something decides
 abbrev pub LeastLevelDecides : Type 0 → Type 0
@@ -14,28 +14,28 @@ UndefinedEverywhere B = (f : ℕ → Option B) → (first_level f ≡ None) ↔ 
 -- ---- which places come first
 
 -- what is in a scope is looked at: the fleet's always, and a host's where that very host looks
-abbrev pub IsLookedAt : Viewer → Scope → Type 0
+abbrev pub IsLookedAt : Option (List ℕ) → Scope → Type 0
 IsLookedAt host scope = (scope ≡ Fleet) ⊎ ((name : List ℕ) × (host ≡ Some name) × (scope ≡ Host name))
 
 -- those places have a level, and no others: none of another host's has one, nor any host's where no host looks
 abbrev pub PlacesLookedAtHaveLevels : Type 0
-PlacesLookedAtHaveLevels = (host : Viewer) (place : PlaceParts) → IsSome (level_for host place) ↔ IsLookedAt host place.scope
+PlacesLookedAtHaveLevels = (viewer : Viewer) (place : PlaceParts) → IsSome (level_for viewer place) ↔ IsLookedAt viewer.host place.scope
 
 -- in the directories of the load path it is one of the levels
 abbrev pub LevelsOfDirectories : Type 0
-LevelsOfDirectories = (host : Viewer) (place : PlaceParts) (level : ℕ) → place.path.rank < 4 → level_for host place ≡ Some level
+LevelsOfDirectories = (viewer : Viewer) (place : PlaceParts) (level : ℕ) → place.path.rank < 4 → level_for viewer place ≡ Some level
     → IsLevel level
 
 -- a place in a directory of a lesser rank goes before each of a greater rank, so the fleet's too before a host's own
 abbrev pub LesserRanksGoFirst : Type 0
-LesserRanksGoFirst = (host : Viewer) (p q : PlaceParts) (a b : ℕ) → p.path.rank < q.path.rank
-    → level_for host p ≡ Some a → level_for host q ≡ Some b → a < b
+LesserRanksGoFirst = (viewer : Viewer) (p q : PlaceParts) (a b : ℕ) → p.path.rank < q.path.rank
+    → level_for viewer p ≡ Some a → level_for viewer q ≡ Some b → a < b
 
 -- a host's own place goes before the fleet's in the directory of the same rank
 abbrev pub OwnPlacesGoFirst : Type 0
 OwnPlacesGoFirst =
-    (host : Viewer) (own fleets : PlaceParts) (name : List ℕ) (a b : ℕ) → own.scope ≡ Host name → fleets.scope ≡ Fleet
-    → own.path.rank ≡ fleets.path.rank → level_for host own ≡ Some a → level_for host fleets ≡ Some b → a < b
+    (viewer : Viewer) (own fleets : PlaceParts) (name : List ℕ) (a b : ℕ) → own.scope ≡ Host name → fleets.scope ≡ Fleet
+    → own.path.rank ≡ fleets.path.rank → level_for viewer own ≡ Some a → level_for viewer fleets ≡ Some b → a < b
 
 -- each level stands at its own place in the list
 pub level_is : (level other : ℕ) → IsLevel level → get_or levels level other ≡ level
@@ -94,13 +94,13 @@ own_level looks name rank a = by (bytes_eq name looks) refl
     by false t e = cc (e)
 
 -- a level is twice the rank, or one more
-near_rank : (host : Viewer) (scope : Scope) (rank a : ℕ) → level_in host scope rank ≡ Some a → (rank + rank ≤ a) × (a ≤ rank + rank + 1)
+near_rank : (host : Option (List ℕ)) (scope : Scope) (rank a : ℕ) → level_in host scope rank ≡ Some a → (rank + rank ≤ a) × (a ≤ rank + rank + 1)
 near_rank host Fleet rank a e = let is = same_Some _ _ e in (omega (arith, is), omega (arith, is))
 near_rank None (Host name) rank a e = cc (e)
 near_rank (Some looks) (Host name) rank a e = let is = (own_level looks name rank a e).1 in (omega (arith, is), omega (arith, is))
 
 pub places_looked_at_have_levels : PlacesLookedAtHaveLevels
-places_looked_at_have_levels host place = by host place.scope
+places_looked_at_have_levels viewer place = by viewer.host place.scope
   where
     named : (looks name : List ℕ) → IsSome (level_in (Some looks) (Host name) place.path.rank) → name ≡ looks
     named looks name = at (bytes_eq name looks) refl
@@ -109,7 +109,7 @@ places_looked_at_have_levels host place = by host place.scope
         at true t is = (bytes_eq-Decides name looks).0 t
         at false t is = cc (is)
 
-    by : (host : Viewer) (scope : Scope) → IsSome (level_in host scope place.path.rank) ↔ IsLookedAt host scope
+    by : (host : Option (List ℕ)) (scope : Scope) → IsSome (level_in host scope place.path.rank) ↔ IsLookedAt host scope
     by host Fleet = (λ _. inl refl, λ _. refl)
     by None (Host name) = (λ is. cc (is), λ at. absurd (nobodys name at))
       where
@@ -125,21 +125,21 @@ places_looked_at_have_levels host place = by host place.scope
             subst (λ b. IsSome (cond b (Some (place.path.rank + place.path.rank)) None)) (sym ((bytes_eq-Decides name looks).1 e)) refl
 
 pub levels_of_directories : LevelsOfDirectories
-levels_of_directories host place level within is = let near = near_rank host place.scope place.path.rank level is in omega (arith, near.1)
+levels_of_directories viewer place level within is = let near = near_rank viewer.host place.scope place.path.rank level is in omega (arith, near.1)
 
 pub lesser_ranks_go_first : LesserRanksGoFirst
-lesser_ranks_go_first host p q a b lesser first second =
-    let near = near_rank host p.scope p.path.rank a first in
-    let far = near_rank host q.scope q.path.rank b second in
+lesser_ranks_go_first viewer p q a b lesser first second =
+    let near = near_rank viewer.host p.scope p.path.rank a first in
+    let far = near_rank viewer.host q.scope q.path.rank b second in
     omega (arith, near.1, far.0)
 
 pub own_places_go_first : OwnPlacesGoFirst
-own_places_go_first host own fleets name a b its fleet same first second =
-    by host (sym (ap (λ (s : Scope). level_in host s own.path.rank) its) ∙ first)
+own_places_go_first viewer own fleets name a b its fleet same first second =
+    by viewer.host (sym (ap (λ (s : Scope). level_in viewer.host s own.path.rank) its) ∙ first)
   where
     after : b ≡ fleets.path.rank + fleets.path.rank + 1
-    after = sym (same_Some _ _ (sym (ap (λ (s : Scope). level_in host s fleets.path.rank) fleet) ∙ second))
+    after = sym (same_Some _ _ (sym (ap (λ (s : Scope). level_in viewer.host s fleets.path.rank) fleet) ∙ second))
 
-    by : (host : Viewer) → level_in host (Host name) own.path.rank ≡ Some a → a < b
+    by : (host : Option (List ℕ)) → level_in host (Host name) own.path.rank ≡ Some a → a < b
     by None e = cc (e)
     by (Some looks) e = let is = (own_level looks name own.path.rank a e).1 in omega (arith, is, after, same)

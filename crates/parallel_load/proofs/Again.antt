@@ -203,13 +203,13 @@ module _ (s t : HostViewMap) (folders : List (List ℕ)) (ms : List (Name × ℕ
 
 -- ---- the load
 
-module _ (load : LoadMap) (now : EntryMap) (touched : List PlaceParts) (b : IsBefore load now touched) (keep : All (KeepsLinkTargets load.host load.words (host_view_of now load.host)) touched)
-    (folders : List (List ℕ)) (has : All (HasParts load.host folders) touched) (table : List (List Dependency)) (ms : List (Name × ℕ)) (kept : IsKept load.names load.named table ms) where
+module _ (load : LoadMap) (now : EntryMap) (touched : List PlaceParts) (b : IsBefore load now touched) (keep : All (KeepsLinkTargets load.viewer load.words (host_view_of now load.viewer)) touched)
+    (folders : List (List ℕ)) (has : All (HasParts load.viewer folders) touched) (table : List (List Dependency)) (ms : List (Name × ℕ)) (kept : IsKept load.names load.named table ms) where
   abbrev s : HostViewMap
-  s = host_view_of b.before load.host
+  s = host_view_of b.before load.viewer
 
   abbrev t : HostViewMap
-  t = host_view_of now load.host
+  t = host_view_of now load.viewer
 
   abbrev olds : List Normalized
   olds = kept.all
@@ -321,12 +321,12 @@ module _ (load : LoadMap) (now : EntryMap) (touched : List PlaceParts) (b : IsBe
         (let P : ℕ → Type 0 = λ k. k ≤ 4096 in subst P (keys_length (map row_alone news)) few_again)
         indexed_again refl (made_of ms news (all_normalized t folders ms olds news again rows.normalized))
 
-    rows_load : (new : LoadMap) → new.host ≡ load.host → new.extra ≡ load.extra → new.names ≡ name_loads news → new.named ≡ name_lists news → new.words ≡ load.words
+    rows_load : (new : LoadMap) → new.viewer ≡ load.viewer → new.extra ≡ load.extra → new.names ≡ name_loads news → new.named ≡ name_lists news → new.words ≡ load.words
         → IsLoad t load.extra new
-    rows_load new host extra names named words =
+    rows_load new viewer extra names named words =
         let P : List (Name × NameLoad) → Type 0 = λ ps. AreNormalized (map row_alone news) ps new.named in
         let Q : List (List DependencyList) → Type 0 = λ ls. AreNormalized (map row_alone news) (name_loads news) ls in
-        load_is t load.extra (map row_alone news) found_again new (host ∙ sym (one_viewer now load.host)) extra
+        load_is t load.extra (map row_alone news) found_again new (viewer ∙ sym (one_viewer now load.viewer)) extra
         (subst P (sym names) (subst Q (sym named) ready_again.normalized))
         (subst (AreOwnLinkTargets t) (sym words) (words_stay load now touched b keep))
 
@@ -359,8 +359,8 @@ module _ (load : LoadMap) (now : EntryMap) (touched : List PlaceParts) (b : IsBe
         let R : List (List Dependency) → Type 0 = λ ds. IsKept (name_loads all) (name_lists all) ds ms in
         subst P loads_are (subst Q lists_are (subst R (indices_with s t folders ms olds news again_here ∙ sym kept.table_is) (ready_again all all_again).kept))
 
-    pub load_again : (new : LoadMap) → new.host ≡ load.host → new.extra ≡ load.extra → new.names ≡ news → new.named ≡ load.named → new.words ≡ load.words → IsLoad t load.extra new
-    load_again new host extra names named words = rows_load all all_again new host extra (names ∙ sym loads_are) (named ∙ sym lists_are) words
+    pub load_again : (new : LoadMap) → new.viewer ≡ load.viewer → new.extra ≡ load.extra → new.names ≡ news → new.named ≡ load.named → new.words ≡ load.words → IsLoad t load.extra new
+    load_again new viewer extra names named words = rows_load all all_again new viewer extra (names ∙ sym loads_are) (named ∙ sym lists_are) words
 
     pub few_is : ¬ IsTooLarge t load.extra
     few_is = rows_few all all_again

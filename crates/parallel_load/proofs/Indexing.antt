@@ -307,14 +307,14 @@ is_ready found pairs ms all sorted whole few indexed e f =
     })
 
 -- and the load is made of it
-pub normalized_load : {F : Type 0} (found : List (Name × NameLoad)) (all : List Normalized) (host : Viewer) (extra : List Name) (words : NamedWords) → AreNormalized found (name_loads all) (name_lists all)
-    → (r : Result LoadMap F) → IfOk r (λ load. load.host ≡ host) → IfOk r (λ load. load.extra ≡ extra) → IfOk r (λ load. load.names ≡ name_loads all) → IfOk r (λ load. load.named ≡ name_lists all)
-    → IfOk r (λ load. load.words ≡ words) → IfOk r (IsNormalizedLoad found host extra words)
-normalized_load found all host extra words h (Ok load) own asked e f kept =
+pub normalized_load : {F : Type 0} (found : List (Name × NameLoad)) (all : List Normalized) (viewer : Viewer) (extra : List Name) (words : NamedWords) → AreNormalized found (name_loads all) (name_lists all)
+    → (r : Result LoadMap F) → IfOk r (λ load. load.viewer ≡ viewer) → IfOk r (λ load. load.extra ≡ extra) → IfOk r (λ load. load.names ≡ name_loads all) → IfOk r (λ load. load.named ≡ name_lists all)
+    → IfOk r (λ load. load.words ≡ words) → IfOk r (IsNormalizedLoad found viewer extra words)
+normalized_load found all viewer extra words h (Ok load) own asked e f kept =
     let P : List (Name × NameLoad) → Type 0 = λ names. AreNormalized found names load.named in
     let Q : List (List DependencyList) → Type 0 = λ named. AreNormalized found (name_loads all) named in
-    record { host_is = own; extra_is = asked; normalized = subst P (sym e) (subst Q (sym f) h); words_are = kept }
-normalized_load found all host extra words h (Err x) own asked e f kept = tt
+    record { viewer_is = own; extra_is = asked; normalized = subst P (sym e) (subst Q (sym f) h); words_are = kept }
+normalized_load found all viewer extra words h (Err x) own asked e f kept = tt
 
 -- ---- how indices are found
 

@@ -133,9 +133,9 @@ module _ (s : HostViewMap) (extra : List Name) (found : List (Name × NameLoad))
   whole_found = whole_from s found f.loaded next
 
   -- and is the load, once names are replaced by main names
-  pub load_is : (load : LoadMap) → load.host ≡ viewer_of s → load.extra ≡ extra → AreNormalized found load.names load.named → AreOwnLinkTargets s load.words → IsLoad s extra load
-  load_is load host asked normalized words = record {
-    host_is = host;
+  pub load_is : (load : LoadMap) → load.viewer ≡ viewer_of s → load.extra ≡ extra → AreNormalized found load.names load.named → AreOwnLinkTargets s load.words → IsLoad s extra load
+  load_is load viewer asked normalized words = record {
+    viewer_is = viewer;
     extra_is = asked;
     universe = subst (AreUniverse s extra)
         (sym (ap (λ (ps : List (Name × NameLoad)). keys_of ps) normalized.names_are ∙ normalized_keys normalized.mains found)) f.universe;
@@ -146,8 +146,8 @@ module _ (s : HostViewMap) (extra : List Name) (found : List (Name × NameLoad))
   }
 
   -- made of it for the host that looks, with the link targets that it sees
-  pub load_made : (host : Viewer) (words : NamedWords) (load : LoadMap) → host ≡ viewer_of s → AreOwnLinkTargets s words → IsNormalizedLoad found host extra words load → IsLoad s extra load
-  load_made host words load e own made = load_is load (made.host_is ∙ e) made.extra_is made.normalized (subst (AreOwnLinkTargets s) (sym made.words_are) own)
+  pub load_made : (viewer : Viewer) (words : NamedWords) (load : LoadMap) → viewer ≡ viewer_of s → AreOwnLinkTargets s words → IsNormalizedLoad found viewer extra words load → IsLoad s extra load
+  load_made viewer words load e own made = load_is load (made.viewer_is ∙ e) made.extra_is made.normalized (subst (AreOwnLinkTargets s) (sym made.words_are) own)
 
   -- which isn't too large
   pub not_too_large : ¬ IsTooLarge s extra

@@ -18,12 +18,12 @@ pub missed_unless : (folders : List (List ℕ)) (names : List (Name × NameLoad)
 missed_unless folders names affected i p (OfUnit u) all l none e = λ f a k. none (all f a i l p (record { unit = u; load_is = e; there = k }))
 missed_unless folders names affected i p (OfAlias m) all l none e = tt
 
-module _ (load : LoadMap) (now : EntryMap) (touched : List PlaceParts) (b : IsBefore load now touched) (keep : All (KeepsLinkTargets load.host load.words (host_view_of now load.host)) touched) where
+module _ (load : LoadMap) (now : EntryMap) (touched : List PlaceParts) (b : IsBefore load now touched) (keep : All (KeepsLinkTargets load.viewer load.words (host_view_of now load.viewer)) touched) where
   abbrev s : HostViewMap
-  s = host_view_of b.before load.host
+  s = host_view_of b.before load.viewer
 
   abbrev t : HostViewMap
-  t = host_view_of now load.host
+  t = host_view_of now load.viewer
 
   -- a place that the host sees and that didn't change shows the same
   untouched : (p : PlaceParts) → (IsAmong p touched → ⊥) → visible_at b.before p ≡ visible_at now p
@@ -36,8 +36,8 @@ module _ (load : LoadMap) (now : EntryMap) (touched : List PlaceParts) (b : IsBe
   -- the link targets of all names stay
   pub same_words : SameWords s t
   same_words =
-      touched_words_decide b.before now load.host touched b.rest
-      (λ p a e l. sym (words_are s load.words b.load_is.words p.path.name) ∙ all_among (KeepsLinkTargets load.host load.words t) touched p keep a l e)
+      touched_words_decide b.before now load.viewer touched b.rest
+      (λ p a e l. sym (words_are s load.words b.load_is.words p.path.name) ∙ all_among (KeepsLinkTargets load.viewer load.words t) touched p keep a l e)
 
   -- and so do the cached ones
   pub words_stay : AreOwnLinkTargets t load.words
@@ -50,14 +50,14 @@ module _ (load : LoadMap) (now : EntryMap) (touched : List PlaceParts) (b : IsBe
   pub same_mains : (n : Name) → main s n ≡ main t n
   same_mains = leads_decide_mains s t same_leads
 
-  module _ (folders : List (List ℕ)) (has : All (HasParts load.host folders) touched) where
+  module _ (folders : List (List ℕ)) (has : All (HasParts load.viewer folders) touched) where
     -- the views agree on what the changed parts don't affect
-    agree : (parts : List (List ℕ)) → ((f : List ℕ) → IsAmong f folders → ¬ IsAmong f parts) → StoresAgreeIn b.before now load.host parts
-    agree parts missed p (alone e a) l = untouched p (λ h. missed p.path.name ((all_among (HasParts load.host folders) touched p has h l).1 e) a)
-    agree parts missed p (within a) l = untouched p (λ h. missed p.path.folder (all_among (HasParts load.host folders) touched p has h l).0 a)
+    agree : (parts : List (List ℕ)) → ((f : List ℕ) → IsAmong f folders → ¬ IsAmong f parts) → StoresAgreeIn b.before now load.viewer parts
+    agree parts missed p (alone e a) l = untouched p (λ h. missed p.path.name ((all_among (HasParts load.viewer folders) touched p has h l).1 e) a)
+    agree parts missed p (within a) l = untouched p (λ h. missed p.path.folder (all_among (HasParts load.viewer folders) touched p has h l).0 a)
 
     unit_stays : (n : Name) (u : LoadedUnit) → IsMissed folders n (OfUnit u) → IsLoadAlone s n (OfUnit u) → IsLoadAlone t n (OfUnit u)
-    unit_stays n u missed is = store_footprints_decide b.before now load.host n u same_leads (agree (footprint n u.names) missed) is
+    unit_stays n u missed is = store_footprints_decide b.before now load.viewer n u same_leads (agree (footprint n u.names) missed) is
 
     alias_stays : (n m : Name) → IsAliasOf s n m → IsAliasOf t n m
     alias_stays n m a = record { main_is = sym (same_mains n) ∙ a.main_is; other = a.other }
@@ -102,20 +102,20 @@ held_is s n held at x (Some one) found e loaded v =
     subst P (sym v) (all_among (IsHeldOn s) held (n, x.1) loaded there)
 
 -- the parts of one more place
-pub parts_more : (host : Viewer) (old new : List (List ℕ)) (touched : List PlaceParts) (i : ℕ) (d x : PlaceParts) → i < length touched → x ≡ get_or touched i d
-    → AddsParts x.path old new → All (HasParts host old) (take i touched) → All (HasParts host new) (take (i + 1) touched)
-parts_more host old new touched i d x l e adds h =
+pub parts_more : (viewer : Viewer) (old new : List (List ℕ)) (touched : List PlaceParts) (i : ℕ) (d x : PlaceParts) → i < length touched → x ≡ get_or touched i d
+    → AddsParts x.path old new → All (HasParts viewer old) (take i touched) → All (HasParts viewer new) (take (i + 1) touched)
+parts_more viewer old new touched i d x l e adds h =
     let there : (f : List ℕ) → IsAmong f (old ++ adds.more) → IsAmong f new = λ f a. subst (λ (fs : List (List ℕ)). IsAmong f fs) (sym adds.added) a in
-    all_more (HasParts host new) touched i d x l e
-    (All-weaker (HasParts host old) (HasParts host new)
+    all_more (HasParts viewer new) touched i d x l e
+    (All-weaker (HasParts viewer old) (HasParts viewer new)
     (λ p k s. (there p.path.folder (IsAmong-append_left p.path.folder old adds.more (k s).0), λ z. there p.path.name (IsAmong-append_left p.path.name old adds.more ((k s).1 z)))) (take i touched) h)
     (λ s. (there x.path.folder (IsAmong-append_right x.path.folder old adds.more adds.folder), λ z. there x.path.name (IsAmong-append_right x.path.name old adds.more (adds.name z))))
 
 -- or of one that the host doesn't see
-pub parts_same : (host : Viewer) (parts : List (List ℕ)) (touched : List PlaceParts) (i : ℕ) (d x : PlaceParts) → i < length touched → x ≡ get_or touched i d
-    → is_some (level_for host x) ≡ false → All (HasParts host parts) (take i touched) → All (HasParts host parts) (take (i + 1) touched)
-parts_same host parts touched i d x l e f h =
-    all_more (HasParts host parts) touched i d x l e h (λ s. absurd (let wrong : false ≡ true = sym f ∙ s in cc (wrong)))
+pub parts_same : (viewer : Viewer) (parts : List (List ℕ)) (touched : List PlaceParts) (i : ℕ) (d x : PlaceParts) → i < length touched → x ≡ get_or touched i d
+    → is_some (level_for viewer x) ≡ false → All (HasParts viewer parts) (take i touched) → All (HasParts viewer parts) (take (i + 1) touched)
+parts_same viewer parts touched i d x l e f h =
+    all_more (HasParts viewer parts) touched i d x l e h (λ s. absurd (let wrong : false ≡ true = sym f ∙ s in cc (wrong)))
 
 -- ascending numbers don't descend
 pub indices_ascend : (xs : List ℕ) → IsStrictlySortedBy nat_cmp xs → (i j : ℕ) → i ≤ j → j < length xs → get_or xs i 0 ≤ get_or xs j 0

@@ -110,15 +110,15 @@ loads_again t folders ms affected names named news each count all read = by name
 
 -- ---- the load with them
 
-pub units_of : (load : LoadMap) (now : EntryMap) (touched : List PlaceParts) → IsBefore load now touched → All (KeepsLinkTargets load.host load.words (host_view_of now load.host)) touched
-    → (folders : List (List ℕ)) → All (HasParts load.host folders) touched → (p : Patches) → p.kept.named.items ≡ load.named → p.kept.words ≡ load.words
+pub units_of : (load : LoadMap) (now : EntryMap) (touched : List PlaceParts) → IsBefore load now touched → All (KeepsLinkTargets load.viewer load.words (host_view_of now load.viewer)) touched
+    → (folders : List (List ℕ)) → All (HasParts load.viewer folders) touched → (p : Patches) → p.kept.named.items ≡ load.named → p.kept.words ≡ load.words
     → IsKept load.names load.named p.kept.deps.items p.kept.mains → All (λ u. u.0 < length load.names) p.units.items
-    → (affected : List ℕ) → AreAffected folders load.names affected → AreReadOrLeft (host_view_of now load.host) p.kept.mains affected load.names load.named (with_loads load.names p.units.items) → AreSecondaryNames load.names p.kept.second
-    → AreUnitsOf (host_view_of now load.host) load p
+    → (affected : List ℕ) → AreAffected folders load.names affected → AreReadOrLeft (host_view_of now load.viewer) p.kept.mains affected load.names load.named (with_loads load.names p.units.items) → AreSecondaryNames load.names p.kept.second
+    → AreUnitsOf (host_view_of now load.viewer) load p
 units_of load now touched b keep folders has p named words kept within affected all read second =
     let news : List (Name × NameLoad) = with_loads load.names p.units.items in
-    let again : AreLoadsAgain (host_view_of now load.host) folders p.kept.mains load.names load.named news =
-    loads_again (host_view_of now load.host) folders p.kept.mains affected load.names load.named news (one_each load.names load.named p.kept.deps.items p.kept.mains kept) (with_length load.names p.units.items) all read in
+    let again : AreLoadsAgain (host_view_of now load.viewer) folders p.kept.mains load.names load.named news =
+    loads_again (host_view_of now load.viewer) folders p.kept.mains affected load.names load.named news (one_each load.names load.named p.kept.deps.items p.kept.mains kept) (with_length load.names p.units.items) all read in
     let stays : IsKept news load.named p.kept.deps.items p.kept.mains = kept_again load now touched b keep folders has p.kept.deps.items p.kept.mains kept news again in
     record {
       fit = record {
@@ -127,7 +127,7 @@ units_of load now touched b keep folders has p named words kept within affected 
         within = within;
         kept = stays;
         second =
-            second_again (host_view_of now load.host) p.kept.mains affected load.names load.named news p.kept.second
+            second_again (host_view_of now load.viewer) p.kept.mains affected load.names load.named news p.kept.second
             (owns load now touched b keep folders has p.kept.deps.items p.kept.mains kept) (with_length load.names p.units.items) read second;
       };
       is_load = load_again load now touched b keep folders has p.kept.deps.items p.kept.mains kept news again (patched_load load p.units.items) refl refl refl refl refl;
@@ -164,5 +164,5 @@ pub not_false : (b : Bool) → not b ≡ false → b ≡ true
 not_false true h = refl
 not_false false h = cc (h)
 
-pub load_is : (load made : LoadMap) → made.host ≡ load.host → made.extra ≡ load.extra → made.names ≡ load.names → made.named ≡ load.named → made.words ≡ load.words → made ≡ load
-load_is load made host extra names named words = λ i. record { host = host i; extra = extra i; names = names i; named = named i; words = words i }
+pub load_is : (load made : LoadMap) → made.viewer ≡ load.viewer → made.extra ≡ load.extra → made.names ≡ load.names → made.named ≡ load.named → made.words ≡ load.words → made ≡ load
+load_is load made viewer extra names named words = λ i. record { viewer = viewer i; extra = extra i; names = names i; named = named i; words = words i }

@@ -49,7 +49,7 @@ module _ (s : HostViewMap) (a b : List Name) (there : AreSources s a b) (back : 
 
   same_load : (load : LoadMap) → IsLoad s a load → IsLoad s b (asked_for b load)
   same_load load l = record {
-    host_is = l.host_is;
+    viewer_is = l.viewer_is;
     extra_is = refl;
     universe = same_universe _ l.universe;
     loaded = l.loaded;

@@ -1,16 +1,16 @@
 -- Laws of hosts: where two views have equal alias words and the same units, a load of one is a load of the other, but for its
 -- host; so a host at whose places nothing is visible loads what is loaded without one.
 use Rattle.std.proofs.Common.{◌↔◌, ◌∷◌, ◌≡◌}
-use Rattle.parallel_load.specs.Prelude.{[], All-weaker, DependencyList, EntryMap, Host, host_view_of, hosts_without_places_have_these_units, hosts_without_places_name_alike, HostViewMap, inl, inr, IsUnit, keys_of, leads_decide_mains, link_targets_decide, List, LoadedUnit, main, Name, None, own_path, refl, same_reached, same_sights, SameLeads, SameWords, ShowsNothing, Some, subst, sym, Viewer, viewer_of, views_decide_link_targets, ℕ, ◌∙◌}
+use Rattle.parallel_load.specs.Prelude.{[], All-weaker, DependencyList, EntryMap, Host, host_view_of, hosts_without_places_have_these_units, hosts_without_places_name_alike, HostViewMap, inl, inr, IsUnit, keys_of, leads_decide_mains, link_targets_decide, List, LoadedUnit, main, Name, of_fleet, of_host, own_path, Profile, refl, same_reached, same_sights, SameLeads, SameWords, ShowsNothing, subst, sym, Viewer, viewer_of, views_decide_link_targets, ℕ, ◌∙◌}
 use Rattle.parallel_load.specs.{Alone.{IsAliasOf, IsLoadAlone}, declared.loaded.NameLoad.{NameLoad, TheVariants.{Alias as OfAlias, Unit as OfUnit}}, Loads.{AreNamedAlone, IsLoad, IsLoadedUnit, IsNameLoad, LoadMap, with_lists}, OwnWordLaws.{words_again}, StableLoadLaws.{by_mains_same, KeepsItsNames, same_names_keep_the_universe, words_keep_visible_names}, Universe.{AreUniverse, IsInUniverse, IsSource, IsTooLarge, LeadsTo}, UniverseLaws.{mains_have_units}}
 
 -- the units of one view are those of the other
 abbrev pub UnitsStay : HostViewMap → HostViewMap → Type 0
 UnitsStay s t = (n : Name) (unit : LoadedUnit) → IsUnit s n unit → IsUnit t n unit
 
--- the same that is loaded, for this host or without one
+-- the same that is loaded, for this viewer
 abbrev pub loaded_for : Viewer → LoadMap → LoadMap
-loaded_for host load = record load { host = host }
+loaded_for viewer load = record load { viewer = viewer }
 
 -- Views with equal alias words and the same units have the same load, but for the host.
 abbrev pub SameUnitsMakeTheLoad : Type 0
@@ -21,14 +21,14 @@ SameUnitsMakeTheLoad =
 -- A host at whose places nothing is visible loads what is loaded without one.
 abbrev pub HostsWithoutPlacesLoadAlike : Type 0
 HostsWithoutPlacesLoadAlike =
-    (s : EntryMap) (host : List ℕ) → ShowsNothing s (Host host) → (extra : List Name) (load : LoadMap)
-    → IsLoad (host_view_of s (Some host)) extra (loaded_for (Some host) load) ↔ IsLoad (host_view_of s None) extra (loaded_for None load)
+    (s : EntryMap) (host : List ℕ) (profile : Profile) → ShowsNothing s (Host host) → (extra : List Name) (load : LoadMap)
+    → IsLoad (host_view_of s (of_host host profile)) extra (loaded_for (of_host host profile) load) ↔ IsLoad (host_view_of s (of_fleet profile)) extra (loaded_for (of_fleet profile) load)
 
 -- And as much of it must be loaded.
 abbrev pub HostsWithoutPlacesAreAsLarge : Type 0
 HostsWithoutPlacesAreAsLarge =
-    (s : EntryMap) (host : List ℕ) → ShowsNothing s (Host host) → (extra : List Name)
-    → IsTooLarge (host_view_of s (Some host)) extra ↔ IsTooLarge (host_view_of s None) extra
+    (s : EntryMap) (host : List ℕ) (profile : Profile) → ShowsNothing s (Host host) → (extra : List Name)
+    → IsTooLarge (host_view_of s (of_host host profile)) extra ↔ IsTooLarge (host_view_of s (of_fleet profile)) extra
 
 -- ---- the same units make the load
 
@@ -84,7 +84,7 @@ module _ (s t : HostViewMap) (words : SameWords s t) (unit_stays : UnitsStay s t
         let P : Name × NameLoad → Type 0 = λ p. IsNameLoad s p.0 p.1 in
         let Q : Name × NameLoad → Type 0 = λ p. IsNameLoad t p.0 p.1 in
         record {
-          host_is = refl;
+          viewer_is = refl;
           extra_is = l.extra_is;
           universe = universe_stays;
           loaded = All-weaker P Q (λ p h. name_stays p.0 p.1 h) load.names l.loaded;
@@ -97,26 +97,26 @@ same_units_make_the_load s t extra load words units l = load_stays s t words uni
 
 -- ---- a host without places
 
-module _ (s : EntryMap) (host : List ℕ) (none : ShowsNothing s (Host host)) where
+module _ (s : EntryMap) (host : List ℕ) (profile : Profile) (none : ShowsNothing s (Host host)) where
   abbrev hosts : HostViewMap
-  hosts = host_view_of s (Some host)
+  hosts = host_view_of s (of_host host profile)
 
   abbrev fleets : HostViewMap
-  fleets = host_view_of s None
+  fleets = host_view_of s (of_fleet profile)
 
   own_link_targets : SameWords hosts fleets
-  own_link_targets n = views_decide_link_targets hosts fleets n (λ l h. same_sights s host none (own_path n l))
+  own_link_targets n = views_decide_link_targets hosts fleets n (λ l h. same_sights s host profile none (own_path n l))
 
   fleets_words : SameWords fleets hosts
   fleets_words n = sym (own_link_targets n)
 
   loads_alike : (extra : List Name) (load : LoadMap)
-      → IsLoad hosts extra (loaded_for (Some host) load) ↔ IsLoad fleets extra (loaded_for None load)
+      → IsLoad hosts extra (loaded_for (of_host host profile) load) ↔ IsLoad fleets extra (loaded_for (of_fleet profile) load)
   loads_alike extra load = (
-    same_units_make_the_load hosts fleets extra (loaded_for (Some host) load) own_link_targets
-        (λ n unit. (hosts_without_places_have_these_units s host none n unit).0),
-    same_units_make_the_load fleets hosts extra (loaded_for None load) fleets_words
-        (λ n unit. (hosts_without_places_have_these_units s host none n unit).1),
+    same_units_make_the_load hosts fleets extra (loaded_for (of_host host profile) load) own_link_targets
+        (λ n unit. (hosts_without_places_have_these_units s host profile none n unit).0),
+    same_units_make_the_load fleets hosts extra (loaded_for (of_fleet profile) load) fleets_words
+        (λ n unit. (hosts_without_places_have_these_units s host profile none n unit).1),
   )
 
   mains_alike : (n : Name) → main hosts n ≡ main fleets n
@@ -139,13 +139,13 @@ module _ (s : EntryMap) (host : List ℕ) (none : ShowsNothing s (Host host)) wh
       to : LeadsTo hosts n m → LeadsTo fleets n m
       to (inl e) = inl (sym (mains_alike n) ∙ e)
       to (inr h) =
-          let named = (hosts_without_places_name_alike s host none n h.dep m).0 h.named in
+          let named = (hosts_without_places_name_alike s host profile none n h.dep m).0 h.named in
           inr (record { own = sym (mains_alike n) ∙ h.own; dep = h.dep; named = named })
 
       from : LeadsTo fleets n m → LeadsTo hosts n m
       from (inl e) = inl (mains_alike n ∙ e)
       from (inr h) =
-          let named = (hosts_without_places_name_alike s host none n h.dep m).1 h.named in
+          let named = (hosts_without_places_name_alike s host profile none n h.dep m).1 h.named in
           inr (record { own = mains_alike n ∙ h.own; dep = h.dep; named = named })
 
   large_alike : (extra : List Name) → IsTooLarge hosts extra ↔ IsTooLarge fleets extra
@@ -159,7 +159,7 @@ module _ (s : EntryMap) (host : List ℕ) (none : ShowsNothing s (Host host)) wh
           same_reached (IsSource hosts extra) (IsSource fleets extra) (LeadsTo hosts) (LeadsTo fleets) (sources_alike extra) steps_alike
 
 pub hosts_without_places_load_alike : HostsWithoutPlacesLoadAlike
-hosts_without_places_load_alike s host none = loads_alike s host none
+hosts_without_places_load_alike s host profile none = loads_alike s host profile none
 
 pub hosts_without_places_are_as_large : HostsWithoutPlacesAreAsLarge
-hosts_without_places_are_as_large s host none = large_alike s host none
+hosts_without_places_are_as_large s host profile none = large_alike s host profile none

@@ -32,8 +32,8 @@ pub one_load : OneLoad
 one_load s extra a b p q =
     let nodes = one_closure (IsSource s extra) (LeadsTo s) name_cmp nat_list_cmp_total (keys_of a.names) (keys_of b.names) p.universe q.universe in
     let names = one_load_of_nodes (IsNameLoad s) (one_name_load s) a.names b.names nodes p.loaded q.loaded in
-    let host = p.host_is ∙ sym q.host_is in
+    let viewer = p.viewer_is ∙ sym q.viewer_is in
     let asked = p.extra_is ∙ sym q.extra_is in
     let named = one_named s a.names a.named b.named p.named (subst (λ (ps : List (Name × NameLoad)). AreNamedAlone s ps b.named) (sym names) q.named) in
     let words = one_list_of_words s a.words b.words p.words q.words in
-    (λ i. record { host = host i; extra = asked i; names = names i; named = named i; words = words i })
+    (λ i. record { viewer = viewer i; extra = asked i; names = names i; named = named i; words = words i })

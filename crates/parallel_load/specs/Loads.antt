@@ -1,8 +1,9 @@
 -- The load of a store: for each name of the universe its unit, or the main name of which it is an alias.
 -- Source: systemd.unit(5), "Description"; that dependencies are given by main names is this project's own.
 use Rattle.std.proofs.Common.{◌∷◌, ◌≡◌}
-use Rattle.parallel_load.specs.Prelude.{[], AreLoaded, code_by, Coded, coded_list, coded_option, coded_ℕ, coded×, DependencyList, filter, filter_map, find, HostViewMap, in_byte_order, is_same, IsUnit, keys_of, List, LoadedUnit, main, map, Name, name_cmp, NamedWords, None, not, Option, option_and_then, option_map, refl, Some, Viewer, viewer_of}
+use Rattle.parallel_load.specs.Prelude.{[], AreLoaded, code_by, Coded, coded_list, coded_ℕ, coded×, DependencyList, filter, filter_map, find, HostViewMap, in_byte_order, is_same, IsUnit, keys_of, List, LoadedUnit, main, map, Name, name_cmp, NamedWords, None, not, Option, option_and_then, option_map, refl, Some, Viewer, viewer_of}
 use Rattle.parallel_load.specs.{Alone.{IsAliasOf, IsLoadAlone}, declared.loaded.NameLoad.{NameLoad, TheVariants.{Alias as OfAlias, Unit as OfUnit}}, OwnLinkTargets.{AreOwnLinkTargets, coded_named_words}, Universe.{AreUniverse}}
+use Rattle.load_places.specs.contracts.viewers.Viewer as viewer
 use Rattle.setting_rules.specs.contracts.dependency_lists.DependencyList as list
 use Rattle.parallel_load.specs.contracts.loaded.NameLoad as one
 
@@ -58,11 +59,11 @@ AreNamedAlone s (p ∷ ps) (l ∷ ls) = IsNamedAlone s p.0 p.1 l × AreNamedAlon
 
 -- ---- the load
 
--- A load: its host, if it is for one; the names that were asked for; all names in byte order, each with what it
+-- A load: who it is for; the names that were asked for; all names in byte order, each with what it
 -- resolves to; for each name the lists of what it names, before names are replaced by main names; and the link targets
 -- at paths of one component.
 pub record LoadMap : Type 0 where
-  pub host : Viewer
+  pub viewer : Viewer
   pub extra : List Name
   pub names : List (Name × NameLoad)
   pub named : List (List DependencyList)
@@ -74,14 +75,14 @@ coded_name_load = (one.the_row).coded
 abbrev pub coded_load : Coded LoadMap
 coded_load =
     code_by (Viewer × (List Name × (List (Name × NameLoad) × (List (List DependencyList) × NamedWords))))
-    (coded× (coded_option (coded_list coded_ℕ))
+    (coded× (viewer.the_row).coded
     (coded× (coded_list (coded_list coded_ℕ)) (coded× (coded_list (coded× (coded_list coded_ℕ) (one.the_row).coded)) (coded× (coded_list (coded_list (list.the_row).coded)) coded_named_words))))
-    (λ l. (l.host, (l.extra, (l.names, (l.named, l.words)))))
-    (λ p. record { host = p.0; extra = p.1.0; names = p.1.1.0; named = p.1.1.1.0; words = p.1.1.1.1 }) (λ _. refl)
+    (λ l. (l.viewer, (l.extra, (l.names, (l.named, l.words)))))
+    (λ p. record { viewer = p.0; extra = p.1.0; names = p.1.1.0; named = p.1.1.1.0; words = p.1.1.1.1 }) (λ _. refl)
 
 -- This is the load of what a host sees of a store, with these names asked for.
 pub record IsLoad (s : HostViewMap) (extra : List Name) (load : LoadMap) : Type 0 where
-  pub host_is : load.host ≡ viewer_of s
+  pub viewer_is : load.viewer ≡ viewer_of s
   pub extra_is : load.extra ≡ extra
   pub universe : AreUniverse s extra (keys_of load.names)
   pub loaded : AreLoaded (IsNameLoad s) load.names

@@ -7,7 +7,7 @@ use Rattle.parallel_load.specs.{Alone.{IsLoadAlone}, declared.loaded.NameLoad.{N
 -- The load was made from some store, and these places are all at which that store and this one show different contents.
 pub record IsBefore (load : LoadMap) (now : EntryMap) (touched : List PlaceParts) : Type 0 where
   pub before : EntryMap
-  pub load_is : IsLoad (host_view_of before load.host) load.extra load
+  pub load_is : IsLoad (host_view_of before load.viewer) load.extra load
   pub rest : (p : PlaceParts) → IsAmong p touched ⊎ (visible_at before p ≡ visible_at now p)
 
 -- ---- what stays

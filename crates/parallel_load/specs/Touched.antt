@@ -5,11 +5,11 @@ use Rattle.parallel_load.specs.{OwnLinkTargets.{words_in}, Prelude.{[], HostView
 
 -- if the host sees the place and it is of one component, its name has the link targets that are cached for it
 abbrev pub KeepsLinkTargets : Viewer → NamedWords → HostViewMap → PlaceParts → Type 0
-KeepsLinkTargets host words now p = IsSome (level_for host p) → p.path.folder ≡ [] → words_in words p.path.name ≡ link_targets now p.path.name
+KeepsLinkTargets viewer words now p = IsSome (level_for viewer p) → p.path.folder ≡ [] → words_in words p.path.name ≡ link_targets now p.path.name
 
 -- if the host sees the place, its folder is among these; if that is empty, its name is too
 abbrev pub HasParts : Viewer → List (List ℕ) → PlaceParts → Type 0
-HasParts host parts p = IsSome (level_for host p) → IsAmong p.path.folder parts × (p.path.folder ≡ [] → IsAmong p.path.name parts)
+HasParts viewer parts p = IsSome (level_for viewer p) → IsAmong p.path.folder parts × (p.path.folder ≡ [] → IsAmong p.path.name parts)
 
 -- these parts of one path are appended
 pub record AddsParts (path : PathParts) (old new : List (List ℕ)) : Type 0 where

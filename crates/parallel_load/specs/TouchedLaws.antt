@@ -11,36 +11,36 @@ ShowTheSameBut s t touched = (place : PlaceParts) → IsAmong place touched ⊎ 
 
 -- at each of these places that the host sees and whose path has one component, the name has the same link targets
 abbrev pub WordsStayAt : EntryMap → EntryMap → Viewer → List PlaceParts → Type 0
-WordsStayAt s t host touched =
-    (place : PlaceParts) → IsAmong place touched → place.path.folder ≡ [] → IsSome (level_for host place)
-    → link_targets (host_view_of s host) place.path.name ≡ link_targets (host_view_of t host) place.path.name
+WordsStayAt s t viewer touched =
+    (place : PlaceParts) → IsAmong place touched → place.path.folder ≡ [] → IsSome (level_for viewer place)
+    → link_targets (host_view_of s viewer) place.path.name ≡ link_targets (host_view_of t viewer) place.path.name
 
 -- if link targets are the same at the changed places, those of all names are
 abbrev pub TouchedWordsDecide : Type 0
 TouchedWordsDecide =
-    (s t : EntryMap) (host : Viewer) (touched : List PlaceParts) → ShowTheSameBut s t touched → WordsStayAt s t host touched
-    → SameWords (host_view_of s host) (host_view_of t host)
+    (s t : EntryMap) (viewer : Viewer) (touched : List PlaceParts) → ShowTheSameBut s t touched → WordsStayAt s t viewer touched
+    → SameWords (host_view_of s viewer) (host_view_of t viewer)
 
 -- ---- the place of a path
 
 -- the places at even levels, or at odd ones
-abbrev looked_at : EntryMap → Viewer → Bool → Option PathMap
+abbrev looked_at : EntryMap → Option (List ℕ) → Bool → Option PathMap
 looked_at s host b = cond b (option_map (λ (o : Own). o.held) (option_map (own_of s) host)) (Some (scope_of s Fleet))
 
 -- the place of a path, by whether its level is even
-abbrev place_by : EntryMap → Viewer → Bool → PathParts → PlaceParts
+abbrev place_by : EntryMap → Option (List ℕ) → Bool → PathParts → PlaceParts
 place_by s host b p = record { scope = cond b (own_scope (option_map (own_of s) host)) Fleet; path = path_after p }
 
-module _ (s t : EntryMap) (host : Viewer) (p : PathParts) where
+module _ (s t : EntryMap) (viewer : Viewer) (p : PathParts) where
   -- stores that show the same at a path's place show the same at the path
-  place_decides : visible_at s (viewed_place (host_view_of s host) p) ≡ visible_at t (viewed_place (host_view_of s host) p)
-      → viewed_at (host_view_of s host) p ≡ viewed_at (host_view_of t host) p
+  place_decides : visible_at s (viewed_place (host_view_of s viewer) p) ≡ visible_at t (viewed_place (host_view_of s viewer) p)
+      → viewed_at (host_view_of s viewer) p ≡ viewed_at (host_view_of t viewer) p
   place_decides same =
-      ap (option_and_then shown) (get-view p (host_view_of s host))
-      ∙ by host (p.rank % 2 == 0) same
-      ∙ ap (option_and_then shown) (sym (get-view p (host_view_of t host)))
+      ap (option_and_then shown) (get-view p (host_view_of s viewer))
+      ∙ by viewer.host (p.rank % 2 == 0) same
+      ∙ ap (option_and_then shown) (sym (get-view p (host_view_of t viewer)))
     where
-      by : (host : Viewer) (b : Bool) → visible_at s (place_by s host b p) ≡ visible_at t (place_by s host b p)
+      by : (host : Option (List ℕ)) (b : Bool) → visible_at s (place_by s host b p) ≡ visible_at t (place_by s host b p)
           → option_and_then shown (option_and_then (λ (held : PathMap). finmap.get held (path_after p)) (looked_at s host b))
           ≡ option_and_then shown (option_and_then (λ (held : PathMap). finmap.get held (path_after p)) (looked_at t host b))
       by host false same =
@@ -54,10 +54,10 @@ module _ (s t : EntryMap) (host : Viewer) (p : PathParts) where
           ∙ ap (option_and_then shown) (sym (get-scope_of (Host h) t (path_after p)))
 
   -- and that place has a level
-  place_has_level : IsSome (level_for host (viewed_place (host_view_of s host) p))
-  place_has_level = by host (p.rank % 2 == 0)
+  place_has_level : IsSome (level_for viewer (viewed_place (host_view_of s viewer) p))
+  place_has_level = by viewer.host (p.rank % 2 == 0)
     where
-      by : (host : Viewer) (b : Bool) → IsSome (level_for host (place_by s host b p))
+      by : (host : Option (List ℕ)) (b : Bool) → IsSome (level_for (record viewer { host = host }) (place_by s host b p))
       by host false = refl
       by None true = refl
       by (Some h) true =
@@ -68,35 +68,35 @@ module _ (s t : EntryMap) (host : Viewer) (p : PathParts) where
 level_among : (l : ℕ) → IsLevel l → IsAmong l levels
 level_among l h = among_from_contains l levels (subst (Contains levels) (level_is l 0 h) (Contains-get_or levels l 0 h))
 
-module _ (s t : EntryMap) (host : Viewer) (touched : List PlaceParts) (but : ShowTheSameBut s t touched)
-    (stay : WordsStayAt s t host touched) (n : Name) where
+module _ (s t : EntryMap) (viewer : Viewer) (touched : List PlaceParts) (but : ShowTheSameBut s t touched)
+    (stay : WordsStayAt s t viewer touched) (n : Name) where
   abbrev Stays : Type 0
-  Stays = link_targets (host_view_of s host) n ≡ link_targets (host_view_of t host) n
+  Stays = link_targets (host_view_of s viewer) n ≡ link_targets (host_view_of t viewer) n
 
   -- at each level the host sees the same, or the link targets are equal, since the place is a changed one
-  at_level : (l : ℕ) → Stays ⊎ (viewed_at (host_view_of s host) (own_path n l) ≡ viewed_at (host_view_of t host) (own_path n l))
-  at_level l = by (but (viewed_place (host_view_of s host) (own_path n l)))
+  at_level : (l : ℕ) → Stays ⊎ (viewed_at (host_view_of s viewer) (own_path n l) ≡ viewed_at (host_view_of t viewer) (own_path n l))
+  at_level l = by (but (viewed_place (host_view_of s viewer) (own_path n l)))
     where
-      by : IsAmong (viewed_place (host_view_of s host) (own_path n l)) touched
-          ⊎ (visible_at s (viewed_place (host_view_of s host) (own_path n l)) ≡ visible_at t (viewed_place (host_view_of s host) (own_path n l)))
-          → Stays ⊎ (viewed_at (host_view_of s host) (own_path n l) ≡ viewed_at (host_view_of t host) (own_path n l))
-      by (inl among) = inl (stay (viewed_place (host_view_of s host) (own_path n l)) among refl (place_has_level s t host (own_path n l)))
-      by (inr same) = inr (place_decides s t host (own_path n l) same)
+      by : IsAmong (viewed_place (host_view_of s viewer) (own_path n l)) touched
+          ⊎ (visible_at s (viewed_place (host_view_of s viewer) (own_path n l)) ≡ visible_at t (viewed_place (host_view_of s viewer) (own_path n l)))
+          → Stays ⊎ (viewed_at (host_view_of s viewer) (own_path n l) ≡ viewed_at (host_view_of t viewer) (own_path n l))
+      by (inl among) = inl (stay (viewed_place (host_view_of s viewer) (own_path n l)) among refl (place_has_level s t viewer (own_path n l)))
+      by (inr same) = inr (place_decides s t viewer (own_path n l) same)
 
   at_levels : (ls : List ℕ)
-      → Stays ⊎ ((l : ℕ) → IsAmong l ls → viewed_at (host_view_of s host) (own_path n l) ≡ viewed_at (host_view_of t host) (own_path n l))
+      → Stays ⊎ ((l : ℕ) → IsAmong l ls → viewed_at (host_view_of s viewer) (own_path n l) ≡ viewed_at (host_view_of t viewer) (own_path n l))
   at_levels [] = inr (λ l a. absurd a)
   at_levels (k ∷ ks) = by (at_level k) (at_levels ks)
     where
-      pick : viewed_at (host_view_of s host) (own_path n k) ≡ viewed_at (host_view_of t host) (own_path n k)
-          → ((l : ℕ) → IsAmong l ks → viewed_at (host_view_of s host) (own_path n l) ≡ viewed_at (host_view_of t host) (own_path n l))
-          → (l : ℕ) → IsAmong l (k ∷ ks) → viewed_at (host_view_of s host) (own_path n l) ≡ viewed_at (host_view_of t host) (own_path n l)
-      pick e more l (inl i) = subst (λ j. viewed_at (host_view_of s host) (own_path n j) ≡ viewed_at (host_view_of t host) (own_path n j)) i e
+      pick : viewed_at (host_view_of s viewer) (own_path n k) ≡ viewed_at (host_view_of t viewer) (own_path n k)
+          → ((l : ℕ) → IsAmong l ks → viewed_at (host_view_of s viewer) (own_path n l) ≡ viewed_at (host_view_of t viewer) (own_path n l))
+          → (l : ℕ) → IsAmong l (k ∷ ks) → viewed_at (host_view_of s viewer) (own_path n l) ≡ viewed_at (host_view_of t viewer) (own_path n l)
+      pick e more l (inl i) = subst (λ j. viewed_at (host_view_of s viewer) (own_path n j) ≡ viewed_at (host_view_of t viewer) (own_path n j)) i e
       pick e more l (inr a) = more l a
 
-      by : Stays ⊎ (viewed_at (host_view_of s host) (own_path n k) ≡ viewed_at (host_view_of t host) (own_path n k))
-          → Stays ⊎ ((l : ℕ) → IsAmong l ks → viewed_at (host_view_of s host) (own_path n l) ≡ viewed_at (host_view_of t host) (own_path n l))
-          → Stays ⊎ ((l : ℕ) → IsAmong l (k ∷ ks) → viewed_at (host_view_of s host) (own_path n l) ≡ viewed_at (host_view_of t host) (own_path n l))
+      by : Stays ⊎ (viewed_at (host_view_of s viewer) (own_path n k) ≡ viewed_at (host_view_of t viewer) (own_path n k))
+          → Stays ⊎ ((l : ℕ) → IsAmong l ks → viewed_at (host_view_of s viewer) (own_path n l) ≡ viewed_at (host_view_of t viewer) (own_path n l))
+          → Stays ⊎ ((l : ℕ) → IsAmong l (k ∷ ks) → viewed_at (host_view_of s viewer) (own_path n l) ≡ viewed_at (host_view_of t viewer) (own_path n l))
       by (inl w) more = inl w
       by (inr e) (inl w) = inl w
       by (inr e) (inr more) = inr (pick e more)
@@ -104,9 +104,9 @@ module _ (s t : EntryMap) (host : Viewer) (touched : List PlaceParts) (but : Sho
   words_stay : Stays
   words_stay = by (at_levels levels)
     where
-      by : Stays ⊎ ((l : ℕ) → IsAmong l levels → viewed_at (host_view_of s host) (own_path n l) ≡ viewed_at (host_view_of t host) (own_path n l)) → Stays
+      by : Stays ⊎ ((l : ℕ) → IsAmong l levels → viewed_at (host_view_of s viewer) (own_path n l) ≡ viewed_at (host_view_of t viewer) (own_path n l)) → Stays
       by (inl w) = w
-      by (inr same) = views_decide_link_targets (host_view_of s host) (host_view_of t host) n (λ l h. same l (level_among l h))
+      by (inr same) = views_decide_link_targets (host_view_of s viewer) (host_view_of t viewer) n (λ l h. same l (level_among l h))
 
 pub touched_words_decide : TouchedWordsDecide
-touched_words_decide s t host touched but stay n = words_stay s t host touched but stay n
+touched_words_decide s t viewer touched but stay n = words_stay s t viewer touched but stay n

@@ -1,6 +1,6 @@
 //! Makes a load of what the closure found: names in byte order, and dependencies both by main names and by indices.
 ghost use Rattle.std.specs.{Prelude.{◌≡◌, ◌<◌, ◌≤◌, length, map, IfOk, IsTrue}, BTreeMap.{keys}, FinMap.{is_sorted}};
-ghost use Rattle.std.specs.{Option.{option_copied}, List.Sorted.{IsStrictlySortedBy}};
+ghost use Rattle.std.specs.{List.Sorted.{IsStrictlySortedBy}};
 ghost use Rattle.unit_name.specs.Names.{name_cmp};
 ghost use Rattle.parallel_load.specs.{LoadRows.{IsKept}, Indexing.{AreIndexed}, SecondaryNames.{AreSecondaryNames}};
 ghost use Rattle.parallel_load.specs.Normalized.{IsNormalizedLoad, IsWhole, name_lists, name_loads, name_indices, normalized_name};
@@ -11,7 +11,7 @@ use crate::mains::{Mains, Normalized};
 use crate::secondary_names::SecondaryNames;
 use crate::words::CachedLinkTargets;
 use plain_values::{Items, Shared, copied};
-use replica_store::HostName;
+use replica_store::Viewer;
 use std::alloc::{AllocError, Global};
 use std::collections::BTreeMap;
 use std::thread::Threads;
@@ -24,7 +24,7 @@ type Named = (UnitName, NameLoad);
 /// The load of what was found, with dependencies by main names. Fails only if memory runs out.
 pub(crate) fn normalized(
     alloc: Global,
-    host: Option<&HostName>,
+    viewer: &Viewer,
     extra: &[UnitName],
     words: Shared<CachedLinkTargets>,
     found: BTreeMap<UnitName, RawLoad>,
@@ -32,11 +32,11 @@ pub(crate) fn normalized(
     requires ascending { IsStrictlySortedBy name_cmp (keys found) }
     requires whole { IsWhole found.entries }
     requires few { length found.entries ≤ 4096 }
-    ensures load { IfOk result (IsNormalizedLoad found.entries (option_copied host.entry) extra.now words) }
+    ensures load { IfOk result (IsNormalizedLoad found.entries viewer.now extra.now words) }
 {
     let FoundNames { pairs, mains, read } = found_of(alloc, found)?;
     let names = mains.normalize_all(alloc, pairs)?;
-    load_of(alloc, host, extra, words, names, mains, read)
+    load_of(alloc, viewer, extra, words, names, mains, read)
 }
 
 /// The same load. Worker threads replace names by main names, each in one chunk of the load's names. May wait for
@@ -44,7 +44,7 @@ pub(crate) fn normalized(
 pub(crate) fn normalized_by_workers<R: Threads + Sync>(
     rt: &R,
     alloc: Global,
-    host: Option<&HostName>,
+    viewer: &Viewer,
     extra: &[UnitName],
     words: Shared<CachedLinkTargets>,
     found: BTreeMap<UnitName, RawLoad>,
@@ -54,11 +54,11 @@ pub(crate) fn normalized_by_workers<R: Threads + Sync>(
     requires ascending { IsStrictlySortedBy name_cmp (keys found) }
     requires whole { IsWhole found.entries }
     requires few { length found.entries ≤ 4096 }
-    ensures load { IfOk result (IsNormalizedLoad found.entries (option_copied host.entry) extra.now words) }
+    ensures load { IfOk result (IsNormalizedLoad found.entries viewer.now extra.now words) }
 {
     let FoundNames { pairs, mains, read } = found_of(alloc, found)?;
     let names = normalize_by_workers(rt, alloc, &mains, pairs, workers)?;
-    load_of(alloc, host, extra, words, names, mains, read)
+    load_of(alloc, viewer, extra, words, names, mains, read)
 }
 
 // What was found, in order, with the indices of the main names and the count of units that were read.
@@ -120,7 +120,7 @@ fn normalize_by_workers<R: Threads + Sync>(
 // The load of these names, which are in byte order, with the indices of their main names.
 fn load_of(
     alloc: Global,
-    host: Option<&HostName>,
+    viewer: &Viewer,
     extra: &[UnitName],
     words: Shared<CachedLinkTargets>,
     normalized: Vec<Normalized>,
@@ -128,7 +128,7 @@ fn load_of(
     fresh: u64,
 ) -> Result<Loaded, AllocError>
     requires kept { IsKept (name_loads normalized.items) (name_lists normalized.items) (name_indices normalized.items) mains }
-    ensures host { IfOk result (λ load. load.host ≡ option_copied host.entry) }
+    ensures viewer { IfOk result (λ load. load.viewer ≡ viewer.now) }
     ensures extra { IfOk result (λ load. load.extra ≡ extra.now) }
     ensures names { IfOk result (λ load. load.names ≡ name_loads normalized.items) }
     ensures named { IfOk result (λ load. load.named ≡ name_lists normalized.items) }
@@ -144,13 +144,13 @@ fn load_of(
         words,
     };
     let kept = Shared::new(alloc, kept)?;
-    load_with(alloc, host, extra, names, kept, fresh)
+    load_with(alloc, viewer, extra, names, kept, fresh)
 }
 
 // The load of these names, which are in byte order, with the data that is cached for them.
 fn load_with(
     alloc: Global,
-    host: Option<&HostName>,
+    viewer: &Viewer,
     extra: &[UnitName],
     names: Vec<Named>,
     kept: Shared<CachedRows>,
@@ -158,15 +158,15 @@ fn load_with(
 ) -> Result<Loaded, AllocError>
     requires kept { IsKept names.items kept.named.items kept.deps.items kept.mains }
     requires second { AreSecondaryNames names.items kept.second }
-    ensures host { IfOk result (λ load. load.host ≡ option_copied host.entry) }
+    ensures viewer { IfOk result (λ load. load.viewer ≡ viewer.now) }
     ensures extra { IfOk result (λ load. load.extra ≡ extra.now) }
     ensures names { IfOk result (λ load. load.names ≡ names.items) }
     ensures named { IfOk result (λ load. load.named ≡ kept.named.items) }
     ensures words { IfOk result (λ load. load.words ≡ kept.words) }
 {
-    let host = host.map(HostName::try_clone).transpose()?;
+    let viewer = viewer.try_clone()?;
     let extra = Items::from_vec(copied(alloc, extra)?);
-    Ok(Loaded::new(host, extra, names, kept, fresh))
+    Ok(Loaded::new(viewer, extra, names, kept, fresh))
 }
 
 /// A copy of a load: the names are copied, their units are shared. Fails only if memory runs out.
@@ -177,7 +177,7 @@ pub(crate) fn copy_of_load(loaded: &Loaded) -> Result<Loaded, AllocError>
     let names = copied(alloc, loaded.names())?;
     load_with(
         alloc,
-        loaded.host(),
+        loaded.viewer(),
         loaded.extra(),
         names,
         loaded.kept()?,

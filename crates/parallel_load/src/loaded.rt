@@ -9,7 +9,7 @@ use crate::mains::Mains;
 use crate::secondary_names::SecondaryNames;
 use crate::words::CachedLinkTargets;
 use plain_values::{Items, Shared, TryClone};
-use replica_store::HostName;
+use replica_store::Viewer;
 use setting_rules::DepKind;
 use sorted_pairs::seek;
 use std::alloc::{AllocError, Global};
@@ -54,11 +54,11 @@ pub struct Dependency {
     pub index: usize,
 }
 
-/// What is loaded from one store: the host, the names that were asked for, and what each name of the universe resolves
-/// to.
+/// What is loaded from one store: who it is for, the names that were asked for, and what each name of the universe
+/// resolves to.
 #[derive(Debug)]
 pub struct Loaded {
-    host: Option<HostName>,
+    viewer: Viewer,
     extra: Items<UnitName>,
     names: Vec<(UnitName, NameLoad)>,
     kept: Shared<CachedRows>,
@@ -68,7 +68,7 @@ pub struct Loaded {
 impl Drop for Loaded {
     fn drop(self) {
         let Loaded {
-            host: _,
+            viewer: _,
             extra: _,
             names: _,
             kept: _,
@@ -120,7 +120,7 @@ impl Model for Loaded {
 
     ghost coded = { coded_load };
 
-    ghost view = { λ l. record { host = l.host; extra = l.extra; names = l.names.items; named = l.kept.named.items; words = l.kept.words } };
+    ghost view = { λ l. record { viewer = l.viewer; extra = l.extra; names = l.names.items; named = l.kept.named.items; words = l.kept.words } };
 
     ghost invariant = { λ l. IsKept l.names.items l.kept.named.items l.kept.deps.items l.kept.mains × AreSecondaryNames l.names.items l.kept.second };
 }
@@ -128,7 +128,7 @@ impl Model for Loaded {
 impl Loaded {
     // The load of these names, which are in byte order. `fresh` counts the units that were read for it.
     pub(crate) fn new(
-        host: Option<HostName>,
+        viewer: Viewer,
         extra: Items<UnitName>,
         names: Vec<(UnitName, NameLoad)>,
         kept: Shared<CachedRows>,
@@ -136,10 +136,10 @@ impl Loaded {
     ) -> Loaded
         requires kept { IsKept names.items kept.named.items kept.deps.items kept.mains }
         requires second { AreSecondaryNames names.items kept.second }
-        ensures load { result ≡ record { host = host; extra = extra; names = names.items; named = kept.named.items; words = kept.words } }
+        ensures load { result ≡ record { viewer = viewer; extra = extra; names = names.items; named = kept.named.items; words = kept.words } }
     {
         Loaded {
-            host,
+            viewer,
             extra,
             names,
             kept,
@@ -158,11 +158,11 @@ impl Loaded {
         *self.names.allocator()
     }
 
-    /// The host of the load, or none for a load without a host. Allocates nothing.
-    pub fn host(&self) -> Option<&HostName>
-        ensures host { option_copied result ≡ self.now.host }
+    /// Who the load is for: a host's manager or one without a host, and by which rules. Allocates nothing.
+    pub fn viewer(&self) -> &Viewer
+        ensures viewer { result.now ≡ self.now.viewer }
     {
-        self.host.as_ref()
+        &self.viewer
     }
 
     /// The names that were asked for, in the order in which they were given. Allocates nothing.
@@ -177,14 +177,14 @@ impl Loaded {
         ensures load { result ≡ asked_for extra self }
     {
         let Loaded {
-            host,
+            viewer,
             extra: _before,
             names,
             kept,
             fresh,
         } = self;
         Loaded {
-            host,
+            viewer,
             extra,
             names,
             kept,
@@ -199,7 +199,7 @@ impl Loaded {
     {
         let Patches { kept, units } = patches;
         let Loaded {
-            host,
+            viewer,
             extra,
             names,
             kept: _,
@@ -207,7 +207,7 @@ impl Loaded {
         } = self;
         let fresh = units.len() as u64;
         let names = with_units(names, units);
-        Loaded::new(host, extra, names, kept, fresh)
+        Loaded::new(viewer, extra, names, kept, fresh)
     }
 
     /// All names of the universe in byte order, each with what it resolves to. Allocates nothing.

@@ -1,5 +1,5 @@
 //! Loads a store, in one thread or by several workers.
-ghost use Rattle.std.specs.{Prelude.{◌≡◌, ◌↔◌, ◌⊎◌, ◌<◌, Err, IfOk, IfErr}, Option.{option_copied}};
+ghost use Rattle.std.specs.{Prelude.{◌≡◌, ◌↔◌, ◌⊎◌, ◌<◌, Err, IfOk, IfErr}};
 ghost use Rattle.path_maps.specs.HostViews.{host_view_of};
 ghost use Rattle.list_laws.specs.Members.{IsAmong};
 ghost use Rattle.parallel_load.specs.{Loads.{IsLoad}, OwnLinkTargets.{AreOwnLinkTargets}, Refusals.{OnTooMany, OnWorkers}};
@@ -14,7 +14,7 @@ use crate::words::CachedLinkTargets;
 use fragment_choice::AliasIndex;
 use name_closure::close_loaded;
 use plain_values::Shared;
-use replica_store::{HostName, Store};
+use replica_store::{Store, Viewer};
 use std::alloc::{AllocError, Global};
 use std::thread::Threads;
 use unit_name::UnitName;
@@ -33,21 +33,21 @@ pub const MOST_NAMES: usize = 4096;
 pub fn load_here(
     alloc: Global,
     store: &Store,
-    host: Option<&HostName>,
+    viewer: &Viewer,
     extra: &[UnitName],
 ) -> Result<Loaded, LoadFault>
-    ensures load { IfOk result (IsLoad (host_view_of store.now (option_copied host.entry)) extra.now) }
-    ensures over { IfErr result (λ fault. OnTooMany fault (IsTooLarge (host_view_of store.now (option_copied host.entry)) extra.now)) }
-    ensures not_over { IfOk result (λ _. ¬ IsTooLarge (host_view_of store.now (option_copied host.entry)) extra.now) }
+    ensures load { IfOk result (IsLoad (host_view_of store.now viewer.now) extra.now) }
+    ensures over { IfErr result (λ fault. OnTooMany fault (IsTooLarge (host_view_of store.now viewer.now) extra.now)) }
+    ensures not_over { IfOk result (λ _. ¬ IsTooLarge (host_view_of store.now viewer.now) extra.now) }
     ensures no_workers { IfErr result (λ fault. OnWorkers fault ⊥) }
 {
     let Start {
         words,
         sources,
         loader,
-    } = start_of(alloc, store, host, extra)?;
+    } = start_of(alloc, store, viewer, extra)?;
     let found = close_loaded(alloc, &loader, &sources, MOST_NAMES)?;
-    Ok(normalized(alloc, host, extra, words, found)?)
+    Ok(normalized(alloc, viewer, extra, words, found)?)
 }
 
 /// The same load, and the same refusals, by 1 to 64 workers. Neither the number of workers nor the gate's answers
@@ -62,15 +62,15 @@ pub fn load_fleet<R: Threads + Sync, G: Gate + Sync>(
     rt: &R,
     alloc: Global,
     store: &Store,
-    host: Option<&HostName>,
+    viewer: &Viewer,
     extra: &[UnitName],
     workers: usize,
     gate: &G,
 ) -> Result<Loaded, LoadFault>
     ensures workers { (result ≡ Err Workers) ↔ ((workers ≡ 0) ⊎ (64 < workers)) }
-    ensures load { IfOk result (IsLoad (host_view_of store.now (option_copied host.entry)) extra.now) }
-    ensures over { IfErr result (λ fault. OnTooMany fault (IsTooLarge (host_view_of store.now (option_copied host.entry)) extra.now)) }
-    ensures not_over { IfOk result (λ _. ¬ IsTooLarge (host_view_of store.now (option_copied host.entry)) extra.now) }
+    ensures load { IfOk result (IsLoad (host_view_of store.now viewer.now) extra.now) }
+    ensures over { IfErr result (λ fault. OnTooMany fault (IsTooLarge (host_view_of store.now viewer.now) extra.now)) }
+    ensures not_over { IfOk result (λ _. ¬ IsTooLarge (host_view_of store.now viewer.now) extra.now) }
 {
     if !is_worker_count(workers) {
         return Err(LoadFault::Workers);
@@ -79,9 +79,9 @@ pub fn load_fleet<R: Threads + Sync, G: Gate + Sync>(
         words,
         sources,
         loader,
-    } = start_of(alloc, store, host, extra)?;
+    } = start_of(alloc, store, viewer, extra)?;
     let found = close_loaded_by_workers(rt, alloc, &loader, &sources, MOST_NAMES, workers, gate)?;
-    Ok(normalized_by_workers(rt, alloc, host, extra, words, found, workers)?)
+    Ok(normalized_by_workers(rt, alloc, viewer, extra, words, found, workers)?)
 }
 
 // Where a load begins: the link targets that are seen, the source names, and the loader.
@@ -96,15 +96,15 @@ struct Start<'a> {
 fn start_of<'a>(
     alloc: Global,
     store: &'a Store,
-    host: Option<&'a HostName>,
+    viewer: &'a Viewer,
     extra: &[UnitName],
 ) -> Result<Start<'a>, AllocError>
-    ensures words { IfOk result (λ start. AreOwnLinkTargets (host_view_of store.now (option_copied host.entry)) start.words) }
+    ensures words { IfOk result (λ start. AreOwnLinkTargets (host_view_of store.now viewer.now) start.words) }
     ensures sources { IfOk result (λ start. (n : _) → IsAmong n start.sources.items
-        ↔ IsSource (host_view_of store.now (option_copied host.entry)) extra.now n) }
-    ensures view { IfOk result (λ start. start.loader.index ≡ host_view_of store.now (option_copied host.entry)) }
+        ↔ IsSource (host_view_of store.now viewer.now) extra.now n) }
+    ensures view { IfOk result (λ start. start.loader.index ≡ host_view_of store.now viewer.now) }
 {
-    let view = store.host_view(host);
+    let view = store.host_view(viewer);
     let words = CachedLinkTargets::of(alloc, &view)?;
     let sources = sources(alloc, &words, extra)?;
     let index = AliasIndex::of_targets(alloc, view, words.names())?;

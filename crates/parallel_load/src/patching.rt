@@ -1,5 +1,5 @@
 //! Reads units again in place, where each still names what it named, so that the universe stays.
-ghost use Rattle.std.specs.{Prelude.{◌≡◌, ◌<◌, IfOk, length}, List.{All}, Option.{IfSome, option_copied}};
+ghost use Rattle.std.specs.{Prelude.{◌≡◌, ◌<◌, IfOk, length}, List.{All}, Option.{IfSome}};
 ghost use Rattle.path_maps.specs.HostViews.{host_view_of};
 ghost use Rattle.fragment_choice.specs.{Resolutions.{main}, UnitNames.{AreNames}};
 ghost use Rattle.unit_loads.specs.Units.{IsUnit};
@@ -12,7 +12,7 @@ use crate::loaded::{CachedRows, Loaded, NameLoad, Patches};
 use crate::mains::Mains;
 use fragment_choice::resolve;
 use plain_values::{Bytes, TryClone};
-use replica_store::{HostName, Place, Store};
+use replica_store::{Place, Store, Viewer};
 use std::alloc::{AllocError, Global};
 use unit_loads::{Unit, load_named};
 use unit_name::UnitName;
@@ -27,15 +27,16 @@ pub(crate) fn patches(
     parts: &[Bytes],
 ) -> Result<Option<Patches>, AllocError>
     requires before { IsBefore loaded.now store.now touched.now }
-    requires words { All (KeepsLinkTargets loaded.now.host loaded.now.words (host_view_of store.now loaded.now.host)) touched.now }
-    requires parts { All (HasParts loaded.now.host parts.now) touched.now }
-    ensures units { IfOk result (λ patches. IfSome patches (AreUnitsOf (host_view_of store.now loaded.now.host) loaded.now)) }
+    requires words { All (KeepsLinkTargets loaded.now.viewer loaded.now.words (host_view_of store.now loaded.now.viewer)) touched.now }
+    requires parts { All (HasParts loaded.now.viewer parts.now) touched.now }
+    ensures units { IfOk result (λ patches. IfSome patches (AreUnitsOf (host_view_of store.now loaded.now.viewer) loaded.now)) }
 {
     let alloc = loaded.allocator();
-    let host = loaded.host();
+    let viewer = loaded.viewer();
     let kept = loaded.kept()?;
     let affected = indices_affected(loaded, parts)?;
-    let Some(units) = units_again(alloc, store, host, loaded.names(), kept.get(), &affected)? else {
+    let Some(units) = units_again(alloc, store, viewer, loaded.names(), kept.get(), &affected)?
+    else {
         return Ok(None);
     };
     Ok(Some(Patches { kept, units }))
@@ -45,16 +46,16 @@ pub(crate) fn patches(
 fn units_again(
     alloc: Global,
     store: &Store,
-    host: Option<&HostName>,
+    viewer: &Viewer,
     names: &[(UnitName, NameLoad)],
     kept: &CachedRows,
     affected: &[usize],
 ) -> Result<Option<Vec<(usize, NameLoad)>>, AllocError>
     requires affected { All (λ i. i < length names.now) affected.now }
     requires each { length kept.now.named.items ≡ length names.now }
-    requires own { All (IsOwnUnit (host_view_of store.now (option_copied host))) names.now }
+    requires own { All (IsOwnUnit (host_view_of store.now viewer.now)) names.now }
     ensures within { IfOk result (λ again. IfSome again (λ units. All (λ u. u.0 < length names.now) units.items)) }
-    ensures again { IfOk result (λ again. IfSome again (λ units. AreReadOrLeft (host_view_of store.now (option_copied host.entry))
+    ensures again { IfOk result (λ again. IfSome again (λ units. AreReadOrLeft (host_view_of store.now viewer.now)
         kept.now.mains affected.now names.now kept.now.named.items (with_loads names.now units.items))) }
 {
     let named = kept.named.as_slice();
@@ -62,7 +63,7 @@ fn units_again(
     for index in affected {
         let one = &names[*index];
         let lists = &named[*index];
-        let Some(unit) = unit_again(alloc, store, host, &kept.mains, one, lists)? else {
+        let Some(unit) = unit_again(alloc, store, viewer, &kept.mains, one, lists)? else {
             return Ok(None);
         };
         units.push((*index, unit))?;
@@ -74,20 +75,20 @@ fn units_again(
 fn unit_again(
     alloc: Global,
     store: &Store,
-    host: Option<&HostName>,
+    viewer: &Viewer,
     mains: &Mains,
     one: &(UnitName, NameLoad),
     lists: &NamedLists,
 ) -> Result<Option<NameLoad>, AllocError>
-    requires own { IsOwnUnit (host_view_of store.now (option_copied host)) one.now }
-    ensures again { IfOk result (λ again. IfSome again (IsReadAgain (host_view_of store.now (option_copied host.entry))
+    requires own { IsOwnUnit (host_view_of store.now viewer.now) one.now }
+    ensures again { IfOk result (λ again. IfSome again (IsReadAgain (host_view_of store.now viewer.now)
         mains.now one.now lists.now)) }
 {
     let (name, load) = one;
     let NameLoad::Unit(was) = load else {
         return Ok(None);
     };
-    let unit = read_unit(alloc, store, host, name, was.get())?;
+    let unit = read_unit(alloc, store, viewer, name, was.get())?;
     if unit.deps.as_slice() != lists.as_slice() {
         return Ok(None);
     }
@@ -112,15 +113,15 @@ fn normalized_unit(
 fn read_unit(
     alloc: Global,
     store: &Store,
-    host: Option<&HostName>,
+    viewer: &Viewer,
     name: &UnitName,
     was: &Unit,
 ) -> Result<Unit, AllocError>
-    requires main { main (host_view_of store.now (option_copied host)) name.now ≡ name.now }
-    requires names { AreNames (host_view_of store.now (option_copied host)) name.now was.now.names }
-    ensures unit { IfOk result (IsUnit (host_view_of store.now (option_copied host.entry)) name.now) }
+    requires main { main (host_view_of store.now viewer.now) name.now ≡ name.now }
+    requires names { AreNames (host_view_of store.now viewer.now) name.now was.now.names }
+    ensures unit { IfOk result (IsUnit (host_view_of store.now viewer.now) name.now) }
 {
-    let resolved = resolve(alloc, store, host, name)?;
+    let resolved = resolve(alloc, store, viewer, name)?;
     let names = was.names.try_clone()?.into_vec();
-    load_named(alloc, &store.host_view(host), resolved, names)
+    load_named(alloc, &store.host_view(viewer), resolved, names)
 }

@@ -35,16 +35,16 @@ pub enum Refreshed {
 }
 
 /// Makes the load of a store from the load of another, when these places are all at which the two stores show different
-/// contents. The result, refusals included, is that of `load_here` for the same host and the same names.
+/// contents. The result, refusals included, is that of `load_here` for the same viewer and the same names.
 ///
 /// Reads a unit again only if it is new, or if a changed place that the host sees is in its footprint; all others are
 /// shared with the old load. Loads everything anew if aliases or the set of visible names may differ: where a link at a
 /// path of one component comes, goes or changes its target, or the first or last file of a name comes or goes.
 pub fn refresh(loaded: &Loaded, store: &Store, touched: &[Place]) -> Result<Loaded, LoadFault>
     requires before { IsBefore loaded.now store.now touched.now }
-    ensures load { IfOk result (IsLoad (host_view_of store.now loaded.now.host) loaded.now.extra) }
-    ensures over { IfErr result (λ fault. OnTooMany fault (IsTooLarge (host_view_of store.now loaded.now.host) loaded.now.extra)) }
-    ensures not_over { IfOk result (λ _. ¬ IsTooLarge (host_view_of store.now loaded.now.host) loaded.now.extra) }
+    ensures load { IfOk result (IsLoad (host_view_of store.now loaded.now.viewer) loaded.now.extra) }
+    ensures over { IfErr result (λ fault. OnTooMany fault (IsTooLarge (host_view_of store.now loaded.now.viewer) loaded.now.extra)) }
+    ensures not_over { IfOk result (λ _. ¬ IsTooLarge (host_view_of store.now loaded.now.viewer) loaded.now.extra) }
     ensures no_workers { IfErr result (λ fault. OnWorkers fault ⊥) }
 {
     match patches_for(loaded, store, touched)? {
@@ -61,9 +61,9 @@ pub fn refresh_in_place(
     touched: &[Place],
 ) -> Result<Refreshed, LoadFault>
     requires before { IsBefore loaded store.now touched.now }
-    ensures load { IfOk result (IsRefreshed (host_view_of store.now loaded.host) loaded) }
-    ensures over { IfErr result (λ fault. OnTooMany fault (IsTooLarge (host_view_of store.now loaded.host) loaded.extra)) }
-    ensures not_over { IfOk result (λ _. ¬ IsTooLarge (host_view_of store.now loaded.host) loaded.extra) }
+    ensures load { IfOk result (IsRefreshed (host_view_of store.now loaded.viewer) loaded) }
+    ensures over { IfErr result (λ fault. OnTooMany fault (IsTooLarge (host_view_of store.now loaded.viewer) loaded.extra)) }
+    ensures not_over { IfOk result (λ _. ¬ IsTooLarge (host_view_of store.now loaded.viewer) loaded.extra) }
     ensures no_workers { IfErr result (λ fault. OnWorkers fault ⊥) }
 {
     match patches_for(&loaded, store, touched)? {
@@ -82,33 +82,33 @@ fn patches_for(
     touched: &[Place],
 ) -> Result<Option<Patches>, AllocError>
     requires before { IsBefore loaded.now store.now touched.now }
-    ensures units { IfOk result (λ patches. IfSome patches (AreUnitsOf (host_view_of store.now loaded.now.host) loaded.now)) }
+    ensures units { IfOk result (λ patches. IfSome patches (AreUnitsOf (host_view_of store.now loaded.now.viewer) loaded.now)) }
 {
     let alloc = loaded.allocator();
     if !keeps_link_targets(alloc, loaded, store, touched)? {
         return Ok(None);
     }
-    let parts = parts_touched(alloc, loaded.host(), touched)?;
+    let parts = parts_touched(alloc, loaded.viewer(), touched)?;
     patches(loaded, store, touched, &parts)
 }
 
 // The load where names may come or go. Takes what stays from the old load, if link targets stay.
 fn refreshed_anew(loaded: &Loaded, store: &Store, touched: &[Place]) -> Result<Loaded, LoadFault>
     requires before { IsBefore loaded.now store.now touched.now }
-    ensures load { IfOk result (IsLoad (host_view_of store.now loaded.now.host) loaded.now.extra) }
-    ensures over { IfErr result (λ fault. OnTooMany fault (IsTooLarge (host_view_of store.now loaded.now.host) loaded.now.extra)) }
-    ensures not_over { IfOk result (λ _. ¬ IsTooLarge (host_view_of store.now loaded.now.host) loaded.now.extra) }
+    ensures load { IfOk result (IsLoad (host_view_of store.now loaded.now.viewer) loaded.now.extra) }
+    ensures over { IfErr result (λ fault. OnTooMany fault (IsTooLarge (host_view_of store.now loaded.now.viewer) loaded.now.extra)) }
+    ensures not_over { IfOk result (λ _. ¬ IsTooLarge (host_view_of store.now loaded.now.viewer) loaded.now.extra) }
     ensures no_workers { IfErr result (λ fault. OnWorkers fault ⊥) }
 {
     let alloc = loaded.allocator();
-    let host = loaded.host();
+    let viewer = loaded.viewer();
     if !keeps_link_targets(alloc, loaded, store, touched)? {
-        return load_here(alloc, store, host, loaded.extra());
+        return load_here(alloc, store, viewer, loaded.extra());
     }
-    let parts = parts_touched(alloc, host, touched)?;
+    let parts = parts_touched(alloc, viewer, touched)?;
     let found = found_again(loaded, store, touched, &parts)?;
     let words = loaded.words().try_clone()?;
-    Ok(normalized(alloc, host, loaded.extra(), words, found)?)
+    Ok(normalized(alloc, viewer, loaded.extra(), words, found)?)
 }
 
 // The closure where link targets stay and all changed paths begin with these parts. Takes what stays from the old load.
@@ -119,21 +119,21 @@ fn found_again(
     parts: &[Bytes],
 ) -> Result<BTreeMap<UnitName, RawLoad>, LoadFault>
     requires before { IsBefore loaded.now store.now touched.now }
-    requires words { All (KeepsLinkTargets loaded.now.host loaded.now.words (host_view_of store.now loaded.now.host)) touched.now }
-    requires parts { All (HasParts loaded.now.host parts.now) touched.now }
-    ensures found { IfOk result (λ found. IsFound (host_view_of store.now loaded.now.host) loaded.now.extra found.entries) }
+    requires words { All (KeepsLinkTargets loaded.now.viewer loaded.now.words (host_view_of store.now loaded.now.viewer)) touched.now }
+    requires parts { All (HasParts loaded.now.viewer parts.now) touched.now }
+    ensures found { IfOk result (λ found. IsFound (host_view_of store.now loaded.now.viewer) loaded.now.extra found.entries) }
     ensures ascending { IfOk result (λ found. IsStrictlySortedBy name_cmp (keys found)) }
     ensures few { IfOk result (λ found. length found.entries ≤ 4096) }
-    ensures over { IfErr result (λ fault. OnTooMany fault (IsTooLarge (host_view_of store.now loaded.now.host) loaded.now.extra)) }
+    ensures over { IfErr result (λ fault. OnTooMany fault (IsTooLarge (host_view_of store.now loaded.now.viewer) loaded.now.extra)) }
     ensures no_workers { IfErr result (λ fault. OnWorkers fault ⊥) }
 {
     let alloc = loaded.allocator();
-    let host = loaded.host();
+    let viewer = loaded.viewer();
     let words = loaded.words();
     let sources = sources(alloc, words.get(), loaded.extra())?;
     let affected = indices_affected(loaded, parts)?;
     let held = still_of(alloc, loaded, &affected)?;
-    let index = AliasIndex::of_targets(alloc, store.host_view(host), words.get().names())?;
+    let index = AliasIndex::of_targets(alloc, store.host_view(viewer), words.get().names())?;
     let loader = HeldLoader::of(UnitLoader::new(index), held);
     Ok(close_loaded(alloc, &loader, &sources, MOST_NAMES)?)
 }

@@ -1,5 +1,5 @@
 //! The changed places that a host sees.
-ghost use Rattle.std.specs.{Prelude.{◌≡◌, true, is_some, IfOk, OnOk}, List.{All}, Option.{option_copied}};
+ghost use Rattle.std.specs.{Prelude.{◌≡◌, true, is_some, IfOk, OnOk}, List.{All}};
 ghost use Rattle.load_places.specs.Levels.{level_for};
 ghost use Rattle.path_maps.specs.HostViews.{host_view_of};
 ghost use Rattle.parallel_load.specs.Touched.{AddsParts, HasParts, KeepsLinkTargets};
@@ -8,7 +8,7 @@ use crate::loaded::Loaded;
 use crate::words::CachedLinkTargets;
 use fragment_choice::LinkTargets;
 use plain_values::Bytes;
-use replica_store::{HostName, HostView, Path, Place, Scope, Store};
+use replica_store::{HostView, Path, Place, Scope, Store, Viewer};
 use std::alloc::{AllocError, Global};
 
 /// Whether the changed places leave all link targets, and which names are visible, as the load has cached them. Looks
@@ -21,13 +21,13 @@ pub(crate) fn keeps_link_targets(
     touched: &[Place],
 ) -> Result<bool, AllocError>
     ensures kept { IfOk result (λ kept. kept ≡ true
-        → All (KeepsLinkTargets loaded.now.host loaded.now.words (host_view_of store.now loaded.now.host)) touched.now) }
+        → All (KeepsLinkTargets loaded.now.viewer loaded.now.words (host_view_of store.now loaded.now.viewer)) touched.now) }
 {
-    let host = loaded.host();
+    let viewer = loaded.viewer();
     let words = loaded.words();
-    let view = store.host_view(host);
+    let view = store.host_view(viewer);
     for place in touched {
-        if !keeps_link_targets_at(alloc, words.get(), &view, host, place)? {
+        if !keeps_link_targets_at(alloc, words.get(), &view, viewer, place)? {
             return Ok(false);
         }
     }
@@ -39,12 +39,12 @@ fn keeps_link_targets_at(
     alloc: Global,
     words: &CachedLinkTargets,
     view: &HostView,
-    host: Option<&HostName>,
+    viewer: &Viewer,
     place: &Place,
 ) -> Result<bool, AllocError>
-    ensures kept { IfOk result (λ kept. kept ≡ true → KeepsLinkTargets (option_copied host.entry) words.now view.now place.now) }
+    ensures kept { IfOk result (λ kept. kept ≡ true → KeepsLinkTargets viewer.now words.now view.now place.now) }
 {
-    if !is_viewed(host, place) || !place.path.folder().is_empty() {
+    if !is_viewed(viewer, place) || !place.path.folder().is_empty() {
         return Ok(true);
     }
     let name = Bytes::from_slice(alloc, place.path.name())?;
@@ -56,14 +56,14 @@ fn keeps_link_targets_at(
 /// only if memory runs out.
 pub(crate) fn parts_touched(
     alloc: Global,
-    host: Option<&HostName>,
+    viewer: &Viewer,
     touched: &[Place],
 ) -> Result<Vec<Bytes>, AllocError>
-    ensures parts { IfOk result (λ parts. All (HasParts (option_copied host.entry) parts.items) touched.now) }
+    ensures parts { IfOk result (λ parts. All (HasParts viewer.now parts.items) touched.now) }
 {
     let mut parts = Vec::new(alloc);
     for place in touched {
-        if is_viewed(host, place) {
+        if is_viewed(viewer, place) {
             add_parts(alloc, &mut parts, &place.path)?;
         }
     }
@@ -82,10 +82,10 @@ fn add_parts(alloc: Global, parts: &mut Vec<Bytes>, path: &Path) -> Result<(), A
 }
 
 // Whether the host, or a manager without one, sees a place.
-fn is_viewed(host: Option<&HostName>, place: &Place) -> bool
-    ensures view { result ≡ is_some (level_for (option_copied host.entry) place.now) }
+fn is_viewed(viewer: &Viewer, place: &Place) -> bool
+    ensures view { result ≡ is_some (level_for viewer.now place.now) }
 {
-    match (&place.scope, host) {
+    match (&place.scope, &viewer.host) {
         (Scope::Fleet, _) => true,
         (Scope::Host(_), None) => false,
         (Scope::Host(owner), Some(host)) => owner.bytes() == host.bytes(),

@@ -1,12 +1,12 @@
 -- What a host sees, said of places: those that it looks at, at their levels, and no others.
 use Rattle.std.proofs.Common.{◌%◌, ◌+◌, ◌/◌, ◌==◌, ◌≡◌, ◌≢◌}
-use Rattle.path_maps.specs.Prelude.{ap, arith, Bool, bytes_eq, bytes_eq-Decides, cond, Content, Entry, EntryMap, false, Fleet, Host, level_for, List, nat_tests, None, Option, option_and_then, option_map, path_cmp-IsAntisymmetric, path_cmp_total, PathParts, place_cmp, PlaceParts, refl, same_Some, Scope, scope_bytes, shown, Some, sym, true, Viewer, visible_at, ℕ, ◌∙◌}
+use Rattle.path_maps.specs.Prelude.{ap, arith, Bool, bytes_eq, bytes_eq-Decides, cond, Content, Entry, EntryMap, false, Fleet, Host, level_for, List, nat_tests, None, Option, option_and_then, option_map, path_cmp-IsAntisymmetric, path_cmp_total, PathParts, place_cmp, PlaceParts, refl, same_Some, Scope, scope_bytes, shown, Some, sym, true, Viewer, visible_at, of_fleet, of_host, Profile, ℕ, ◌∙◌}
 use Rattle.path_maps.specs.{Folders.{path_at}, HostViewLaws.{get-view}, HostViews.{AreForOne, content_at, held_by, held_by_own, host_view_of, HostViewMap, level_of, Own, own_of, own_scope, scope_at, view, viewed_at, viewed_place, viewer_of}, ScopeLaws.{get-scope_of}, Scopes.{PathMap, scope_of, shown_at, within}, Sights.{path_after}}
 use Rattle.std.specs.FinMap as finmap
 
 -- a place with a level is seen at it
 abbrev pub PlacesAreInViews : Type 0
-PlacesAreInViews = (s : EntryMap) (host : Viewer) (place : PlaceParts) (level : ℕ) → level_for host place ≡ Some level → finmap.get (view (host_view_of s host)) (path_at level place.path.folder place.path.name) ≡ finmap.get s place
+PlacesAreInViews = (s : EntryMap) (viewer : Viewer) (place : PlaceParts) (level : ℕ) → level_for viewer place ≡ Some level → finmap.get (view (host_view_of s viewer)) (path_at level place.path.folder place.path.name) ≡ finmap.get s place
 
 -- what is seen has a place, at which it is looked at
 abbrev pub WhatIsInViewHasAPlace : Type 0
@@ -14,12 +14,12 @@ WhatIsInViewHasAPlace = (v : HostViewMap) (path : PathParts) (e : Entry) → fin
 
 -- and the place of what is seen there is that place
 abbrev pub WhatIsViewedThereIsItsOwn : Type 0
-WhatIsViewedThereIsItsOwn = (s : EntryMap) (host : Viewer) (place : PlaceParts) (level : ℕ) → level_for host place ≡ Some level
-    → viewed_place (host_view_of s host) (path_at level place.path.folder place.path.name) ≡ place
+WhatIsViewedThereIsItsOwn = (s : EntryMap) (viewer : Viewer) (place : PlaceParts) (level : ℕ) → level_for viewer place ≡ Some level
+    → viewed_place (host_view_of s viewer) (path_at level place.path.folder place.path.name) ≡ place
 
 -- what stands at a place without a level changes nothing of what is looked at
 abbrev pub OtherHostsAreNotInView : Type 0
-OtherHostsAreNotInView = (s t : EntryMap) (host : Viewer) (place : PlaceParts) → level_for host place ≡ None → ((q : PlaceParts) → q ≢ place → finmap.get s q ≡ finmap.get t q) → host_view_of s host ≡ host_view_of t host
+OtherHostsAreNotInView = (s t : EntryMap) (viewer : Viewer) (place : PlaceParts) → level_for viewer place ≡ None → ((q : PlaceParts) → q ≢ place → finmap.get s q ≡ finmap.get t q) → host_view_of s viewer ≡ host_view_of t viewer
 
 -- nothing is held at a place of this scope
 abbrev pub HoldsNothing : EntryMap → Scope → Type 0
@@ -31,19 +31,19 @@ ShowsNothing s scope = (path : PathParts) → visible_at s (within scope path) �
 
 -- a host without places of its own sees what is seen without one
 abbrev pub HostsWithoutPlacesHaveTheFleetsView : Type 0
-HostsWithoutPlacesHaveTheFleetsView = (s : EntryMap) (host : List ℕ) → HoldsNothing s (Host host)
-    → view (host_view_of s (Some host)) ≡ view (host_view_of s None)
+HostsWithoutPlacesHaveTheFleetsView = (s : EntryMap) (host : List ℕ) (profile : Profile) → HoldsNothing s (Host host)
+    → view (host_view_of s (of_host host profile)) ≡ view (host_view_of s (of_fleet profile))
 
 -- two stores show the same at each place that this host sees at the path: its own or the fleet's, as the path's level is
 abbrev pub SameAtPlaces : EntryMap → EntryMap → Viewer → PathParts → Type 0
-SameAtPlaces s t host p =
-    (place : PlaceParts) → level_for host place ≡ Some (level_of p) → place.path.folder ≡ p.folder → place.path.name ≡ p.name
+SameAtPlaces s t viewer p =
+    (place : PlaceParts) → level_for viewer place ≡ Some (level_of p) → place.path.folder ≡ p.folder → place.path.name ≡ p.name
     → visible_at s place ≡ visible_at t place
 
 -- then they show this host the same at the path
 abbrev pub PlacesDecideViews : Type 0
-PlacesDecideViews = (s t : EntryMap) (host : Viewer) (p : PathParts) → SameAtPlaces s t host p
-    → viewed_at (host_view_of s host) p ≡ viewed_at (host_view_of t host) p
+PlacesDecideViews = (s t : EntryMap) (viewer : Viewer) (p : PathParts) → SameAtPlaces s t viewer p
+    → viewed_at (host_view_of s viewer) p ≡ viewed_at (host_view_of t viewer) p
 
 -- ---- numbers
 
@@ -67,9 +67,9 @@ fleets_viewed v rank folder name =
     ∙ ap (λ b. option_and_then (λ (held : PathMap). finmap.get held (path_at ((rank + rank + 1) / 2) folder name)) (cond b (option_map (λ (o : Own). o.held) v.own) (Some v.fleet))) (odd_level rank)
     ∙ ap (λ r. finmap.get v.fleet (path_at r folder name)) (half_of_odd rank)
 
-own_viewed : (own : Own) (fleet : PathMap) (rank : ℕ) (folder name : List ℕ) → finmap.get (view (record { own = Some own; fleet = fleet })) (path_at (rank + rank) folder name) ≡ finmap.get own.held (path_at rank folder name)
-own_viewed own fleet rank folder name =
-    get-view (path_at (rank + rank) folder name) (record { own = Some own; fleet = fleet })
+own_viewed : (own : Own) (fleet : PathMap) (profile : Profile) (rank : ℕ) (folder name : List ℕ) → finmap.get (view (record { own = Some own; fleet = fleet; profile = profile })) (path_at (rank + rank) folder name) ≡ finmap.get own.held (path_at rank folder name)
+own_viewed own fleet profile rank folder name =
+    get-view (path_at (rank + rank) folder name) (record { own = Some own; fleet = fleet; profile = profile })
     ∙ ap (λ b. option_and_then (λ (held : PathMap). finmap.get held (path_at ((rank + rank) / 2) folder name)) (cond b (Some own.held) (Some fleet))) (even_level rank)
     ∙ ap (λ r. finmap.get own.held (path_at r folder name)) (half_of_even rank)
 
@@ -90,25 +90,28 @@ other_host k h rank e same = by (bytes_eq k h) (ap (bytes_eq k) same ∙ (bytes_
     by false t e = cc (t)
 
 -- what a host has for itself is what the store has at its places
-own_held : (s : EntryMap) (h : List ℕ) (path : PathParts) → finmap.get (view (host_view_of s (Some h))) (path_at (path.rank + path.rank) path.folder path.name) ≡ finmap.get s (within (Host h) path)
-own_held s h path = own_viewed (record { host = h; held = scope_of s (Host h) }) (scope_of s Fleet) path.rank path.folder path.name ∙ get-scope_of (Host h) s path
+own_held : (s : EntryMap) (h : List ℕ) (profile : Profile) (path : PathParts) → finmap.get (view (host_view_of s (of_host h profile))) (path_at (path.rank + path.rank) path.folder path.name) ≡ finmap.get s (within (Host h) path)
+own_held s h profile path = own_viewed (record { host = h; held = scope_of s (Host h) }) (scope_of s Fleet) profile path.rank path.folder path.name ∙ get-scope_of (Host h) s path
 
-fleets_held : (s : EntryMap) (host : Viewer) (path : PathParts) → finmap.get (view (host_view_of s host)) (path_at (path.rank + path.rank + 1) path.folder path.name) ≡ finmap.get s (within Fleet path)
-fleets_held s host path = fleets_viewed (host_view_of s host) path.rank path.folder path.name ∙ get-scope_of Fleet s path
+fleets_held : (s : EntryMap) (viewer : Viewer) (path : PathParts) → finmap.get (view (host_view_of s viewer)) (path_at (path.rank + path.rank + 1) path.folder path.name) ≡ finmap.get s (within Fleet path)
+fleets_held s viewer path = fleets_viewed (host_view_of s viewer) path.rank path.folder path.name ∙ get-scope_of Fleet s path
 
 pub places_are_in_views : PlacesAreInViews
-places_are_in_views s host place level is = by host place.scope is
+places_are_in_views s viewer place level is = by viewer.host place.scope is
   where
-    by : (host : Viewer) (scope : Scope) → level_for host (within scope place.path) ≡ Some level → finmap.get (view (host_view_of s host)) (path_at level place.path.folder place.path.name) ≡ finmap.get s (within scope place.path)
-    by host Fleet e = ap (λ l. finmap.get (view (host_view_of s host)) (path_at l place.path.folder place.path.name)) (sym (same_Some _ _ e)) ∙ fleets_held s host place.path
+    by : (host : Option (List ℕ)) (scope : Scope) → level_for (record viewer { host = host }) (within scope place.path) ≡ Some level
+        → finmap.get (view (host_view_of s (record viewer { host = host }))) (path_at level place.path.folder place.path.name) ≡ finmap.get s (within scope place.path)
+    by host Fleet e =
+        ap (λ l. finmap.get (view (host_view_of s (record viewer { host = host }))) (path_at l place.path.folder place.path.name)) (sym (same_Some _ _ e))
+        ∙ fleets_held s (record viewer { host = host }) place.path
     by None (Host k) e = cc (e)
     by (Some h) (Host k) e =
         let same = same_host k h place.path.rank level e in
-        ap (λ l. finmap.get (view (host_view_of s (Some h))) (path_at l place.path.folder place.path.name)) (sym same.1)
-        ∙ own_held s h place.path ∙ ap (λ x. finmap.get s (within (Host x) place.path)) (sym same.0)
+        ap (λ l. finmap.get (view (host_view_of s (of_host h viewer.profile))) (path_at l place.path.folder place.path.name)) (sym same.1)
+        ∙ own_held s h viewer.profile place.path ∙ ap (λ x. finmap.get s (within (Host x) place.path)) (sym same.0)
 
 pub what_is_viewed_there_is_its_own : WhatIsViewedThereIsItsOwn
-what_is_viewed_there_is_its_own s host place level is = by host place.scope is
+what_is_viewed_there_is_its_own s viewer place level is = by viewer.host place.scope is
   where
     folder : List ℕ
     folder = place.path.folder
@@ -116,11 +119,11 @@ what_is_viewed_there_is_its_own s host place level is = by host place.scope is
     name : List ℕ
     name = place.path.name
 
-    by : (host : Viewer) (scope : Scope) → level_for host (within scope place.path) ≡ Some level
-        → viewed_place (host_view_of s host) (path_at level folder name) ≡ within scope place.path
+    by : (host : Option (List ℕ)) (scope : Scope) → level_for (record viewer { host = host }) (within scope place.path) ≡ Some level
+        → viewed_place (host_view_of s (record viewer { host = host })) (path_at level folder name) ≡ within scope place.path
     by host Fleet e =
         let rank = place.path.rank in
-        ap (λ l. viewed_place (host_view_of s host) (path_at l folder name)) (sym (same_Some _ _ e))
+        ap (λ l. viewed_place (host_view_of s (record viewer { host = host })) (path_at l folder name)) (sym (same_Some _ _ e))
         ∙ (λ i. record {
           scope = cond (odd_level rank i) (own_scope (option_map (own_of s) host)) Fleet;
           path = path_at (half_of_odd rank i) folder name;
@@ -129,7 +132,7 @@ what_is_viewed_there_is_its_own s host place level is = by host place.scope is
     by (Some h) (Host k) e =
         let rank = place.path.rank in
         let same = same_host k h rank level e in
-        ap (λ l. viewed_place (host_view_of s (Some h)) (path_at l folder name)) (sym same.1)
+        ap (λ l. viewed_place (host_view_of s (of_host h viewer.profile)) (path_at l folder name)) (sym same.1)
         ∙ (λ i. record { scope = cond (even_level rank i) (Host h) Fleet; path = path_at (half_of_even rank i) folder name })
         ∙ ap (λ x. within (Host x) place.path) (sym same.0)
 
@@ -164,12 +167,15 @@ content_viewed v path c is = by (finmap.get (view v) path) refl is
 
 -- a path has one place in views for one host
 pub same_place : (v w : HostViewMap) → AreForOne v w → (path : PathParts) → viewed_place v path ≡ viewed_place w path
-same_place v w one path = (λ i. record { scope = cond (path.rank % 2 == 0) (one i) Fleet; path = path_after path })
+same_place v w one path = (λ i. record { scope = cond (path.rank % 2 == 0) (one.0 i) Fleet; path = path_after path })
 
--- a view is for the host that looks
-pub one_viewer : (s : EntryMap) (host : Viewer) → viewer_of (host_view_of s host) ≡ host
-one_viewer s None = refl
-one_viewer s (Some h) = refl
+-- a view is for the one who looks
+pub one_viewer : (s : EntryMap) (viewer : Viewer) → viewer_of (host_view_of s viewer) ≡ viewer
+one_viewer s viewer = ap (λ (host : Option (List ℕ)). record viewer { host = host }) (by viewer.host)
+  where
+    by : (host : Option (List ℕ)) → option_map (λ (own : Own). own.host) (option_map (own_of s) host) ≡ host
+    by None = refl
+    by (Some h) = refl
 
 -- ---- other hosts
 
@@ -182,22 +188,23 @@ named : (h k : List ℕ) → Host h ≡ Host k → h ≡ k
 named h k e = ap scope_bytes e
 
 pub other_hosts_are_not_in_view : OtherHostsAreNotInView
-other_hosts_are_not_in_view s t host place none same = by host place.scope refl none
+other_hosts_are_not_in_view s t viewer place none same = by viewer.host place.scope refl none
   where
-    by : (host : Viewer) (scope : Scope) → place.scope ≡ scope → level_for host (within scope place.path) ≡ None → host_view_of s host ≡ host_view_of t host
+    by : (host : Option (List ℕ)) (scope : Scope) → place.scope ≡ scope → level_for (record viewer { host = host }) (within scope place.path) ≡ None
+        → host_view_of s (record viewer { host = host }) ≡ host_view_of t (record viewer { host = host })
     by host Fleet is e = cc (e)
-    by None (Host k) is e = (λ i. record { own = None; fleet = same_scope s t place Fleet (λ f. let wrong = sym is ∙ f in cc (wrong)) same i })
+    by None (Host k) is e = (λ i. record { own = None; fleet = same_scope s t place Fleet (λ f. let wrong = sym is ∙ f in cc (wrong)) same i; profile = viewer.profile })
     by (Some h) (Host k) is e =
         let own = same_scope s t place (Host h) (λ f. other_host k h place.path.rank e (named h k (sym f ∙ is))) same in
         let fleet = same_scope s t place Fleet (λ f. let wrong = sym is ∙ f in cc (wrong)) same in
-        (λ i. record { own = Some (record { host = h; held = own i }); fleet = fleet i })
+        (λ i. record { own = Some (record { host = h; held = own i }); fleet = fleet i; profile = viewer.profile })
 
 -- ---- a host without places
 
 pub hosts_without_places_have_the_fleets_view : HostsWithoutPlacesHaveTheFleetsView
-hosts_without_places_have_the_fleets_view s host none =
-    finmap.same_map path_cmp_total path_cmp-IsAntisymmetric (view (host_view_of s (Some host))) (view (host_view_of s None))
-    (λ p. get-view p (host_view_of s (Some host)) ∙ by p (p.rank % 2 == 0) ∙ sym (get-view p (host_view_of s None)))
+hosts_without_places_have_the_fleets_view s host profile none =
+    finmap.same_map path_cmp_total path_cmp-IsAntisymmetric (view (host_view_of s (of_host host profile))) (view (host_view_of s (of_fleet profile)))
+    (λ p. get-view p (host_view_of s (of_host host profile)) ∙ by p (p.rank % 2 == 0) ∙ sym (get-view p (host_view_of s (of_fleet profile))))
   where
     by : (p : PathParts) (b : Bool) → option_and_then (λ (held : PathMap). finmap.get held (path_after p)) (cond b (Some (scope_of s (Host host))) (Some (scope_of s Fleet))) ≡ option_and_then (λ (held : PathMap). finmap.get held (path_after p)) (cond b None (Some (scope_of s Fleet)))
     by p true = get-scope_of (Host host) s (path_after p) ∙ none (path_after p)
@@ -206,28 +213,28 @@ hosts_without_places_have_the_fleets_view s host none =
 -- ---- what is visible without a host
 
 -- at a level of the fleet's it is what is visible at the path behind it, and at a host's it is nothing
-pub fleets_sights : (s : EntryMap) (p : PathParts) → viewed_at (host_view_of s None) p ≡ cond (p.rank % 2 == 0) None (shown_at (scope_of s Fleet) (path_after p))
-fleets_sights s p = ap (option_and_then shown) (get-view p (host_view_of s None)) ∙ by (p.rank % 2 == 0)
+pub fleets_sights : (s : EntryMap) (profile : Profile) (p : PathParts) → viewed_at (host_view_of s (of_fleet profile)) p ≡ cond (p.rank % 2 == 0) None (shown_at (scope_of s Fleet) (path_after p))
+fleets_sights s profile p = ap (option_and_then shown) (get-view p (host_view_of s (of_fleet profile))) ∙ by (p.rank % 2 == 0)
   where
     by : (b : Bool) → option_and_then shown (option_and_then (λ (held : PathMap). finmap.get held (path_after p)) (cond b None (Some (scope_of s Fleet)))) ≡ cond b None (shown_at (scope_of s Fleet) (path_after p))
     by true = refl
     by false = refl
 
 -- what is visible of the fleet at a path is visible at its level
-pub fleets_shown : (s : EntryMap) (p : PathParts) → viewed_at (host_view_of s None) (path_at (p.rank + p.rank + 1) p.folder p.name) ≡ shown_at (scope_of s Fleet) p
-fleets_shown s p = ap (option_and_then shown) (fleets_viewed (host_view_of s None) p.rank p.folder p.name)
+pub fleets_shown : (s : EntryMap) (profile : Profile) (p : PathParts) → viewed_at (host_view_of s (of_fleet profile)) (path_at (p.rank + p.rank + 1) p.folder p.name) ≡ shown_at (scope_of s Fleet) p
+fleets_shown s profile p = ap (option_and_then shown) (fleets_viewed (host_view_of s (of_fleet profile)) p.rank p.folder p.name)
 
 -- a host at whose places nothing is visible sees what is visible without one
-pub same_sights : (s : EntryMap) (host : List ℕ) → ShowsNothing s (Host host) → (p : PathParts) → viewed_at (host_view_of s (Some host)) p ≡ viewed_at (host_view_of s None) p
-same_sights s host none p = ap (option_and_then shown) (get-view p (host_view_of s (Some host))) ∙ by (p.rank % 2 == 0) ∙ sym (fleets_sights s p)
+pub same_sights : (s : EntryMap) (host : List ℕ) (profile : Profile) → ShowsNothing s (Host host) → (p : PathParts) → viewed_at (host_view_of s (of_host host profile)) p ≡ viewed_at (host_view_of s (of_fleet profile)) p
+same_sights s host profile none p = ap (option_and_then shown) (get-view p (host_view_of s (of_host host profile))) ∙ by (p.rank % 2 == 0) ∙ sym (fleets_sights s profile p)
   where
     by : (b : Bool) → option_and_then shown (option_and_then (λ (held : PathMap). finmap.get held (path_after p)) (cond b (Some (scope_of s (Host host))) (Some (scope_of s Fleet)))) ≡ cond b None (shown_at (scope_of s Fleet) (path_after p))
     by true = ap (option_and_then shown) (get-scope_of (Host host) s (path_after p)) ∙ none (path_after p)
     by false = refl
 
 -- what is visible without a host is the fleet's, and so is its place in each view
-pub fleets_level : (s : EntryMap) (p : PathParts) (c : Content) → viewed_at (host_view_of s None) p ≡ Some c → (p.rank % 2 == 0) ≡ false
-fleets_level s p c is = by (p.rank % 2 == 0) (sym (fleets_sights s p) ∙ is)
+pub fleets_level : (s : EntryMap) (profile : Profile) (p : PathParts) (c : Content) → viewed_at (host_view_of s (of_fleet profile)) p ≡ Some c → (p.rank % 2 == 0) ≡ false
+fleets_level s profile p c is = by (p.rank % 2 == 0) (sym (fleets_sights s profile p) ∙ is)
   where
     by : (b : Bool) → cond b None (shown_at (scope_of s Fleet) (path_after p)) ≡ Some c → b ≡ false
     by true e = cc (e)
@@ -246,16 +253,16 @@ twice_half_and_one : (r : ℕ) → (r % 2 == 0) ≡ false → r / 2 + r / 2 + 1 
 twice_half_and_one r odd = let left : ¬ (r % 2 ≡ 0) = grind (arith, nat_tests, odd) in omega (arith, left)
 
 -- what is looked at at an even level, or at an odd one
-abbrev looked_at : EntryMap → Viewer → Bool → Option PathMap
+abbrev looked_at : EntryMap → Option (List ℕ) → Bool → Option PathMap
 looked_at s host b = cond b (option_map (λ (o : Own). o.held) (option_map (own_of s) host)) (Some (scope_of s Fleet))
 
 pub places_decide_views : PlacesDecideViews
-places_decide_views s t host p same =
-    ap (option_and_then shown) (get-view p (host_view_of s host))
-    ∙ by host (p.rank % 2 == 0) refl same
-    ∙ ap (option_and_then shown) (sym (get-view p (host_view_of t host)))
+places_decide_views s t viewer p same =
+    ap (option_and_then shown) (get-view p (host_view_of s viewer))
+    ∙ by viewer.host (p.rank % 2 == 0) refl same
+    ∙ ap (option_and_then shown) (sym (get-view p (host_view_of t viewer)))
   where
-    by : (host : Viewer) (b : Bool) → (p.rank % 2 == 0) ≡ b → SameAtPlaces s t host p
+    by : (host : Option (List ℕ)) (b : Bool) → (p.rank % 2 == 0) ≡ b → SameAtPlaces s t (record viewer { host = host }) p
         → option_and_then shown (option_and_then (λ (held : PathMap). finmap.get held (path_after p)) (looked_at s host b))
         ≡ option_and_then shown (option_and_then (λ (held : PathMap). finmap.get held (path_after p)) (looked_at t host b))
     by host false odd same =
@@ -271,19 +278,19 @@ places_decide_views s t host p same =
         ∙ ap (option_and_then shown) (sym (get-scope_of (Host h) t (path_after p)))
 
 -- where nothing is visible at the places that are looked at for a path, nothing is seen at it
-pub nothing_viewed : (s : EntryMap) (host : Viewer) (p : PathParts)
-    → ((place : PlaceParts) → level_for host place ≡ Some (level_of p) → place.path.folder ≡ p.folder → place.path.name ≡ p.name
+pub nothing_viewed : (s : EntryMap) (viewer : Viewer) (p : PathParts)
+    → ((place : PlaceParts) → level_for viewer place ≡ Some (level_of p) → place.path.folder ≡ p.folder → place.path.name ≡ p.name
     → visible_at s place ≡ None)
-    → viewed_at (host_view_of s host) p ≡ None
-nothing_viewed s host p none =
-    places_decide_views s finmap.empty host p (λ place l folder name. none place l folder name ∙ sym (nowhere place))
-    ∙ ap (option_and_then shown) (get-view p (host_view_of finmap.empty host))
-    ∙ by host (p.rank % 2 == 0)
+    → viewed_at (host_view_of s viewer) p ≡ None
+nothing_viewed s viewer p none =
+    places_decide_views s finmap.empty viewer p (λ place l folder name. none place l folder name ∙ sym (nowhere place))
+    ∙ ap (option_and_then shown) (get-view p (host_view_of finmap.empty viewer))
+    ∙ by viewer.host (p.rank % 2 == 0)
   where
     nowhere : (place : PlaceParts) → visible_at finmap.empty place ≡ None
     nowhere place = ap (option_and_then shown) (finmap.get-empty place_cmp place)
 
-    by : (host : Viewer) (b : Bool)
+    by : (host : Option (List ℕ)) (b : Bool)
         → option_and_then shown (option_and_then (λ (held : PathMap). finmap.get held (path_after p)) (looked_at finmap.empty host b))
         ≡ None
     by host false = ap (option_and_then shown) (get-scope_of Fleet finmap.empty (path_after p)) ∙ nowhere (within Fleet (path_after p))

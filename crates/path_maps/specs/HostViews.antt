@@ -2,8 +2,9 @@
 -- store.
 -- Source: this project's own.
 use Rattle.std.proofs.Common.{if◌then◌else◌, ◌%◌, ◌++◌, ◌+◌, ◌/◌, ◌==◌, ◌≡◌}
-use Rattle.path_maps.specs.Prelude.{[], bytes_eq, code_by, Coded, coded_entry, coded_list, coded_option, coded_path, coded_ℕ, coded×, Content, Entry, EntryMap, Fleet, Host, List, map, None, Option, option_and_then, option_map, PathParts, PlaceParts, refl, Scope, Some, Viewer, ℕ}
+use Rattle.path_maps.specs.Prelude.{[], bytes_eq, code_by, Coded, coded_entry, coded_list, coded_option, coded_path, coded_ℕ, coded×, Content, Entry, EntryMap, Fleet, Host, List, map, None, Option, option_and_then, option_map, PathParts, PlaceParts, Profile, refl, Scope, Some, Viewer, ℕ}
 use Rattle.path_maps.specs.{Folders.{path_at}, Scopes.{PathMap, scope_of, shown_at}}
+use Rattle.profiles.specs.contracts.profiles.Profile as profile
 use Rattle.std.specs.FinMap as finmap
 
 -- A host, and what it has for itself.
@@ -11,21 +12,23 @@ pub record Own : Type 0 where
   pub host : List ℕ
   pub held : PathMap
 
--- What is seen: what a host has for itself, if there is a host, and what the fleet has.
+-- What is seen: what a host has for itself, if there is a host, and what the fleet has. With it goes by which rules units
+-- are loaded from it.
 pub record HostViewMap : Type 0 where
   pub own : Option Own
   pub fleet : PathMap
+  pub profile : Profile
 
 -- What a host sees, or what is seen without a host. A host sees nothing of other hosts.
 abbrev pub own_of : EntryMap → List ℕ → Own
 own_of s host = record { host = host; held = scope_of s (Host host) }
 
 abbrev pub host_view_of : EntryMap → Viewer → HostViewMap
-host_view_of s host = record { own = option_map (own_of s) host; fleet = scope_of s Fleet }
+host_view_of s viewer = record { own = option_map (own_of s) viewer.host; fleet = scope_of s Fleet; profile = viewer.profile }
 
--- The name of the host that the view is for, if it is for one.
+-- Who the view is for: the host, if it is for one, and by which rules.
 abbrev pub viewer_of : HostViewMap → Viewer
-viewer_of v = option_map (λ own. own.host) v.own
+viewer_of v = record { host = option_map (λ own. own.host) v.own; profile = v.profile }
 
 -- ---- by level
 
@@ -68,9 +71,9 @@ scope_at v level = if level % 2 == 0 then own_scope v.own else Fleet
 abbrev pub viewed_place : HostViewMap → PathParts → PlaceParts
 viewed_place v p = record { scope = scope_at v p.rank; path = path_at (p.rank / 2) p.folder p.name }
 
--- Both views are for the same host, or both are without a host.
+-- Both views are for the same host, or both are without a host; and both are by the same rules.
 abbrev pub AreForOne : HostViewMap → HostViewMap → Type 0
-AreForOne v w = own_scope v.own ≡ own_scope w.own
+AreForOne v w = (own_scope v.own ≡ own_scope w.own) × (v.profile ≡ w.profile)
 
 -- ---- by place
 
@@ -93,4 +96,8 @@ abbrev pub coded_own : Coded Own
 coded_own = code_by (List ℕ × PathMap) (coded× (coded_list coded_ℕ) (finmap.code coded_path coded_entry)) (λ o. (o.host, o.held)) (λ t. record { host = t.0; held = t.1 }) (λ _. refl)
 
 abbrev pub coded_host_view : Coded HostViewMap
-coded_host_view = code_by (Option Own × PathMap) (coded× (coded_option coded_own) (finmap.code coded_path coded_entry)) (λ v. (v.own, v.fleet)) (λ t. record { own = t.0; fleet = t.1 }) (λ _. refl)
+coded_host_view =
+    code_by (Option Own × (PathMap × Profile))
+    (coded× (coded_option coded_own) (coded× (finmap.code coded_path coded_entry) (profile.the_row).coded))
+    (λ v. (v.own, (v.fleet, v.profile)))
+    (λ t. record { own = t.0; fleet = t.1.0; profile = t.1.1 }) (λ _. refl)

@@ -23,7 +23,7 @@ use edit_sums::{Content, Edit, Entry, FlatEdit};
 use join_law::{
     AddAt, AddValue, Addition, Change, ChangeAt, Join, JoinMap, Overwrite, Rest, Version, Versioned,
 };
-use load_places::{HostName, Place, Scope};
+use load_places::{HostName, Place, Scope, Viewer};
 use plain_values::Bytes;
 use std::alloc::{AllocError, Global};
 use std::marker::Model;
@@ -150,15 +150,15 @@ impl Store {
     }
 
     /// What a host looks at, or what is looked at without one: the host's own places and the fleet's, and nothing of other
-    /// hosts. Two searches, without memory.
-    pub fn host_view<'a>(&'a self, host: Option<&'a HostName>) -> HostView<'a>
-        ensures view { result ≡ host_view_of self.now (option_copied host.entry) }
+    /// hosts. It doesn't depend on the viewer's profile, which goes with it. Two searches, without memory.
+    pub fn host_view<'a>(&'a self, viewer: &'a Viewer) -> HostView<'a>
+        ensures view { result ≡ host_view_of self.now viewer.now }
     {
-        let own = match host {
+        let own = match &viewer.host {
             Some(host) => Some(self.own_of(host)),
             None => None,
         };
-        HostView::new(own, self.held_in(&Scope::Fleet))
+        HostView::new(own, self.held_in(&Scope::Fleet), viewer.profile)
     }
 
     // What a host has for itself.

@@ -10,6 +10,7 @@ use crate::held::Held;
 use edit_sums::{Content, Entry};
 use load_places::{HostName, Place, Scope};
 use plain_values::Bytes;
+use profiles::Profile;
 use std::alloc::{AllocError, Global};
 use std::marker::Model;
 
@@ -117,7 +118,8 @@ impl<'a> Own<'a> {
     }
 }
 
-/// What a host sees of a store, or what is seen without a host, borrowed. Units are read from this alone.
+/// What a host sees of a store, or what is seen without a host, borrowed; and by which rules units are loaded from it. Units
+/// are read from this alone.
 ///
 /// A level below `LEVELS` belongs to the host's own directory of a rank if it is twice the rank, and to the fleet's if it
 /// is twice the rank plus one.
@@ -125,6 +127,7 @@ impl<'a> Own<'a> {
 pub struct HostView<'a> {
     own: Option<Own<'a>>,
     fleet: Held<'a>,
+    profile: Profile,
 }
 
 impl<'a> Model for HostView<'a> {
@@ -134,15 +137,26 @@ impl<'a> Model for HostView<'a> {
 
     ghost coded = { coded_host_view };
 
-    ghost view = { λ s. record { own = s.own; fleet = s.fleet } };
+    ghost view = { λ s. record { own = s.own; fleet = s.fleet; profile = s.profile } };
 }
 
 impl<'a> HostView<'a> {
     // Makes the view from what a host has for itself, if there is a host, and what the fleet has.
-    pub(crate) fn new(own: Option<Own<'a>>, fleet: Held<'a>) -> Self
-        ensures view { result ≡ record { own = own.entry; fleet = fleet.entry } }
+    pub(crate) fn new(own: Option<Own<'a>>, fleet: Held<'a>, profile: Profile) -> Self
+        ensures view { result ≡ record { own = own.entry; fleet = fleet.entry; profile = profile } }
     {
-        HostView { own, fleet }
+        HostView {
+            own,
+            fleet,
+            profile,
+        }
+    }
+
+    /// Returns by which rules units are loaded from it. Allocates nothing.
+    pub fn profile(&self) -> Profile
+        ensures profile { result ≡ self.now.profile }
+    {
+        self.profile
     }
 
     /// Returns the allocator of the store.

@@ -8,7 +8,7 @@
 //! Replicated Data Types", 2011).
 //!
 //! The crate also exports the types of the crates below it that a user of replicas needs: contents, edits, versions,
-//! paths, places, hosts, `Store` and its cursors.
+//! paths, places, hosts, viewers, `Store` and its cursors.
 #![tactic(auto)]
 
 mod replicas;
@@ -16,7 +16,7 @@ mod replicas;
 pub use edit_sums::{Content, ContentFault, Edit, Entry, FileBytes, FlatEdit, LinkTarget};
 pub use join_law::{Rest, Version};
 pub use load_path::{Path, PathFault};
-pub use load_places::{HOST_LIMIT, HostFault, HostName, Place, PlaceFault, Scope};
+pub use load_places::{HOST_LIMIT, HostFault, HostName, Place, PlaceFault, Scope, Viewer};
 pub use path_maps::{
     Entries, FolderMap, HostView, HostViewEntries, HostViewEntry, NameMap, Placed, RankMap,
     ScopeMap, Store, Zipped,

@@ -11,23 +11,23 @@ name_fault word name.EmptyPrefix e = inr (name.EmptyPrefix, e, refl)
 name_fault word (name.BadByte place) e = inr (name.BadByte place, e, refl)
 name_fault word name.Memory e = inl refl
 
-module _ (host : Viewer) (unit : List ℕ) (running : List (List ℕ)) where
+module _ (viewer : Viewer) (unit : List ℕ) (running : List (List ℕ)) where
   pub request_made : (target : Name) (names : List Name) → name_of unit ≡ Ok target → names_in running ≡ Ok names
-      → request_of host unit running ≡ Ok (record { host = host; target = target; running = names })
+      → request_of viewer unit running ≡ Ok (record { viewer = viewer; target = target; running = names })
   request_made target names e also =
-      ap (λ (r : Result Name NameFault). request_with host r (names_in running)) e ∙ ap (request_with host (Ok target)) also
+      ap (λ (r : Result Name NameFault). request_with viewer r (names_in running)) e ∙ ap (request_with viewer (Ok target)) also
 
-  pub target_refused : (fault : Fault) → IsNameFault (name_of unit) fault → IsNameFault (request_of host unit running) fault
+  pub target_refused : (fault : Fault) → IsNameFault (name_of unit) fault → IsNameFault (request_of viewer unit running) fault
   target_refused fault (inl e) = inl e
   target_refused fault (inr why) = inr (why.0, by (names_in running) (why.1), why.2)
     where
-      by : (r : Result (List Name) NameFault) → name_of unit ≡ Err why.0 → request_with host (name_of unit) r ≡ Err why.0
-      by r e = ap (λ (n : Result Name NameFault). request_with host n r) e
+      by : (r : Result (List Name) NameFault) → name_of unit ≡ Err why.0 → request_with viewer (name_of unit) r ≡ Err why.0
+      by r e = ap (λ (n : Result Name NameFault). request_with viewer n r) e
 
-  pub running_refused : (target : Name) (fault : Fault) → name_of unit ≡ Ok target → IsNameFault (names_in running) fault → IsNameFault (request_of host unit running) fault
+  pub running_refused : (target : Name) (fault : Fault) → name_of unit ≡ Ok target → IsNameFault (names_in running) fault → IsNameFault (request_of viewer unit running) fault
   running_refused target fault e (inl m) = inl m
   running_refused target fault e (inr why) = inr (
     why.0,
-    ap (λ (r : Result Name NameFault). request_with host r (names_in running)) e ∙ ap (request_with host (Ok target)) why.1,
+    ap (λ (r : Result Name NameFault). request_with viewer r (names_in running)) e ∙ ap (request_with viewer (Ok target)) why.1,
     why.2,
   )

@@ -1,8 +1,8 @@
 -- Laws of a unit's files for hosts: for one at whose places nothing is visible they are rendered as without a host, and another
 -- host's places don't change them.
 use Rattle.std.proofs.Common.{◌++◌, ◌↔◌, ◌∷◌, ◌≡◌, ◌≢◌}
-use Rattle.script_answers.specs.Prelude.{[], ap, Choice, codes, Contains, content_at, EntryMap, Err, files_show, first_there, flat_map, HaveTheSameFiles, Host, host_asked, host_view_of, HostFault, hosts_without_places_have_these_files, HostViewMap, later_there, level_for, List, mains_decide, MatchResult, Name, name_of, NameFault, None, Ok, Option, other_hosts_are_not_in_view, Outcome, PlaceParts, refl, Resolution, resolution, Result, same_mains, ShowsNothing, Some, subst, sym, turned, Viewer, ℕ, ◌∙◌}
-use Rattle.script_answers.specs.{Files.{file_bytes, file_lines, IsCat, RefusesName, RendersChoice, RendersFiles, RendersFilesOf}, Hosts.{RefusesHost}}
+use Rattle.script_answers.specs.Prelude.{[], ap, Choice, codes, Contains, content_at, EntryMap, Err, Files, files_show, first_there, flat_map, HaveTheSameFiles, Host, host_asked, host_view_of, HostFault, hosts_without_places_have_these_files, HostViewMap, later_there, level_for, List, mains_decide, MatchResult, Name, name_of, NameFault, None, of_fleet, of_host, Ok, Option, other_hosts_are_not_in_view, Outcome, PlaceParts, refl, Resolution, resolution, Result, same_mains, ShowsNothing, Some, subst, sym, turned, ℕ, ◌∙◌}
+use Rattle.script_answers.specs.{Files.{file_bytes, file_lines, IsCat, RefusesName, RendersChoice, RendersFiles, RendersFilesOf}, Hosts.{by_files, RefusesHost}}
 use Rattle.std.specs.FinMap as finmap
 use Rattle.fragment_choice.specs.declared.choices.Choice.TheVariants as choice
 
@@ -16,8 +16,8 @@ HostsWithoutPlacesAreRenderedTheFleetsFiles =
 -- nothing of what is rendered without one.
 abbrev pub OtherHostsChangeNoFiles : Type 0
 OtherHostsChangeNoFiles =
-    (s t : EntryMap) (asked : Option (List ℕ)) (host : Viewer) → host_asked asked ≡ Ok host → (place : PlaceParts)
-    → level_for host place ≡ None → ((q : PlaceParts) → q ≢ place → finmap.get s q ≡ finmap.get t q)
+    (s t : EntryMap) (asked : Option (List ℕ)) (host : Option (List ℕ)) → host_asked asked ≡ Ok host → (place : PlaceParts)
+    → level_for (by_files host) place ≡ None → ((q : PlaceParts) → q ≢ place → finmap.get s q ≡ finmap.get t q)
     → (word : List ℕ) (outcome : Outcome) → RendersFiles asked word s outcome → RendersFiles asked word t outcome
 
 -- ---- the same files are rendered alike
@@ -70,26 +70,26 @@ module _ (s t : HostViewMap) (same : HaveTheSameFiles s t) (outcome : Outcome) w
 -- ---- the laws
 
 -- what is rendered for a host's text is rendered for that host
-module _ (asked : Option (List ℕ)) (host : Viewer) (is : host_asked asked ≡ Ok host)
+module _ (asked : Option (List ℕ)) (host : Option (List ℕ)) (is : host_asked asked ≡ Ok host)
     (word : List ℕ) (s : EntryMap) (outcome : Outcome) where
-  abbrev For : Result Viewer HostFault → Type 0
-  For r = MatchResult r (λ viewer. RendersFilesOf word (host_view_of s viewer) outcome) (λ fault. RefusesHost fault outcome)
+  abbrev For : Result (Option (List ℕ)) HostFault → Type 0
+  For r = MatchResult r (λ h. RendersFilesOf word (host_view_of s (by_files h)) outcome) (λ fault. RefusesHost fault outcome)
 
-  for_it : RendersFiles asked word s outcome → RendersFilesOf word (host_view_of s host) outcome
+  for_it : RendersFiles asked word s outcome → RendersFilesOf word (host_view_of s (by_files host)) outcome
   for_it rendered = subst For is rendered
 
-  of_it : RendersFilesOf word (host_view_of s host) outcome → RendersFiles asked word s outcome
+  of_it : RendersFilesOf word (host_view_of s (by_files host)) outcome → RendersFiles asked word s outcome
   of_it rendered = subst For (sym is) rendered
 
 module _ (s : EntryMap) (host : List ℕ) (none : ShowsNothing s (Host host)) where
   abbrev hosts : HostViewMap
-  hosts = host_view_of s (Some host)
+  hosts = host_view_of s (of_host host Files)
 
   abbrev fleets : HostViewMap
-  fleets = host_view_of s None
+  fleets = host_view_of s (of_fleet Files)
 
   same_files : HaveTheSameFiles hosts fleets
-  same_files = hosts_without_places_have_these_files s host none
+  same_files = hosts_without_places_have_these_files s host Files none
 
   rendered_alike : (asked : Option (List ℕ)) → host_asked asked ≡ Ok (Some host) → (word : List ℕ) (outcome : Outcome)
       → RendersFiles asked word s outcome ↔ RendersFiles None word s outcome
@@ -103,6 +103,6 @@ hosts_without_places_are_rendered_the_fleets_files s host none = rendered_alike 
 
 pub other_hosts_change_no_files : OtherHostsChangeNoFiles
 other_hosts_change_no_files s t asked host is place apart elsewhere word outcome rendered =
-    let view : host_view_of s host ≡ host_view_of t host = other_hosts_are_not_in_view s t host place apart elsewhere in
+    let view : host_view_of s (by_files host) ≡ host_view_of t (by_files host) = other_hosts_are_not_in_view s t (by_files host) place apart elsewhere in
     of_it asked host is word t outcome
     (subst (λ (v : HostViewMap). RendersFilesOf word v outcome) view (for_it asked host is word s outcome rendered))

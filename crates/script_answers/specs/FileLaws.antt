@@ -1,7 +1,7 @@
 -- Each question about units has one answer.
 use Rattle.std.proofs.Common.{◌∷◌, ◌≡◌}
 use Rattle.script_answers.specs.Prelude.{ap, Choice, EntryMap, Err, false, host_view_of, HostViewMap, is_spent, IsDropInAt, List, MatchResult, Name, name_of, NameFault, Ok, one_list_of_names, one_order, Option, Outcome, PlaceParts, resolution, Result, subst, sym, ℕ, ◌∙◌}
-use Rattle.script_answers.specs.{Files.{cat_text, IsCat, RefusesName, RendersChoice, RendersFiles, RendersFilesOf}, HostLaws.{for_host_once, for_host_unspent}}
+use Rattle.script_answers.specs.{Files.{cat_text, IsCat, RefusesName, RendersChoice, RendersFiles, RendersFilesOf}, HostLaws.{for_host_once, for_host_unspent}, Hosts.{by_files}}
 use Rattle.unit_name.specs.declared.names.NameFault.TheVariants as name
 use Rattle.fragment_choice.specs.declared.choices.Choice.TheVariants as choice
 
@@ -49,7 +49,7 @@ module _ (s : HostViewMap) (a b : Outcome) where
   rendered_once (Err fault) p q = name_refused_once a b fault p q
 
 pub files_are_rendered_once : FilesAreRenderedOnce
-files_are_rendered_once asked word s = for_host_once (λ host t. RendersFilesOf word (host_view_of t host)) asked s (λ host a b p q. rendered_once (host_view_of s host) a b (name_of word) p q)
+files_are_rendered_once asked word s = for_host_once (λ host t. RendersFilesOf word (host_view_of t (by_files host))) asked s (λ host a b p q. rendered_once (host_view_of s (by_files host)) a b (name_of word) p q)
 
 -- the answer about a unit's files is never that counters are spent
 module _ (s : HostViewMap) (outcome : Outcome) where
@@ -65,4 +65,4 @@ module _ (s : HostViewMap) (outcome : Outcome) where
   rendered_unspent (Err fault) p = name_unspent outcome fault p
 
 pub files_spend_nothing : (asked : Option (List ℕ)) (word : List ℕ) (s : EntryMap) (outcome : Outcome) → RendersFiles asked word s outcome → is_spent outcome ≡ false
-files_spend_nothing asked word s = for_host_unspent (λ host t. RendersFilesOf word (host_view_of t host)) asked s (λ host outcome t. rendered_unspent (host_view_of s host) outcome (name_of word) t)
+files_spend_nothing asked word s = for_host_unspent (λ host t. RendersFilesOf word (host_view_of t (by_files host))) asked s (λ host outcome t. rendered_unspent (host_view_of s (by_files host)) outcome (name_of word) t)

@@ -2,7 +2,7 @@
 -- Source: as `systemctl cat` shows a unit (systemctl(1)); the texts of refusals are this project's own.
 use Rattle.std.proofs.Common.{if◌then◌else◌, ◌++◌, ◌↔◌, ◌∷◌, ◌≡◌}
 use Rattle.script_answers.specs.Prelude.{[], AreNames, Bad, BadByte, Choice, codes, Contains, Content, content_at, EmptyPrefix, ends_with, Entry, entry_place, EntryMap, Err, File, file_name, flat_map, Gone, host_view_of, HostViewMap, IsDropInAt, IsStrictlySortedBy, Kind, Length, Link, List, map, Masked, MatchResult, Name, name_cmp, name_of, NameFault, nat_eq, None, NotFound, Ok, Option, Outcome, PathParts, place_text, PlaceParts, resolution, shown, Some, ℕ}
-use Rattle.script_answers.specs.Hosts.{ForHost}
+use Rattle.script_answers.specs.Hosts.{by_files, ForHost}
 use Rattle.unit_name.specs.declared.names.NameFault.TheVariants as name
 use Rattle.fragment_choice.specs.declared.choices.Choice.TheVariants as choice
 
@@ -77,4 +77,4 @@ RendersFilesOf word s outcome = MatchResult (name_of word) (λ n. RendersChoice 
 
 -- the same in a store, for the host that is named
 abbrev pub RendersFiles : Option (List ℕ) → List ℕ → EntryMap → Outcome → Type 0
-RendersFiles asked word = ForHost asked (λ host s. RendersFilesOf word (host_view_of s host))
+RendersFiles asked word = ForHost asked (λ host s. RendersFilesOf word (host_view_of s (by_files host)))

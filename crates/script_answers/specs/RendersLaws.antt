@@ -1,6 +1,6 @@
 -- A question has one answer, which is never that counters are spent.
 use Rattle.std.proofs.Common.{◌≡◌}
-use Rattle.script_answers.specs.Prelude.{[], Answer, ap, EntryMap, Err, false, host_of, is_spent, LineRefusal, LinkedUnit, List, NameFault, Ok, one_answer, Option, Outcome, PlanRefusal, Question, Result, subst, sym, Viewer, ℕ, ◌∙◌}
+use Rattle.script_answers.specs.Prelude.{[], Answer, ap, EntryMap, Err, false, is_spent, LineRefusal, LinkedUnit, List, NameFault, Ok, one_answer, Option, Outcome, PlanRefusal, Question, Result, subst, sym, Viewer, viewer_asked, ℕ, ◌∙◌}
 use Rattle.script_answers.specs.{FileLaws.{name_refused_once, name_unspent}, HostLaws.{for_host_once, for_host_unspent}, Plans.{fault_of_plan, RefusesPlan}, Renders.{AreWritten, IsOutcomeOf, RendersFor, RendersQuestion, RendersWords}, TreeTextLaws.{tree_text_once}}
 use Rattle.script_answers.specs.declared.asking.Form.{Form}
 use Rattle.script_answers.specs.declared.asking.Form.TheVariants as form
@@ -10,7 +10,7 @@ use Rattle.fleet_answers.specs.declared.questions.Answer.TheVariants as answer
 
 -- the question that words make has one answer, or one refusal
 abbrev pub QuestionsAreRenderedOnce : Type 0
-QuestionsAreRenderedOnce = (form : Form) (asks_for : Viewer → Result Question NameFault) (asked : Option (List ℕ)) (s : EntryMap) (a b : Outcome)
+QuestionsAreRenderedOnce = (form : Form) (asks_for : Option (List ℕ) → Result Question NameFault) (asked : Option (List ℕ)) (s : EntryMap) (a b : Outcome)
     → RendersFor form asks_for asked s a → RendersFor form asks_for asked s b → a ≡ b
 
 -- ---- refusals of plans
@@ -40,25 +40,25 @@ refusal_unspent plan.Memory r e = absurd (memory_is_not_rendered r e)
 
 -- ---- one outcome
 
-written_once : (form : Form) (s : EntryMap) (host : Viewer) (all : List LinkedUnit) (a b : List ℕ) → AreWritten form s host all a → AreWritten form s host all b → a ≡ b
-written_once form.Units s host all a b p q = p ∙ sym q
-written_once form.Tree s host all a b p q = tree_text_once s host all a b p q
+written_once : (form : Form) (s : EntryMap) (viewer : Viewer) (all : List LinkedUnit) (a b : List ℕ) → AreWritten form s viewer all a → AreWritten form s viewer all b → a ≡ b
+written_once form.Units s viewer all a b p q = p ∙ sym q
+written_once form.Tree s viewer all a b p q = tree_text_once s viewer all a b p q
 
-one_outcome : (form : Form) (s : EntryMap) (host : Viewer) (rendered : Answer) (a b : Outcome)
-    → IsOutcomeOf form s host rendered a → IsOutcomeOf form s host rendered b → a ≡ b
-one_outcome form s host answer.Template a b p q = p ∙ sym q
-one_outcome form s host answer.TooManyUnits a b p q = p ∙ sym q
-one_outcome form s host (answer.Unit linked) a b p q = p ∙ sym q
-one_outcome form s host (answer.Pulled pairs) a b p q = p ∙ sym q
-one_outcome form s host (answer.Planned plan) a b p q = p ∙ sym q
-one_outcome form s host (answer.Refused cause) a b p q = rendered_alike cause a b p q
-one_outcome form s host (answer.Units all) a b p q = p.2 ∙ ap (λ (text : List ℕ). Ok text) (written_once form s host all p.0 q.0 p.1 q.1) ∙ sym q.2
+one_outcome : (form : Form) (s : EntryMap) (viewer : Viewer) (rendered : Answer) (a b : Outcome)
+    → IsOutcomeOf form s viewer rendered a → IsOutcomeOf form s viewer rendered b → a ≡ b
+one_outcome form s viewer answer.Template a b p q = p ∙ sym q
+one_outcome form s viewer answer.TooManyUnits a b p q = p ∙ sym q
+one_outcome form s viewer (answer.Unit linked) a b p q = p ∙ sym q
+one_outcome form s viewer (answer.Pulled pairs) a b p q = p ∙ sym q
+one_outcome form s viewer (answer.Planned plan) a b p q = p ∙ sym q
+one_outcome form s viewer (answer.Refused cause) a b p q = rendered_alike cause a b p q
+one_outcome form s viewer (answer.Units all) a b p q = p.2 ∙ ap (λ (text : List ℕ). Ok text) (written_once form s viewer all p.0 q.0 p.1 q.1) ∙ sym q.2
 
 question_rendered_once : (form : Form) (question : Question) (s : EntryMap) (a b : Outcome)
     → RendersQuestion form question s a → RendersQuestion form question s b → a ≡ b
 question_rendered_once form question s a b p q =
-    one_outcome form s (host_of question) q.0 a b
-    (subst (λ (rendered : Answer). IsOutcomeOf form s (host_of question) rendered a) (one_answer s [] question p.0 q.0 p.1 q.1) p.2) q.2
+    one_outcome form s (viewer_asked question) q.0 a b
+    (subst (λ (rendered : Answer). IsOutcomeOf form s (viewer_asked question) rendered a) (one_answer s [] question p.0 q.0 p.1 q.1) p.2) q.2
 
 words_rendered_once : (form : Form) (read : Result Question NameFault) (s : EntryMap) (a b : Outcome) → RendersWords form read s a → RendersWords form read s b → a ≡ b
 words_rendered_once form (Ok question) s a b p q = question_rendered_once form question s a b p q
@@ -70,21 +70,21 @@ questions_are_rendered_once form asks_for asked s =
 
 -- ---- and it is never that counters are spent
 
-outcome_unspent : (form : Form) (s : EntryMap) (host : Viewer) (rendered : Answer) (outcome : Outcome)
-    → IsOutcomeOf form s host rendered outcome → is_spent outcome ≡ false
-outcome_unspent form s host answer.Template outcome p = ap is_spent p
-outcome_unspent form s host answer.TooManyUnits outcome p = ap is_spent p
-outcome_unspent form s host (answer.Unit linked) outcome p = ap is_spent p
-outcome_unspent form s host (answer.Pulled pairs) outcome p = ap is_spent p
-outcome_unspent form s host (answer.Planned plan) outcome p = ap is_spent p
-outcome_unspent form s host (answer.Units all) outcome p = ap is_spent p.2
-outcome_unspent form s host (answer.Refused cause) outcome p = ap is_spent p.outcome_is ∙ refusal_unspent cause p.refusal p.rendered
+outcome_unspent : (form : Form) (s : EntryMap) (viewer : Viewer) (rendered : Answer) (outcome : Outcome)
+    → IsOutcomeOf form s viewer rendered outcome → is_spent outcome ≡ false
+outcome_unspent form s viewer answer.Template outcome p = ap is_spent p
+outcome_unspent form s viewer answer.TooManyUnits outcome p = ap is_spent p
+outcome_unspent form s viewer (answer.Unit linked) outcome p = ap is_spent p
+outcome_unspent form s viewer (answer.Pulled pairs) outcome p = ap is_spent p
+outcome_unspent form s viewer (answer.Planned plan) outcome p = ap is_spent p
+outcome_unspent form s viewer (answer.Units all) outcome p = ap is_spent p.2
+outcome_unspent form s viewer (answer.Refused cause) outcome p = ap is_spent p.outcome_is ∙ refusal_unspent cause p.refusal p.rendered
 
 words_unspent : (form : Form) (read : Result Question NameFault) (s : EntryMap) (outcome : Outcome) → RendersWords form read s outcome → is_spent outcome ≡ false
-words_unspent form (Ok question) s outcome t = outcome_unspent form s (host_of question) t.0 outcome t.2
+words_unspent form (Ok question) s outcome t = outcome_unspent form s (viewer_asked question) t.0 outcome t.2
 words_unspent form (Err fault) s outcome t = name_unspent outcome fault t
 
-pub questions_spend_nothing : (form : Form) (asks_for : Viewer → Result Question NameFault) (asked : Option (List ℕ)) (s : EntryMap) (outcome : Outcome)
+pub questions_spend_nothing : (form : Form) (asks_for : Option (List ℕ) → Result Question NameFault) (asked : Option (List ℕ)) (s : EntryMap) (outcome : Outcome)
     → RendersFor form asks_for asked s outcome → is_spent outcome ≡ false
 questions_spend_nothing form asks_for asked s =
     for_host_unspent (λ host. RendersWords form (asks_for host)) asked s (λ host. words_unspent form (asks_for host) s)

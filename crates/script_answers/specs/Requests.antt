@@ -8,14 +8,14 @@ abbrev pub names_in : List (List ℕ) → Result (List Name) NameFault
 names_in = each_read name_of
 
 abbrev pub request_with : Viewer → Result Name NameFault → Result (List Name) NameFault → Result Request NameFault
-request_with host (Err fault) running = Err fault
-request_with host (Ok target) (Err fault) = Err fault
-request_with host (Ok target) (Ok running) = Ok (record { host = host; target = target; running = running })
+request_with viewer (Err fault) running = Err fault
+request_with viewer (Ok target) (Err fault) = Err fault
+request_with viewer (Ok target) (Ok running) = Ok (record { viewer = viewer; target = target; running = running })
 
--- the request of a host to start the unit of one word while those of the others run, or the first thing wrong with the
+-- the request of a viewer to start the unit of one word while those of the others run, or the first thing wrong with the
 -- first that is none
 abbrev pub request_of : Viewer → List ℕ → List (List ℕ) → Result Request NameFault
-request_of host unit running = request_with host (name_of unit) (names_in running)
+request_of viewer unit running = request_with viewer (name_of unit) (names_in running)
 
 -- the fault of words that are no unit names, or that memory ran out
 abbrev pub IsNameFault : {T : Type 0} → Result T NameFault → Fault → Type 0

@@ -21,21 +21,21 @@ crossed_lines names = flat_map crossed_line names
 -- Of these units of a host's load, these are crossed, in the same order: each unit in turn is one of them and crossed, or
 -- reads its tree.
 abbrev pub AreCrossed : EntryMap → Viewer → List LinkedUnit → List Name → Type 0
-AreCrossed s host [] crossed = crossed ≡ []
-AreCrossed s host (one ∷ more) crossed =
-    (IsCrossed s host one.unit.names × (others : List Name) × (crossed ≡ one.unit.name ∷ others) × AreCrossed s host more others)
-    ⊎ (ReadsItsTree s host one.unit.names × AreCrossed s host more crossed)
+AreCrossed s viewer [] crossed = crossed ≡ []
+AreCrossed s viewer (one ∷ more) crossed =
+    (IsCrossed s viewer one.unit.names × (others : List Name) × (crossed ≡ one.unit.name ∷ others) × AreCrossed s viewer more others)
+    ⊎ (ReadsItsTree s viewer one.unit.names × AreCrossed s viewer more crossed)
 
 -- The text is the tree of the host, and a line for each of these units that is crossed.
-pub record IsTreeText (s : EntryMap) (host : Viewer) (all : List LinkedUnit) (text : List ℕ) : Type 0 where
+pub record IsTreeText (s : EntryMap) (viewer : Viewer) (all : List LinkedUnit) (text : List ℕ) : Type 0 where
   pub tree : List (PathParts × Content)
-  pub tree_is : IsTree s host tree
+  pub tree_is : IsTree s viewer.host tree
   pub crossed : List Name
-  pub crossed_are : AreCrossed s host all crossed
+  pub crossed_are : AreCrossed s viewer all crossed
   pub text_is : text ≡ tree_lines tree ++ crossed_lines crossed ++ codes "end\n"
 
 -- Lines for just the crossed ones of these units follow what there was.
-pub record AppendsCrossed (s : EntryMap) (host : Viewer) (all : List LinkedUnit) (old new : List ℕ) : Type 0 where
+pub record AppendsCrossed (s : EntryMap) (viewer : Viewer) (all : List LinkedUnit) (old new : List ℕ) : Type 0 where
   pub crossed : List Name
-  pub crossed_are : AreCrossed s host all crossed
+  pub crossed_are : AreCrossed s viewer all crossed
   pub appended : new ≡ old ++ crossed_lines crossed

@@ -1,5 +1,5 @@
 //! Questions on a node's store, and how their answers are rendered.
-ghost use Rattle.std.specs.{Prelude.{◌≡◌, ◌<◌, IfOk, length, slice_index_or}, Option.{option_copied}};
+ghost use Rattle.std.specs.{Prelude.{◌≡◌, ◌<◌, IfOk, length, slice_index_or}};
 ghost use Rattle.replica_store.specs.Replicas.{Replicated};
 ghost use Rattle.script_commands.specs.Outcomes.{IsSaid};
 ghost use Rattle.script_answers.specs.Renders.{AreWritten, form_of, IsOutcomeOf, RendersInquiry};
@@ -12,7 +12,7 @@ use crate::trees::tree_text;
 use crate::unit_lines::{unit_text, units_text};
 use crate::worker_counts::WorkerCount;
 use fleet_answers::{Answer, AnswerFault, LinkedUnit, SnapshotLimit, TrackedReplica};
-use replica_store::{HostName, Store};
+use replica_store::{Store, Viewer};
 use script_commands::{Fault, Inquiry, LineRefusal, Word, read_host};
 use std::alloc::{AllocError, Global};
 use std::thread::Threads;
@@ -69,7 +69,7 @@ pub fn render_inquiry<R: Threads + Sync>(
     let question = read_question(alloc, host, inquiry)?;
     let workers = workers.count() as usize;
     match snapshots.answer(rt, alloc, nodes, node, &question, workers, &OpenGate) {
-        Ok(answer) => answer_text(alloc, form, nodes[node].store(), question.host(), answer),
+        Ok(answer) => answer_text(alloc, form, nodes[node].store(), question.viewer(), answer),
         Err(AnswerFault::Workers) => unreachable!(),
         Err(AnswerFault::Memory) => Err(Fault::Memory),
     }
@@ -80,16 +80,16 @@ fn answer_text(
     alloc: Global,
     form: Form,
     store: &Store,
-    host: Option<&HostName>,
+    viewer: &Viewer,
     answer: Answer,
 ) -> Result<Vec<u8>, Fault>
-    ensures rendered { IsSaid (λ text. text.items) result (IsOutcomeOf form store.now (option_copied host.entry) answer) }
+    ensures rendered { IsSaid (λ text. text.items) result (IsOutcomeOf form store.now viewer.now answer) }
 {
     match answer {
         Answer::Template => Err(Fault::Refused(LineRefusal::Template)),
         Answer::TooManyUnits => Err(Fault::Refused(LineRefusal::TooManyUnits)),
         Answer::Unit(linked) => Ok(unit_text(alloc, &linked)?),
-        Answer::Units(all) => Ok(written(alloc, form, store, host, all.as_slice())?),
+        Answer::Units(all) => Ok(written(alloc, form, store, viewer, all.as_slice())?),
         Answer::Pulled(pairs) => Ok(pulled_text(alloc, pairs.as_slice())?),
         Answer::Planned(plan) => Ok(plan_text(alloc, &plan)?),
         Answer::Refused(refusal) => Err(fault_of_plan(refusal)),
@@ -101,13 +101,13 @@ fn written(
     alloc: Global,
     form: Form,
     store: &Store,
-    host: Option<&HostName>,
+    viewer: &Viewer,
     all: &[LinkedUnit],
 ) -> Result<Vec<u8>, AllocError>
-    ensures written { IfOk result (λ text. AreWritten form store.now (option_copied host.entry) all.now text.items) }
+    ensures written { IfOk result (λ text. AreWritten form store.now viewer.now all.now text.items) }
 {
     match form {
         Form::Units => units_text(alloc, all),
-        Form::Tree => tree_text(alloc, store, host, all),
+        Form::Tree => tree_text(alloc, store, viewer, all),
     }
 }

@@ -9,7 +9,8 @@ ghost use Rattle.script_answers.specs.Files.{AreFiles, IsCat, IsFile, IsFileAt, 
 use dropins::UnitFolders;
 use edit_sums::Content;
 use fragment_choice::{Choice, Resolution, names_of, resolve};
-use replica_store::{HostName, HostView, HostViewEntry, Place, Store};
+use profiles::Profile;
+use replica_store::{HostView, HostViewEntry, Place, Store, Viewer};
 use script_commands::{Fault, LineRefusal, Word, read_host};
 use std::alloc::{AllocError, Global};
 use unit_name::UnitName;
@@ -77,17 +78,17 @@ fn files_text(
 fn files_of_unit(
     alloc: Global,
     store: &Store,
-    host: Option<&HostName>,
+    viewer: &Viewer,
     unit: &UnitName,
     fragment: &Place,
 ) -> Result<Vec<u8>, AllocError>
-    requires main { main (host_view_of store.now (option_copied host)) unit.now ≡ unit.now }
-    requires file { IsFileAt (host_view_of store.now (option_copied host)) fragment.now }
-    ensures files { IfOk result (λ text. IsCat (host_view_of store.now (option_copied host.entry)) unit.now fragment.now text.items) }
+    requires main { main (host_view_of store.now viewer.now) unit.now ≡ unit.now }
+    requires file { IsFileAt (host_view_of store.now viewer.now) fragment.now }
+    ensures files { IfOk result (λ text. IsCat (host_view_of store.now viewer.now) unit.now fragment.now text.items) }
 {
-    let names = names_of(alloc, store, host, unit)?;
+    let names = names_of(alloc, store, viewer, unit)?;
     let folders = UnitFolders::of(alloc, &names)?;
-    let view = store.host_view(host);
+    let view = store.host_view(viewer);
     let dropins = folders.drop_ins(alloc, &view)?;
     files_text(alloc, &view, fragment, &dropins)
 }
@@ -106,27 +107,31 @@ pub fn render_files(
     ensures rendered { IsSaid (λ text. text.items) result (RendersFiles host.entry unit.now store.now) }
 {
     let host = read_host(alloc, host)?;
-    render_files_for(alloc, store, host.as_ref(), unit)
+    let viewer = Viewer {
+        host,
+        profile: Profile::Files,
+    };
+    render_files_for(alloc, store, &viewer, unit)
 }
 
 // Answers with the files of a unit as a host sees them, or as they are seen without a host.
 fn render_files_for(
     alloc: Global,
     store: &Store,
-    host: Option<&HostName>,
+    viewer: &Viewer,
     unit: &[u8],
 ) -> Result<Vec<u8>, Fault>
-    ensures rendered { IsSaid (λ text. text.items) result (RendersFilesOf unit.now (host_view_of store.now (option_copied host.entry))) }
+    ensures rendered { IsSaid (λ text. text.items) result (RendersFilesOf unit.now (host_view_of store.now viewer.now)) }
 {
     let name = match UnitName::parse(alloc, unit) {
         Ok(name) => name,
         Err(fault) => return Err(Fault::from(fault)),
     };
-    let Resolution { main, choice } = resolve(alloc, store, host, &name)?;
+    let Resolution { main, choice } = resolve(alloc, store, viewer, &name)?;
     match choice {
         Choice::NotFound => Err(Fault::Refused(LineRefusal::NotFound(main))),
         Choice::Masked => Err(Fault::Refused(LineRefusal::Masked(main))),
-        Choice::Fragment(place) => Ok(files_of_unit(alloc, store, host, &main, &place)?),
+        Choice::Fragment(place) => Ok(files_of_unit(alloc, store, viewer, &main, &place)?),
         Choice::Alias(_) => unreachable!(),
         Choice::Bad(_) => Err(Fault::Refused(LineRefusal::Bad(main))),
     }

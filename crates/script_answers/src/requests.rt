@@ -5,7 +5,8 @@ ghost use Rattle.script_answers.specs.{Requests.{IsNameFault, names_in, request_
 
 use fleet_answers::Question;
 use plain_values::Items;
-use replica_store::HostName;
+use profiles::Profile;
+use replica_store::{HostName, Viewer};
 use script_commands::{Fault, Inquiry, Words};
 use start_plan::Request;
 use std::alloc::Global;
@@ -21,38 +22,42 @@ pub(crate) fn read_question(
     ensures read { MatchResult result (λ question. question_asked inquiry.entry host ≡ Ok question)
         (IsNameFault (question_asked inquiry.entry host)) }
 {
+    let viewer = Viewer {
+        host,
+        profile: Profile::Files,
+    };
     match inquiry {
         Inquiry::Unit(unit) => {
             let name = read_name(alloc, unit.as_slice())?;
-            Ok(Question::Unit { host, name })
+            Ok(Question::Unit { viewer, name })
         }
         Inquiry::List(unit) => {
             let name = read_name(alloc, unit.as_slice())?;
-            Ok(Question::Pulled { host, name })
+            Ok(Question::Pulled { viewer, name })
         }
         Inquiry::Plan(unit, running) => {
-            let request = read_request(alloc, host, unit.as_slice(), running)?;
+            let request = read_request(alloc, viewer, unit.as_slice(), running)?;
             Ok(Question::Plan(request))
         }
-        Inquiry::Units | Inquiry::Tree => Ok(Question::Units { host }),
+        Inquiry::Units | Inquiry::Tree => Ok(Question::Units { viewer }),
     }
 }
 
-// The request of a host to start the unit that a word names while those that other words name are running. Fails with
+// The request of a viewer to start the unit that a word names while those that other words name are running. Fails with
 // the first thing wrong with the first word that isn't a unit's name.
 fn read_request(
     alloc: Global,
-    host: Option<HostName>,
+    viewer: Viewer,
     unit: &[u8],
     running: Words<'_>,
 ) -> Result<Request, Fault>
-    ensures read { MatchResult result (λ request. request_of host unit.now running.entry ≡ Ok request)
-        (IsNameFault (request_of host unit.now running.entry)) }
+    ensures read { MatchResult result (λ request. request_of viewer unit.now running.entry ≡ Ok request)
+        (IsNameFault (request_of viewer unit.now running.entry)) }
 {
     let target = read_name(alloc, unit)?;
     let running = read_names(alloc, running)?;
     Ok(Request {
-        host,
+        viewer,
         target,
         running,
     })

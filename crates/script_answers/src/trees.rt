@@ -1,12 +1,12 @@
 //! The answer to `tree`: the files and links that a unit manager finds, and the units that it reads otherwise from them.
-ghost use Rattle.std.specs.{Prelude.{◌≡◌, ◌++◌, IfOk, OnOk}, Option.{option_copied}};
+ghost use Rattle.std.specs.{Prelude.{◌≡◌, ◌++◌, IfOk, OnOk}};
 ghost use Rattle.host_trees.specs.Reads.{ShowsTree};
 ghost use Rattle.script_answers.specs.TreeTexts.{AppendsCrossed, crossed_line, IsTreeText, standing_lines, tree_lines};
 
 use crate::place_texts::append_shown;
 use fleet_answers::LinkedUnit;
 use host_trees::{is_crossed, tree, tree_store};
-use replica_store::{Content, HostName, Path, Place, Scope, Store};
+use replica_store::{Content, Path, Place, Scope, Store, Viewer};
 use std::alloc::{AllocError, Global};
 use unit_name::UnitName;
 
@@ -17,16 +17,16 @@ use unit_name::UnitName;
 pub(crate) fn tree_text(
     alloc: Global,
     store: &Store,
-    host: Option<&HostName>,
+    viewer: &Viewer,
     all: &[LinkedUnit],
 ) -> Result<Vec<u8>, AllocError>
-    ensures text { IfOk result (λ text. IsTreeText store.now (option_copied host.entry) all.now text.items) }
+    ensures text { IfOk result (λ text. IsTreeText store.now viewer.now all.now text.items) }
 {
-    let pairs = tree(alloc, store, host)?;
+    let pairs = tree(alloc, store, viewer.host.as_ref())?;
     let shown = tree_store(alloc, pairs.as_slice())?;
     let mut out = Vec::new(alloc);
     append_tree(&mut out, pairs.as_slice())?;
-    append_crossed(alloc, &mut out, store, host, &shown, all)?;
+    append_crossed(alloc, &mut out, store, viewer, &shown, all)?;
     out.extend_from_slice(b"end\n")?;
     Ok(out)
 }
@@ -57,16 +57,16 @@ fn append_crossed(
     alloc: Global,
     out: &mut Vec<u8>,
     store: &Store,
-    host: Option<&HostName>,
+    viewer: &Viewer,
     tree: &Store,
     all: &[LinkedUnit],
 ) -> Result<(), AllocError>
-    requires tree { ShowsTree tree.now store.now (option_copied host) }
-    ensures appended { OnOk result (AppendsCrossed store.now (option_copied host.entry) all.now out.old.items out.new.items) }
+    requires tree { ShowsTree tree.now store.now viewer.now.host }
+    ensures appended { OnOk result (AppendsCrossed store.now viewer.now all.now out.old.items out.new.items) }
 {
     for linked in all {
         let unit = linked.unit.get();
-        if is_crossed(alloc, store, host, tree, unit.names.as_slice())? {
+        if is_crossed(alloc, store, viewer, tree, unit.names.as_slice())? {
             append_name(out, &unit.name)?;
         }
     }

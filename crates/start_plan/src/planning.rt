@@ -49,14 +49,14 @@ fn named_answer(
 }
 
 /// Returns which units start, in which order, and which stop, or the first reason why not. The request must be for the
-/// graph's host, and each of its names must be a template or resolve to a unit of the graph.
+/// graph's viewer, and each of its names must be a template or resolve to a unit of the graph.
 ///
 /// The target and what it pulls start if they aren't running: what it needs by `Requires` and `BindsTo`, and what these
 /// want by `Wants`, if that can start without a fault and without a conflict. Running units stop if they conflict with
 /// what is chosen, and with them the units that stop along with them. Fails with `Memory` only if memory runs out.
 /// O(n log n + m), for n names and m edges, and O(log n) for each name of the request.
 pub fn plan(alloc: Global, graph: &Graph, request: &Request) -> Result<Plan, Refusal>
-    requires host { request.now.host ≡ graph.now.load.host }
+    requires viewer { request.now.viewer ≡ graph.now.load.viewer }
     requires names { IsOfGraph graph.now.load request.now }
     ensures plan { IfOk result (IsPlanned graph.now.load graph.now.edges request.now) }
     ensures refusal { IfErr result (IsRefusalOf graph.now.load graph.now.edges request.now) }
@@ -70,7 +70,7 @@ pub fn plan_by_index(
     graph: &IndexedGraph,
     request: &Request,
 ) -> Result<Plan, Refusal>
-    requires host { request.now.host ≡ graph.now.load.host }
+    requires viewer { request.now.viewer ≡ graph.now.load.viewer }
     requires names { IsOfGraph graph.now.load request.now }
     ensures plan { IfOk result (IsPlanned graph.now.load graph.now.edges request.now) }
     ensures refusal { IfErr result (IsRefusalOf graph.now.load graph.now.edges request.now) }

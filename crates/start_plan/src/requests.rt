@@ -1,14 +1,14 @@
 //! What is asked of a plan, and what it answers.
 use plain_values::Items;
-use replica_store::HostName;
+use replica_store::Viewer;
 use thiserror::Error;
 use unit_name::UnitName;
 
 /// A request to start a unit while others are running. Names may be aliases, and the running ones may repeat.
 #[derive(Debug)]
 pub struct Request {
-    /// The host whose units are meant; none for the fleet's.
-    pub host: Option<HostName>,
+    /// Whose units are meant: those of a host or of the fleet, by these rules.
+    pub viewer: Viewer,
     /// The unit that is to start.
     pub target: UnitName,
     /// The running units.
@@ -18,7 +18,7 @@ pub struct Request {
 impl Drop for Request {
     fn drop(self) {
         let Request {
-            host: _,
+            viewer: _,
             target: _,
             running: _,
         } = self;

@@ -1,7 +1,7 @@
 -- Laws of answers: where two views are alike but for places, and no unit of the universe is crossed, each question has the same
 -- answer in both.
 use Rattle.std.proofs.Common.{◌++◌, ◌≡◌}
-use Rattle.tree_answers.specs.Prelude.{Answer, ap, AreNames, asked, Choice, choice_at_fleet, EntryMap, HasTemplate, HostViewMap, host_asked, host_view_of, inl, inr, IsAmong, IsAnswer, IsInUniverse, IsName, IsNamed, IsUnit, IsWholeAnswer, List, LoadedUnit, Name, names_asked, None, PlaceParts, Question, ReadsAlike, refl, Resolution, resolution, ShowsTree, subst, sym, TreesHaveTheSameFragments, TreesNameAlike, TreesResolveAlike, TreesShowTheSameNames, Viewer, without_host, ◌∙◌}
+use Rattle.tree_answers.specs.Prelude.{Answer, ap, AreNames, asked, Choice, choice_at_fleet, EntryMap, HasTemplate, HostViewMap, of_fleet, viewer_asked, host_view_of, inl, inr, IsAmong, IsAnswer, IsInUniverse, IsName, IsNamed, IsUnit, IsWholeAnswer, List, LoadedUnit, Name, names_asked, PlaceParts, Question, ReadsAlike, refl, Resolution, resolution, ShowsTree, subst, sym, TreesHaveTheSameFragments, TreesNameAlike, TreesResolveAlike, TreesShowTheSameNames, Viewer, without_host, ◌∙◌}
 use Rattle.tree_answers.specs.{Alike.{AreSameAnswers}, ExistLaws.{unit_exists}, LoadLaws.{load_there, still_small}, ReturnedLaws.{returned_there}, UnitLaws.{unit_in_tree}, UniverseLaws.{HaveUnits, IsAlike, large_there, mains_over, universe_name}}
 use Rattle.fleet_answers.specs.declared.questions.Answer.TheVariants as answer
 use Rattle.fleet_answers.specs.declared.questions.Question.TheVariants as question
@@ -66,57 +66,60 @@ module _ (v w : HostViewMap) (over : IsAlike v w) (extra : List Name) (good : (n
 -- ---- questions
 
 names_stay : (asking : Question) → names_asked (without_host asking) ≡ names_asked asking
-names_stay (question.Unit host name) = refl
-names_stay (question.Pulled host name) = refl
+names_stay (question.Unit viewer name) = refl
+names_stay (question.Pulled viewer name) = refl
 names_stay (question.Plan request) = refl
-names_stay (question.Units host) = refl
+names_stay (question.Units viewer) = refl
 
-no_host : (asking : Question) → host_asked (without_host asking) ≡ None
-no_host (question.Unit host name) = refl
-no_host (question.Pulled host name) = refl
+no_host : (asking : Question) → viewer_asked (without_host asking) ≡ of_fleet (viewer_asked asking).profile
+no_host (question.Unit viewer name) = refl
+no_host (question.Pulled viewer name) = refl
 no_host (question.Plan request) = refl
-no_host (question.Units host) = refl
+no_host (question.Units viewer) = refl
 
 -- If the views of a host and of a store without a host are alike, and none is crossed, each question has the same answer.
-pub answer_there : (s t : EntryMap) (host : Viewer) → IsAlike (host_view_of s host) (host_view_of t None) → (extra : List Name)
-    (asking : Question) → host_asked asking ≡ host → ((n : Name) → IsAmong n (asked extra asking) → IsName n)
-    → ((n : Name) (u : LoadedUnit) → IsInUniverse (host_view_of s host) (asked extra asking) n → IsUnit (host_view_of s host) n u
-    → ReadsAlike (host_view_of s host) (host_view_of t None) u.names)
+pub answer_there : (s t : EntryMap) (viewer : Viewer) → IsAlike (host_view_of s viewer) (host_view_of t (of_fleet viewer.profile)) → (extra : List Name)
+    (asking : Question) → viewer_asked asking ≡ viewer → ((n : Name) → IsAmong n (asked extra asking) → IsName n)
+    → ((n : Name) (u : LoadedUnit) → IsInUniverse (host_view_of s viewer) (asked extra asking) n → IsUnit (host_view_of s viewer) n u
+    → ReadsAlike (host_view_of s viewer) (host_view_of t (of_fleet viewer.profile)) u.names)
     → (a : Answer) → IsAnswer s extra asking a
-    → (b : Answer) × IsAnswer t extra (without_host asking) b × AreSameAnswers (host_view_of s host) (host_view_of t None) a b
-answer_there s t host over extra asking is good reads a h = by h
+    → (b : Answer) × IsAnswer t extra (without_host asking) b × AreSameAnswers (host_view_of s viewer) (host_view_of t (of_fleet viewer.profile)) a b
+answer_there s t viewer over extra asking is good reads a h = by h
   where
     same : asked extra (without_host asking) ≡ asked extra asking
     same = ap (λ names. extra ++ names) (names_stay asking)
 
-    whole : IsWholeAnswer (host_view_of s host) (asked extra asking) asking a
+    bare_is : viewer_asked (without_host asking) ≡ of_fleet viewer.profile
+    bare_is = no_host asking ∙ ap (λ (asks : Viewer). of_fleet asks.profile) is
+
+    whole : IsWholeAnswer (host_view_of s viewer) (asked extra asking) asking a
         → (b : Answer)
-        × IsWholeAnswer (host_view_of t (host_asked (without_host asking))) (asked extra (without_host asking)) (without_host asking) b
-        × AreSameAnswers (host_view_of s host) (host_view_of t None) a b
+        × IsWholeAnswer (host_view_of t (viewer_asked (without_host asking))) (asked extra (without_host asking)) (without_host asking) b
+        × AreSameAnswers (host_view_of s viewer) (host_view_of t (of_fleet viewer.profile)) a b
     whole x =
-        let b = whole_there (host_view_of s host) (host_view_of t None) over (asked extra asking) good reads asking a x in
-        let P : Viewer → Type 0 = λ viewer. IsWholeAnswer (host_view_of t viewer) (asked extra asking) (without_host asking) b.0 in
+        let b = whole_there (host_view_of s viewer) (host_view_of t (of_fleet viewer.profile)) over (asked extra asking) good reads asking a x in
+        let P : Viewer → Type 0 = λ looks. IsWholeAnswer (host_view_of t looks) (asked extra asking) (without_host asking) b.0 in
         let Q : List Name → Type 0 =
-        λ names. IsWholeAnswer (host_view_of t (host_asked (without_host asking))) names (without_host asking) b.0 in
-        (b.0, subst Q (sym same) (subst P (sym (no_host asking)) b.1), b.2)
+        λ names. IsWholeAnswer (host_view_of t (viewer_asked (without_host asking))) names (without_host asking) b.0 in
+        (b.0, subst Q (sym same) (subst P (sym bare_is) b.1), b.2)
 
     by : IsAnswer s extra asking a
-        → (b : Answer) × IsAnswer t extra (without_host asking) b × AreSameAnswers (host_view_of s host) (host_view_of t None) a b
+        → (b : Answer) × IsAnswer t extra (without_host asking) b × AreSameAnswers (host_view_of s viewer) (host_view_of t (of_fleet viewer.profile)) a b
     by (inl template) = (
       answer.Template,
       inl (subst HasTemplate (sym same) template.0, refl),
-      subst (λ (z : Answer). AreSameAnswers (host_view_of s host) (host_view_of t None) z answer.Template) (sym template.1) refl,
+      subst (λ (z : Answer). AreSameAnswers (host_view_of s viewer) (host_view_of t (of_fleet viewer.profile)) z answer.Template) (sym template.1) refl,
     )
     by (inr (none, x)) =
-        let b = whole (subst (λ (viewer : Viewer). IsWholeAnswer (host_view_of s viewer) (asked extra asking) asking a) is x) in
+        let b = whole (subst (λ (looks : Viewer). IsWholeAnswer (host_view_of s looks) (asked extra asking) asking a) is x) in
         (b.0, inr (λ template. none (subst HasTemplate same template), b.1), b.2)
 
 -- A host and a store that shows just its tree are alike.
 pub trees_are_alike : TreesResolveAlike → TreesNameAlike → TreesShowTheSameNames → TreesHaveTheSameFragments
-    → (s t : EntryMap) (host : Viewer) → ShowsTree t s host → IsAlike (host_view_of s host) (host_view_of t None)
-trees_are_alike resolves names visible fragments s t host shows = record {
-  resolved = resolves s t host shows;
-  names = names s t host shows;
-  shown = visible s t host shows;
-  units = λ n good u is reads. unit_in_tree resolves names fragments s t host shows n good u is reads;
+    → (s t : EntryMap) (viewer : Viewer) → ShowsTree t s viewer.host → IsAlike (host_view_of s viewer) (host_view_of t (of_fleet viewer.profile))
+trees_are_alike resolves names visible fragments s t viewer shows = record {
+  resolved = resolves s t viewer shows;
+  names = names s t viewer shows;
+  shown = visible s t viewer shows;
+  units = λ n good u is reads. unit_in_tree resolves names fragments s t viewer shows n good u is reads;
 }

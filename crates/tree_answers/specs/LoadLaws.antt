@@ -204,14 +204,14 @@ module _ (v w : HostViewMap) where
           let c = counterparts load.names (λ n. (l.universe.members n).0) l.loaded in
           record {
             other = record {
-              host = viewer_of w;
+              viewer = viewer_of w;
               extra = load.extra;
               names = c.others;
               named = load.named;
               words = with_targets w (keys_of load.words);
             };
             is_load = record {
-              host_is = refl;
+              viewer_is = refl;
               extra_is = l.extra_is;
               universe =
                   subst (AreUniverse w extra) (sym c.keys_are)

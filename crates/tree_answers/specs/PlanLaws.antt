@@ -1,6 +1,6 @@
 -- Laws of plans: loads that are the same but for places have the same plans and refusals, whatever host a request is for.
 use Rattle.std.proofs.Common.{◌∷◌, ◌≡◌}
-use Rattle.tree_answers.specs.Prelude.{[], Answer, ap, Bad, Case, case_of, Conflict, Cycle, EdgeMap, has_fragment, HostViewMap, inl, inr, IsFault, IsPlan, IsPlanBy, IsPlanned, IsRefusal, IsRefusalOf, IsRefused, is_loaded, is_manual, is_same, List, list_any, LoadedUnit, LoadMap, main_of, ManualStart, map, Masked, Memory, Name, name_cmp, None, NotFound, Option, option_map, PlanMap, refl, Refusal, Request, Requisite, Some, Status, status_in, subst, sym, Template, unit_in, unwrap_or, Why, ◌∙◌}
+use Rattle.tree_answers.specs.Prelude.{[], Answer, ap, Bad, Case, case_of, Conflict, Cycle, EdgeMap, has_fragment, HostViewMap, inl, inr, IsFault, IsPlan, IsPlanBy, IsPlanned, IsRefusal, IsRefusalOf, IsRefused, is_loaded, is_manual, is_same, List, list_any, LoadedUnit, LoadMap, main_of, ManualStart, map, Masked, Memory, Name, name_cmp, None, NotFound, of_fleet, Option, option_map, PlanMap, refl, Refusal, Request, Requisite, Some, Status, status_in, subst, sym, Template, unit_in, unwrap_or, Why, ◌∙◌}
 use Rattle.tree_answers.specs.{Alike.{AreSameAnswers, status_at_fleet}, FoundLaws.{mains_found, units_found}, SameLoads.{AreSamePairs, IsSameUnitFound}}
 use Rattle.unit_loads.specs.declared.units.Status.TheVariants as status
 use Rattle.fleet_answers.specs.declared.questions.Answer.TheVariants as answer
@@ -31,7 +31,7 @@ module _ (v w : HostViewMap) where
 
   module _ (load other : LoadMap) (same : AreSamePairs v w load.names other.names) (all : EdgeMap) (request : Request) where
     abbrev bare : Request
-    bare = record request { host = None }
+    bare = record request { viewer = of_fleet request.viewer.profile }
 
     main_alike : (n : Name) → main_of other n ≡ main_of load n
     main_alike n = ap (λ o. unwrap_or o n) (mains_found v w load other same n)

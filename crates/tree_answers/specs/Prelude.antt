@@ -1,11 +1,11 @@
 -- What the definitions use of std and of the crates below.
 pub use Rattle.dropins.specs.{declared.{folder_lists.Folder.{Folder, TheVariants.{Requires, Wants}}, precedence.Search.{Search, TheVariants.{DropIns, Links}}}, FolderLists.{folders}, OrderLaws.{drop_in_paths_are_files}, OverLaws.{names_or_else_types, NoneStands, over_once}, Prelude.{File}, Taken.{as_found, Candidate, Candidate.{At, Mask}, dirs_with, ending, file_name, IsDropInAt, IsDropInOf, IsLinked, IsTaken, IsTakenOver, name_dirs, type_dirs}, WalkLaws.{found_iff_taken, found_is_taken, found_name, none_stands}, Walks.{taken}}
-pub use Rattle.fleet_answers.specs.{Answers.{AreLinkedUnits, ArePulled, asked, host_asked, IsAnswer, IsLinkedUnit, IsPlanBy, IsPlanReturned, IsReturned, IsUnitWithEdges, IsWholeAnswer, names_asked, without_host}, declared.questions.{Answer.{Answer}, LinkedUnit.{LinkedUnit}, Question.{Question}}}
+pub use Rattle.fleet_answers.specs.{Answers.{AreLinkedUnits, ArePulled, asked, viewer_asked, IsAnswer, IsLinkedUnit, IsPlanBy, IsPlanReturned, IsReturned, IsUnitWithEdges, IsWholeAnswer, names_asked, without_host}, declared.questions.{Answer.{Answer}, LinkedUnit.{LinkedUnit}, Question.{Question}}}
 pub use Rattle.fragment_choice.specs.{Choices.{choice, is_same}, declared.{choices.Choice.{Choice}, resolutions.Resolution.{Resolution}}, LikenessLaws.{mains_are_alike}, LinkTargets.{HasOwnLinkTargets, link_targets, NamedWords}, ResolutionLaws.{resolution_resolves}, Resolutions.{main, resolution, Resolves, Resolves.{ends_at, goes_on}}, UnitNames.{AreNames}}
 pub use Rattle.host_trees.specs.{ChoiceLaws.{choice_at_fleet, IsShown, resolution_at_fleet, trees_have_the_same_fragments, trees_name_alike, trees_resolve_alike, trees_show_the_same_names, TreesHaveTheSameFragments, TreesNameAlike, TreesResolveAlike, TreesShowTheSameNames}, Reads.{HasDropIn, HasLink, ReadsAlike, ReadsItsTree, ShowsTree}}
 pub use Rattle.inverse_deps.specs.Edges.{AreEdges, AreEdgesFrom, AreEdgesOf, DependsOn, EdgeMap, IsEdge, IsUnitIn}
 pub use Rattle.list_laws.specs.Members.{among_from_contains, contains_from_among, IsAmong}
-pub use Rattle.load_places.specs.Levels.{Viewer}
+pub use Rattle.load_places.specs.{declared.viewers.Viewer.{Viewer}, Levels.{of_fleet}}
 pub use Rattle.name_closure.specs.{Chains.{IsReached}, ClosureLaws.{reached_closed, reached_least}, Loading.{AreLoaded}, SourceLaws.{same_closure, same_reached}, StableLaws.{closure_stays, reached_stays, reached_within, SuccessorsStayWithin}}
 pub use Rattle.parallel_load.specs.{declared.loaded.NameLoad.{NameLoad}, Loads.{AreNamedAlone, by_mains, IsLoad, IsLoadedUnit, IsNamedAlone, IsNameLoad, list_by_mains, LoadMap, main_in, main_part, unit_in, unit_part}, OwnLinkTargets.{AreOwnLinkTargets}, PairLaws.{among_find, find_among}, Universe.{AreUniverse, IsInUniverse, IsSource, IsTooLarge, IsVisibleName, LeadsTo, Names}, UniverseLaws.{mains_have_units, sorted_from, units_are_their_own_mains}}
 pub use Rattle.path_maps.specs.{HostLaws.{content_viewed}, HostViews.{content_at, host_view_of, HostViewMap, view, viewed_at, viewed_place, viewer_of}, Prelude.{Content, Entry, EntryMap, Fleet, path_cmp, path_cmp-IsAntisymmetric, PathParts, PlaceParts, shown}, Scopes.{within}}

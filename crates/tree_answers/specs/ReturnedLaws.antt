@@ -1,6 +1,6 @@
 -- Laws of what loads answer: a load that is the same but for places answers each question the same, whatever host it is for.
 use Rattle.std.proofs.Common.{◌∷◌, ◌≡◌}
-use Rattle.tree_answers.specs.Prelude.{[], All, All-cons, All-head, All-nil, All-tail, among_find, Answer, ap, AreEdgesOf, AreLinkedUnits, ArePulled, cons_option, filter_map, HostViewMap, inl, inr, IsAmong, IsLinkedUnit, IsLoad, IsLoadedUnit, IsPlanReturned, IsReturned, IsUnitWithEdges, LinkedUnit, List, LoadedUnit, LoadMap, map, Name, NameLoad, name_cmp, nat_list_cmp_total, None, option_and_then, Question, refl, Request, Some, sorted_from, subst, sym, units_are_their_own_mains, unit_in, unit_part, without_host, ℕ, ◌∙◌}
+use Rattle.tree_answers.specs.Prelude.{[], All, All-cons, All-head, All-nil, All-tail, among_find, Answer, ap, AreEdgesOf, AreLinkedUnits, ArePulled, cons_option, filter_map, HostViewMap, inl, inr, IsAmong, IsLinkedUnit, IsLoad, IsLoadedUnit, IsPlanReturned, IsReturned, IsUnitWithEdges, LinkedUnit, List, LoadedUnit, LoadMap, map, Name, NameLoad, name_cmp, nat_list_cmp_total, of_fleet, option_and_then, Question, refl, Request, Some, sorted_from, subst, sym, units_are_their_own_mains, unit_in, unit_part, without_host, ℕ, ◌∙◌}
 use Rattle.tree_answers.specs.{Alike.{AreAllSame, AreSameAnswers, AreSameLinked, AreSameUnits}, FoundLaws.{edges_of_there, edges_there, mains_found, stands_back, unit_there}, PlanLaws.{plan_there}, SameLoads.{AreSamePairs, IsSameOne}}
 use Rattle.parallel_load.specs.declared.loaded.NameLoad.TheVariants as one
 use Rattle.fleet_answers.specs.declared.questions.Answer.TheVariants as answer
@@ -128,7 +128,7 @@ module _ (v w : HostViewMap) (extra : List Name) (load other : LoadMap) (l : IsL
   -- ---- answers
 
   plan_over : (request : Request) (a : Answer) → IsPlanReturned load request a
-      → (b : Answer) × IsPlanReturned other (record request { host = None }) b × AreSameAnswers v w a b
+      → (b : Answer) × IsPlanReturned other (record request { viewer = of_fleet request.viewer.profile }) b × AreSameAnswers v w a b
   plan_over request a returned =
       let plan = plan_there v w load other same returned.edges request a returned.plan_is in (
         plan.0,
@@ -138,19 +138,19 @@ module _ (v w : HostViewMap) (extra : List Name) (load other : LoadMap) (l : IsL
 
   pub returned_there : (asking : Question) (a : Answer) → IsReturned load asking a
       → (b : Answer) × IsReturned other (without_host asking) b × AreSameAnswers v w a b
-  returned_there (question.Unit host name) a (x, is, at) =
+  returned_there (question.Unit viewer name) a (x, is, at) =
       let y = linked_there name x is in (
         answer.Unit y.0,
         (y.0, y.2, refl),
         subst (λ (z : Answer). AreSameAnswers v w z (answer.Unit y.0)) (sym at) (y.0, y.1, refl),
       )
-  returned_there (question.Pulled host name) a (pairs, are, at) = (
+  returned_there (question.Pulled viewer name) a (pairs, are, at) = (
     answer.Pulled pairs,
     (pairs, pulled_there name pairs are, refl),
     subst (λ (z : Answer). AreSameAnswers v w z (answer.Pulled pairs)) (sym at) refl,
   )
   returned_there (question.Plan request) a returned = plan_over request a returned
-  returned_there (question.Units host) a (xs, are, at) =
+  returned_there (question.Units viewer) a (xs, are, at) =
       let ys = units_there xs are in (
         answer.Units ys.0,
         (ys.0, ys.2, refl),

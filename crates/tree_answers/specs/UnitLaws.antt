@@ -3,7 +3,7 @@
 use Rattle.std.proofs.Common.{◌++◌, ◌∷◌, ◌≡◌, ◌⊎◌}
 use Rattle.section_reader.specs.declared.assignments.Note.{Note}
 use Rattle.setting_rules.specs.declared.notes.SettingNote.{SettingNote}
-use Rattle.tree_answers.specs.Prelude.{[], ap, AreNames, assignments_of, bytes_at, Choice, choice, choice_at_fleet, contains_from_among, Content, content_at, ends_at, EntryMap, file_bytes, file_name, file_notes, flat_map, Fleet, goes_on, HasAllOf, HasNothing, HasSettings, HostViewMap, host_view_of, inl, IsName, IsStatus, IsUnit, items_of, List, lists_with, LoadedUnit, main, map, map-append, Name, None, notes_at, notes_of, Option, PlaceParts, ReadsAlike, refl, refuses, Requires, Resolution, resolution, resolution_at_fleet, resolution_resolves, Resolves, rows_of, settings_of, setting_notes, ShowsTree, Status, subst, sym, TreesHaveTheSameFragments, TreesNameAlike, TreesResolveAlike, UnitNote, Viewer, Wants, within, ℕ, ◌∙◌}
+use Rattle.tree_answers.specs.Prelude.{[], ap, AreNames, assignments_of, bytes_at, Choice, choice, choice_at_fleet, contains_from_among, Content, content_at, ends_at, EntryMap, file_bytes, file_name, file_notes, flat_map, Fleet, goes_on, HasAllOf, HasNothing, HasSettings, HostViewMap, host_view_of, inl, IsName, IsStatus, IsUnit, items_of, List, lists_with, LoadedUnit, main, map, map-append, Name, notes_at, notes_of, of_fleet, Option, PlaceParts, ReadsAlike, refl, refuses, Requires, Resolution, resolution, resolution_at_fleet, resolution_resolves, Resolves, rows_of, settings_of, setting_notes, ShowsTree, Status, subst, sym, TreesHaveTheSameFragments, TreesNameAlike, TreesResolveAlike, UnitNote, Viewer, Wants, within, ℕ, ◌∙◌}
 use Rattle.tree_answers.specs.{Alike.{AreSameUnits, said, status_at_fleet}, DropInLaws.{Counterparts, counterparts, drop_ins_there, links_there}}
 use Rattle.fragment_choice.specs.declared.choices.Choice.TheVariants as chosen
 use Rattle.unit_loads.specs.declared.units.Status.TheVariants as status
@@ -203,10 +203,10 @@ module _ (v w : HostViewMap) (name : Name) (u : LoadedUnit) (is : IsUnit v name 
   same_unit = same_by u.status refl is.has
 
 -- A unit is the same in the tree, where its drop-ins and links agree.
-pub unit_in_tree : TreesResolveAlike → TreesNameAlike → TreesHaveTheSameFragments → (s t : EntryMap) (host : Viewer) → ShowsTree t s host
-    → (name : Name) → IsName name → (unit : LoadedUnit) → IsUnit (host_view_of s host) name unit
-    → ReadsAlike (host_view_of s host) (host_view_of t None) unit.names
-    → (other : LoadedUnit) × IsUnit (host_view_of t None) name other × AreSameUnits (host_view_of s host) (host_view_of t None) unit other
-unit_in_tree resolves names fragments s t host shows name good unit is alike =
-    same_unit (host_view_of s host) (host_view_of t None) name unit is alike (resolves s t host shows name good)
-    ((names s t host shows name unit.names).0 is.names_are) (λ p e. fragments s t host shows name good p e)
+pub unit_in_tree : TreesResolveAlike → TreesNameAlike → TreesHaveTheSameFragments → (s t : EntryMap) (viewer : Viewer) → ShowsTree t s viewer.host
+    → (name : Name) → IsName name → (unit : LoadedUnit) → IsUnit (host_view_of s viewer) name unit
+    → ReadsAlike (host_view_of s viewer) (host_view_of t (of_fleet viewer.profile)) unit.names
+    → (other : LoadedUnit) × IsUnit (host_view_of t (of_fleet viewer.profile)) name other × AreSameUnits (host_view_of s viewer) (host_view_of t (of_fleet viewer.profile)) unit other
+unit_in_tree resolves names fragments s t viewer shows name good unit is alike =
+    same_unit (host_view_of s viewer) (host_view_of t (of_fleet viewer.profile)) name unit is alike (resolves s t viewer shows name good)
+    ((names s t viewer shows name unit.names).0 is.names_are) (λ p e. fragments s t viewer shows name good p e)

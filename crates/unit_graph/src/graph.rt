@@ -7,7 +7,7 @@ ghost use Rattle.unit_graph.specs.Graphs.{AreDepths, IsIndexFor, IsKnown, IsReac
 use crate::indexed_graph::IndexedGraph;
 use inverse_deps::Edges;
 use parallel_load::{Loaded, Status};
-use replica_store::HostName;
+use replica_store::Viewer;
 use setting_rules::DepKind;
 use std::alloc::AllocError;
 use std::marker::Model;
@@ -58,11 +58,11 @@ impl<'a> Graph<'a> {
         IndexedGraph::build(self.loaded, self.edges.table())
     }
 
-    /// Returns the host for which the load was made, or none for the fleet. Allocates nothing.
-    pub fn host(&self) -> Option<&HostName>
-        ensures host { option_copied result ≡ self.now.load.host }
+    /// Returns who the load was made for: a host's manager or one without a host, and by which rules. Allocates nothing.
+    pub fn viewer(&self) -> &Viewer
+        ensures viewer { result.now ≡ self.now.load.viewer }
     {
-        self.loaded.host()
+        self.loaded.viewer()
     }
 
     /// Whether a name resolves to a unit. It is true for each name of the universe, aliases included. O(log n);

@@ -12,14 +12,14 @@ FootprintsDecide =
 -- Stores that show a host the same in a unit's footprint have the same unit for it, if it sees the same aliases.
 abbrev pub StoreFootprintsDecide : Type 0
 StoreFootprintsDecide =
-    (s t : EntryMap) (host : Viewer) (name : Name) (unit : LoadedUnit) → SameLeads (host_view_of s host) (host_view_of t host)
-    → StoresAgreeIn s t host (footprint name unit.names) → IsUnit (host_view_of s host) name unit → IsUnit (host_view_of t host) name unit
+    (s t : EntryMap) (viewer : Viewer) (name : Name) (unit : LoadedUnit) → SameLeads (host_view_of s viewer) (host_view_of t viewer)
+    → StoresAgreeIn s t viewer (footprint name unit.names) → IsUnit (host_view_of s viewer) name unit → IsUnit (host_view_of t viewer) name unit
 
 -- stores that show a host the same at places show it the same at the paths
 abbrev pub AgreeViewed : Type 0
 AgreeViewed =
-    (s t : EntryMap) (host : Viewer) (parts : List (List ℕ)) → StoresAgreeIn s t host parts
-    → AgreeIn (host_view_of s host) (host_view_of t host) parts
+    (s t : EntryMap) (viewer : Viewer) (parts : List (List ℕ)) → StoresAgreeIn s t viewer parts
+    → AgreeIn (host_view_of s viewer) (host_view_of t viewer) parts
 
 -- a path of the name or of its template begins with a component of the footprint
 own_among : (n o : Name) → (o ≡ n) ⊎ (template_of n ≡ Some o) → IsAmong o (with_template n)
@@ -60,21 +60,24 @@ footprints_decide s t one name unit leads agree u =
 
 -- ---- stores
 
--- two stores are viewed for one host
-pub one_host : (s t : EntryMap) (host : Viewer) → AreForOne (host_view_of s host) (host_view_of t host)
-one_host s t None = refl
-one_host s t (Some h) = refl
+-- two stores are viewed by one
+pub one_host : (s t : EntryMap) (viewer : Viewer) → AreForOne (host_view_of s viewer) (host_view_of t viewer)
+one_host s t viewer = by viewer.host
+  where
+    by : (host : Option (List ℕ)) → AreForOne (host_view_of s (record viewer { host = host })) (host_view_of t (record viewer { host = host }))
+    by None = (refl, refl)
+    by (Some h) = (refl, refl)
 
 same_start : (parts : List (List ℕ)) (p q : PathParts) → q.folder ≡ p.folder → q.name ≡ p.name → StartsIn parts p → StartsIn parts q
 same_start parts p q folder name (alone bare among) = alone (folder ∙ bare) (subst (λ (x : List ℕ). IsAmong x parts) (sym name) among)
 same_start parts p q folder name (within among) = within (subst (λ (x : List ℕ). IsAmong x parts) (sym folder) among)
 
 pub agree_viewed : AgreeViewed
-agree_viewed s t host parts agree p starts =
-    places_decide_views s t host p
+agree_viewed s t viewer parts agree p starts =
+    places_decide_views s t viewer p
     (λ place level folder name. agree place (same_start parts p place.path folder name starts) (ap is_some level))
 
 pub store_footprints_decide : StoreFootprintsDecide
-store_footprints_decide s t host name unit leads agree u =
-    footprints_decide (host_view_of s host) (host_view_of t host) (one_host s t host) name unit leads
-    (agree_viewed s t host (footprint name unit.names) agree) u
+store_footprints_decide s t viewer name unit leads agree u =
+    footprints_decide (host_view_of s viewer) (host_view_of t viewer) (one_host s t viewer) name unit leads
+    (agree_viewed s t viewer (footprint name unit.names) agree) u

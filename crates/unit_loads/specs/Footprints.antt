@@ -19,5 +19,5 @@ AgreeIn s t parts = (p : PathParts) → StartsIn parts p → viewed_at s p ≡ v
 
 -- two stores show the same at each such place that this host sees
 abbrev pub StoresAgreeIn : EntryMap → EntryMap → Viewer → List (List ℕ) → Type 0
-StoresAgreeIn s t host parts =
-    (place : PlaceParts) → StartsIn parts place.path → IsSome (level_for host place) → visible_at s place ≡ visible_at t place
+StoresAgreeIn s t viewer parts =
+    (place : PlaceParts) → StartsIn parts place.path → IsSome (level_for viewer place) → visible_at s place ≡ visible_at t place

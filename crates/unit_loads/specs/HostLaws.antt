@@ -1,6 +1,6 @@
 -- Laws of hosts: one at whose places nothing is visible has the units that there are without a host.
 use Rattle.std.proofs.Common.{◌%◌, ◌==◌, ◌↔◌, ◌∷◌, ◌≡◌}
-use Rattle.unit_loads.specs.Prelude.{ap, Assignment, Choice, Contains, content_at, DepKind, drop_ins_are_the_fleets, EntryMap, false, File, first_or_later, Fleet, fleets_level, fleets_place, Folder, fragments_are_in_view, Host, host_view_of, hosts_without_places_have_these_drop_ins, hosts_without_places_have_these_links, hosts_without_places_resolve_alike, HostViewMap, inl, inr, IsDropInAt, IsLinked, List, main, mains_decide, Name, None, PlaceParts, refl, Resolution, resolution, Scope, ShowsNothing, Some, subst, sym, ℕ, ◌∙◌}
+use Rattle.unit_loads.specs.Prelude.{ap, Assignment, Choice, Contains, content_at, DepKind, drop_ins_are_the_fleets, EntryMap, false, File, first_or_later, Fleet, fleets_level, fleets_place, Folder, fragments_are_in_view, Host, host_view_of, hosts_without_places_have_these_drop_ins, hosts_without_places_have_these_links, hosts_without_places_resolve_alike, HostViewMap, inl, inr, IsDropInAt, IsLinked, List, main, mains_decide, Name, of_fleet, of_host, PlaceParts, Profile, refl, Resolution, resolution, Scope, ShowsNothing, subst, sym, ℕ, ◌∙◌}
 use Rattle.unit_loads.specs.{declared.units.{Status.{Status, TheVariants.{Bad, Loaded, Masked, NotFound}}, Unit.{Unit as LoadedUnit}}, ElsewhereLaws.{chosen, items_same, settings_too}, NamedUnits.{IsAssigned, IsNamed, IsNamedByLink, IsNamedByWord}, Units.{AreDropIns, HasAllOf, IsStatus, IsUnit}}
 use Rattle.fragment_choice.specs.declared.choices.Choice.TheVariants as choice
 
@@ -16,19 +16,19 @@ pub record HaveTheSameFiles (s t : HostViewMap) : Type 0 where
 -- so it is for a host at whose places nothing is visible, and without a host
 abbrev pub HostsWithoutPlacesHaveTheseFiles : Type 0
 HostsWithoutPlacesHaveTheseFiles =
-    (s : EntryMap) (host : List ℕ) → ShowsNothing s (Host host) → HaveTheSameFiles (host_view_of s (Some host)) (host_view_of s None)
+    (s : EntryMap) (host : List ℕ) (profile : Profile) → ShowsNothing s (Host host) → HaveTheSameFiles (host_view_of s (of_host host profile)) (host_view_of s (of_fleet profile))
 
 -- it has the units that there are without a host
 abbrev pub HostsWithoutPlacesHaveTheseUnits : Type 0
 HostsWithoutPlacesHaveTheseUnits =
-    (s : EntryMap) (host : List ℕ) → ShowsNothing s (Host host) → (name : Name) (unit : LoadedUnit)
-    → IsUnit (host_view_of s (Some host)) name unit ↔ IsUnit (host_view_of s None) name unit
+    (s : EntryMap) (host : List ℕ) (profile : Profile) → ShowsNothing s (Host host) → (name : Name) (unit : LoadedUnit)
+    → IsUnit (host_view_of s (of_host host profile)) name unit ↔ IsUnit (host_view_of s (of_fleet profile)) name unit
 
 -- and these name the same
 abbrev pub HostsWithoutPlacesNameAlike : Type 0
 HostsWithoutPlacesNameAlike =
-    (s : EntryMap) (host : List ℕ) → ShowsNothing s (Host host) → (unit : Name) (dep : DepKind) (v : Name)
-    → IsNamed (host_view_of s (Some host)) unit dep v ↔ IsNamed (host_view_of s None) unit dep v
+    (s : EntryMap) (host : List ℕ) (profile : Profile) → ShowsNothing s (Host host) → (unit : Name) (dep : DepKind) (v : Name)
+    → IsNamed (host_view_of s (of_host host profile)) unit dep v ↔ IsNamed (host_view_of s (of_fleet profile)) unit dep v
 
 -- ---- the same files make the same units
 
@@ -115,12 +115,12 @@ module _ (s t : HostViewMap) (same : HaveTheSameFiles s t) where
 
 -- ---- a host without places
 
-module _ (s : EntryMap) (host : List ℕ) where
+module _ (s : EntryMap) (host : List ℕ) (profile : Profile) where
   abbrev hosts : HostViewMap
-  hosts = host_view_of s (Some host)
+  hosts = host_view_of s (of_host host profile)
 
   abbrev fleets : HostViewMap
-  fleets = host_view_of s None
+  fleets = host_view_of s (of_fleet profile)
 
   -- at a place of the fleet's a host is shown what is shown without one
   fleets_content : (place : PlaceParts) → place.scope ≡ Fleet → content_at hosts place ≡ content_at fleets place
@@ -133,25 +133,25 @@ module _ (s : EntryMap) (host : List ℕ) where
   fragment_scope : (n : Name) (place : PlaceParts) → (resolution fleets n).choice ≡ choice.Fragment place → place.scope ≡ Fleet
   fragment_scope n place e =
       let file = fragments_are_in_view fleets n place e in
-      let odd : (file.0.rank % 2 == 0) ≡ false = fleets_level s file.0 (File (file.3 ∷ file.4)) file.5 in
+      let odd : (file.0.rank % 2 == 0) ≡ false = fleets_level s profile file.0 (File (file.3 ∷ file.4)) file.5 in
       ap (λ (p : PlaceParts). p.scope) (sym file.1 ∙ fleets_place fleets file.0 odd)
 
   drop_in_scope : (names : List Name) (place : PlaceParts) → IsDropInAt fleets names place → place.scope ≡ Fleet
-  drop_in_scope names place d = ap (λ (p : PlaceParts). p.scope) (sym ((drop_ins_are_the_fleets s names place).0 d).1)
+  drop_in_scope names place d = ap (λ (p : PlaceParts). p.scope) (sym ((drop_ins_are_the_fleets s profile names place).0 d).1)
 
   module _ (none : ShowsNothing s (Host host)) where
     resolved_alike : (n : Name) → resolution hosts n ≡ resolution fleets n
-    resolved_alike = hosts_without_places_resolve_alike s host none
+    resolved_alike = hosts_without_places_resolve_alike s host profile none
 
     same_files : HaveTheSameFiles hosts fleets
     same_files = record {
       resolved = resolved_alike;
-      drop_ins = hosts_without_places_have_these_drop_ins s host none;
-      links = hosts_without_places_have_these_links s host none;
+      drop_ins = hosts_without_places_have_these_drop_ins s host profile none;
+      links = hosts_without_places_have_these_links s host profile none;
       fragments_show = λ n place e.
           fleets_content place (fragment_scope n place (ap (λ (r : Resolution). r.choice) (sym (resolved_alike n)) ∙ e));
       drop_ins_show = λ names place d.
-          fleets_content place (drop_in_scope names place ((hosts_without_places_have_these_drop_ins s host none names place).0 d));
+          fleets_content place (drop_in_scope names place ((hosts_without_places_have_these_drop_ins s host profile none names place).0 d));
     }
 
     same_units : (name : Name) (unit : LoadedUnit) → IsUnit hosts name unit ↔ IsUnit fleets name unit
@@ -163,10 +163,10 @@ module _ (s : EntryMap) (host : List ℕ) where
         (named_there hosts fleets same_files unit dep v, named_there fleets hosts (turned hosts fleets same_files) unit dep v)
 
 pub hosts_without_places_have_these_files : HostsWithoutPlacesHaveTheseFiles
-hosts_without_places_have_these_files s host none = same_files s host none
+hosts_without_places_have_these_files s host profile none = same_files s host profile none
 
 pub hosts_without_places_have_these_units : HostsWithoutPlacesHaveTheseUnits
-hosts_without_places_have_these_units s host none = same_units s host none
+hosts_without_places_have_these_units s host profile none = same_units s host profile none
 
 pub hosts_without_places_name_alike : HostsWithoutPlacesNameAlike
-hosts_without_places_name_alike s host none = same_named s host none
+hosts_without_places_name_alike s host profile none = same_named s host profile none

@@ -1,5 +1,5 @@
 //! A unit of a store.
-ghost use Rattle.std.specs.{Prelude.{◌≡◌, IfOk}, Option.{option_copied}};
+ghost use Rattle.std.specs.{Prelude.{◌≡◌, IfOk}};
 ghost use Rattle.path_maps.specs.HostViews.{host_view_of};
 ghost use Rattle.fragment_choice.specs.{Resolutions.{main, resolution}, UnitNames.{AreNames}};
 ghost use Rattle.unit_loads.specs.Units.{HasNothing, IsUnit, no_names};
@@ -8,7 +8,7 @@ use crate::found::UnitParts;
 use crate::units::{Status, Unit};
 use fragment_choice::{AliasIndex, Choice, Resolution};
 use plain_values::Items;
-use replica_store::{HostName, HostView, Store};
+use replica_store::{HostView, Store, Viewer};
 use setting_rules::{DepKind, DependencyList};
 use std::alloc::{AllocError, Global};
 use unit_name::UnitName;
@@ -35,13 +35,13 @@ pub fn load_unit(alloc: Global, index: &AliasIndex, name: &UnitName) -> Result<U
 pub fn load_one(
     alloc: Global,
     store: &Store,
-    host: Option<&HostName>,
+    viewer: &Viewer,
     name: &UnitName,
 ) -> Result<Unit, AllocError>
-    ensures unit { IfOk result (IsUnit (host_view_of store.now (option_copied host.entry))
-        (main (host_view_of store.now (option_copied host.entry)) name.now)) }
+    ensures unit { IfOk result (IsUnit (host_view_of store.now viewer.now)
+        (main (host_view_of store.now viewer.now) name.now)) }
 {
-    let index = AliasIndex::of(alloc, store, host)?;
+    let index = AliasIndex::of(alloc, store, viewer)?;
     let resolved = index.resolve(alloc, name)?;
     load_resolved(alloc, &index, resolved)
 }

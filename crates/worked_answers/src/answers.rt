@@ -1,11 +1,12 @@
 //! The answers to lines.
 use crate::asking::{ask, world};
-use crate::edits::{Asked, Done, Viewer, asked_of};
+use crate::edits::{Asked, Done, asked_of, by_files};
 use crate::graphs::graph;
 use crate::refreshing::{footprint, refresh};
 use crate::rendering::{append_load, append_looked_up, append_unit, is_same_load};
 use crate::tracking::{Taking, again, far};
 use parallel_load::{LoadFault, Loaded, load_fleet, load_here, load_one};
+use replica_store::Viewer;
 use std::alloc::Global;
 use std::thread::Threads;
 use std::time::Clock;
@@ -54,8 +55,8 @@ fn load_by<R: Threads + Sync, G: Gate + Sync>(
     workers: usize,
     gate: &G,
 ) -> Result<Loaded, LoadFault> {
-    let host = asked.host.as_ref();
-    load_fleet(rt, alloc, &asked.store, host, &asked.names, workers, gate)
+    let viewer = &asked.viewer;
+    load_fleet(rt, alloc, &asked.store, viewer, &asked.names, workers, gate)
 }
 
 // Loads by each number of workers, and writes how that compares with the load by one thread.
@@ -84,25 +85,25 @@ fn load_by_each<R: Threads + Sync, G: Gate + Sync>(
     workers: &[usize],
     gate: &G,
 ) -> Done {
-    let here = load_here(out.alloc, &asked.store, asked.host.as_ref(), &asked.names);
+    let here = load_here(out.alloc, &asked.store, &asked.viewer, &asked.names);
     append_here(out, &here, looked)?;
     append_each(rt, out, asked, &here, workers, gate)
 }
 
 // Loads by one thread and by each number of workers.
-fn load<R: Threads + Sync>(rt: &R, words: &mut Words, host: Viewer, out: &mut Answer) -> Done {
+fn load<R: Threads + Sync>(rt: &R, words: &mut Words, viewer: Viewer, out: &mut Answer) -> Done {
     let workers = words.numbers()?;
-    let asked = asked_of(words, host)?;
+    let asked = asked_of(words, viewer)?;
     let looked = words.names()?;
     load_by_each(rt, out, &asked, &looked, &workers, &OpenGate)
 }
 
 // Loads as `load` does, at a gate that refuses each chunk a given number of times. Then writes how often the gate was
 // asked for each.
-fn gate<R: Threads + Sync>(rt: &R, words: &mut Words, host: Viewer, out: &mut Answer) -> Done {
+fn gate<R: Threads + Sync>(rt: &R, words: &mut Words, viewer: Viewer, out: &mut Answer) -> Done {
     let gate = CountingGate::new(words.alloc, words.index()?)?;
     let workers = words.numbers()?;
-    let asked = asked_of(words, host)?;
+    let asked = asked_of(words, viewer)?;
     load_by_each(rt, out, &asked, &[], &workers, &gate)?;
     out.line(b"the gate was asked for");
     gate.append_to(out);
@@ -113,10 +114,10 @@ fn gate<R: Threads + Sync>(rt: &R, words: &mut Words, host: Viewer, out: &mut An
 fn meet<R: Threads + Clock + Sync>(
     rt: &R,
     words: &mut Words,
-    host: Viewer,
+    viewer: Viewer,
     out: &mut Answer,
 ) -> Done {
-    let asked = asked_of(words, host)?;
+    let asked = asked_of(words, viewer)?;
     let gate = Meeting::new(rt);
     let fleet = load_by(rt, words.alloc, &asked, 2, &gate);
     append_here(out, &fleet, &[])?;
@@ -129,10 +130,10 @@ fn meet<R: Threads + Clock + Sync>(
 }
 
 // Loads the unit of each name by itself.
-fn one(words: &mut Words, host: Viewer, out: &mut Answer) -> Done {
-    let asked = asked_of(words, host)?;
+fn one(words: &mut Words, viewer: Viewer, out: &mut Answer) -> Done {
+    let asked = asked_of(words, viewer)?;
     for name in &asked.names {
-        let unit = load_one(words.alloc, &asked.store, asked.host.as_ref(), name)?;
+        let unit = load_one(words.alloc, &asked.store, &asked.viewer, name)?;
         out.line(name.bytes());
         out.write(b": ");
         append_unit(out, &unit);
@@ -143,18 +144,19 @@ fn one(words: &mut Words, host: Viewer, out: &mut Answer) -> Done {
 /// Writes the answer to a line.
 pub fn answer<R: Threads + Clock + Sync>(rt: &R, words: &mut Words, out: &mut Answer) -> Done {
     let (call, host) = call_of(words.alloc, words.word()?)?;
+    let viewer = by_files(host);
     match_word!(call;
-        b"graph" => graph(words, host, out),
-        b"load" => load(rt, words, host, out),
-        b"gate" => gate(rt, words, host, out),
-        b"meet" => meet(rt, words, host, out),
-        b"one" => one(words, host, out),
-        b"refresh" => refresh(words, host, out),
-        b"footprint" => footprint(words, host, out),
-        b"ask" => ask(rt, words, host, out),
-        b"again" => again(rt, words, host, Taking::Edits, out),
-        b"merged" => again(rt, words, host, Taking::Merge, out),
-        b"far" => far(rt, words, host, out),
-        b"world" => world(rt, words, host, out),
+        b"graph" => graph(words, viewer, out),
+        b"load" => load(rt, words, viewer, out),
+        b"gate" => gate(rt, words, viewer, out),
+        b"meet" => meet(rt, words, viewer, out),
+        b"one" => one(words, viewer, out),
+        b"refresh" => refresh(words, viewer, out),
+        b"footprint" => footprint(words, viewer, out),
+        b"ask" => ask(rt, words, viewer, out),
+        b"again" => again(rt, words, viewer, Taking::Edits, out),
+        b"merged" => again(rt, words, viewer, Taking::Merge, out),
+        b"far" => far(rt, words, viewer, out),
+        b"world" => world(rt, words, viewer, out),
     )
 }

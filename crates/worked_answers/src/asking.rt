@@ -1,5 +1,5 @@
 //! Questions of stores and of nodes of worlds, in words.
-use crate::edits::{Asked, Done, Viewer, asked_of};
+use crate::edits::{Asked, Done, asked_of, by_files};
 use crate::graphs::append_far;
 use crate::rendering::{append_plan, append_unit};
 use delta_gossip::Event;
@@ -8,7 +8,7 @@ use fleet_answers::{
     answer_question,
 };
 use plain_values::Items;
-use replica_store::{Edit, Store};
+use replica_store::{Edit, Store, Viewer};
 use setting_rules::DependencyList;
 use start_plan::Request;
 use std::alloc::{AllocError, Global};
@@ -19,34 +19,34 @@ use worked_lines::{Answer, LineFault, Words, is};
 use worker_rounds::OpenGate;
 
 // The question that a list of words writes: `unit NAME`, `pulled NAME`, `plan TARGET RUNNING..`, or `units`.
-fn question_of(words: &mut Words, host: Viewer) -> Result<Question, LineFault> {
+fn question_of(words: &mut Words, viewer: Viewer) -> Result<Question, LineFault> {
     let kind = words.word()?;
     let mut names = words.names()?;
     if names.is_empty() {
-        return units_question(kind, host);
+        return units_question(kind, viewer);
     }
     let name = names.remove(0);
     if is(kind, b"plan") {
         Ok(Question::Plan(Request {
-            host,
+            viewer,
             target: name,
             running: Items::from_vec(names),
         }))
     } else if !names.is_empty() {
         Err(LineFault::Words)
     } else if is(kind, b"unit") {
-        Ok(Question::Unit { host, name })
+        Ok(Question::Unit { viewer, name })
     } else if is(kind, b"pulled") {
-        Ok(Question::Pulled { host, name })
+        Ok(Question::Pulled { viewer, name })
     } else {
         Err(LineFault::Words)
     }
 }
 
 // The question that a word writes without names.
-fn units_question(kind: &[u8], host: Viewer) -> Result<Question, LineFault> {
+fn units_question(kind: &[u8], viewer: Viewer) -> Result<Question, LineFault> {
     if is(kind, b"units") {
-        Ok(Question::Units { host })
+        Ok(Question::Units { viewer })
     } else {
         Err(LineFault::Words)
     }
@@ -133,8 +133,8 @@ impl Drop for Asking {
 }
 
 /// A question and numbers, with which a line ends.
-pub fn asking_of(words: &mut Words, host: Viewer) -> Result<Asking, LineFault> {
-    let question = question_of(words, host)?;
+pub fn asking_of(words: &mut Words, viewer: Viewer) -> Result<Asking, LineFault> {
+    let question = question_of(words, viewer)?;
     let counts = words.numbers()?;
     Ok(Asking { question, counts })
 }
@@ -187,9 +187,9 @@ fn append_all<R: Threads + Sync>(rt: &R, out: &mut Answer, asked: &Asked, asking
 }
 
 /// Answers a question from a store by one thread, and then by each number of workers.
-pub fn ask<R: Threads + Sync>(rt: &R, words: &mut Words, host: Viewer, out: &mut Answer) -> Done {
-    let asked = asked_of(words, None)?;
-    let asking = asking_of(words, host)?;
+pub fn ask<R: Threads + Sync>(rt: &R, words: &mut Words, viewer: Viewer, out: &mut Answer) -> Done {
+    let asked = asked_of(words, by_files(None))?;
+    let asking = asking_of(words, viewer)?;
     append_all(rt, out, &asked, &asking)
 }
 
@@ -301,8 +301,13 @@ fn append_moments<R: Threads + Sync>(
 }
 
 /// Answers a question at two nodes of a world that took the same edits: all but the last, and then all.
-pub fn world<R: Threads + Sync>(rt: &R, words: &mut Words, host: Viewer, out: &mut Answer) -> Done {
+pub fn world<R: Threads + Sync>(
+    rt: &R,
+    words: &mut Words,
+    viewer: Viewer,
+    out: &mut Answer,
+) -> Done {
     let edits = words.edits()?;
-    let asking = asking_of(words, host)?;
+    let asking = asking_of(words, viewer)?;
     append_moments(rt, out, &edits, &asking)
 }

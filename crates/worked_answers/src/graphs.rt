@@ -1,10 +1,11 @@
 //! Graphs of loads in words.
 ghost use Rattle.unit_graph.specs.Graphs.{IsKnown};
 
-use crate::edits::{Asked, Done, Viewer, asked_of};
+use crate::edits::{Asked, Done, asked_of};
 use crate::rendering::{append_fault, append_status};
 use inverse_deps::edges;
 use parallel_load::{Loaded, load_here};
+use replica_store::Viewer;
 use setting_rules::DepKind;
 use std::alloc::Global;
 use unit_graph::Graph;
@@ -74,7 +75,7 @@ fn append_from(out: &mut Answer, graph: &Graph, kinds: &[DepKind], name: &UnitNa
 
 // Writes for which host a graph is, if for one, and its units.
 fn append_members(out: &mut Answer, graph: &Graph) -> Done {
-    if let Some(host) = graph.host() {
+    if let Some(host) = &graph.viewer().host {
         out.line(b"for ");
         out.write(host.bytes());
     }
@@ -101,15 +102,15 @@ fn append_graph(out: &mut Answer, load: &Loaded, kinds: &[DepKind], names: &[Uni
 
 // Loads a store, and writes what its graph has.
 fn append_asked(out: &mut Answer, asked: &Asked, kinds: &[DepKind], names: &[UnitName]) -> Done {
-    match load_here(out.alloc, &asked.store, asked.host.as_ref(), &asked.names) {
+    match load_here(out.alloc, &asked.store, &asked.viewer, &asked.names) {
         Ok(load) => append_graph(out, &load, kinds, names),
         Err(fault) => append_fault(out, &fault),
     }
 }
 
 /// Makes the graph of a load, and looks at it from each of several names.
-pub fn graph(words: &mut Words, host: Viewer, out: &mut Answer) -> Done {
-    let asked = asked_of(words, host)?;
+pub fn graph(words: &mut Words, viewer: Viewer, out: &mut Answer) -> Done {
+    let asked = asked_of(words, viewer)?;
     let kinds = each_of(words.alloc, &words.list()?, kind_of)?;
     let names = words.names()?;
     append_asked(out, &asked, &kinds, &names)

@@ -6,11 +6,11 @@ ghost use Rattle.edit_sums.specs.Sums.{visible_at};
 ghost use Rattle.path_maps.specs.HostViews.{host_view_of};
 ghost use Rattle.parallel_load.specs.Loads.{IsLoad};
 
-use crate::edits::{Done, Viewer, asked_of};
+use crate::edits::{Done, asked_of};
 use crate::rendering::{append_fault, append_places, is_same_load};
 use crate::universes::universe_of;
 use parallel_load::{LoadFault, Loaded, Refreshed, load_here, refresh_in_place};
-use replica_store::{Edit, HostName, Place, Store};
+use replica_store::{Edit, Place, Store, Viewer};
 use std::alloc::Global;
 use unit_name::UnitName;
 use worked_lines::{Answer, LineFault, Words};
@@ -27,21 +27,21 @@ impl LoadedStore {
     fn of(
         alloc: Global,
         store: Store,
-        host: Option<&HostName>,
+        viewer: &Viewer,
         names: &[UnitName],
     ) -> Result<LoadedStore, LoadFault>
-        ensures load { IfOk result (λ made. IsLoad (host_view_of made.store made.load.host) made.load.extra made.load) }
+        ensures load { IfOk result (λ made. IsLoad (host_view_of made.store made.load.viewer) made.load.extra made.load) }
     {
-        let load = load_here(alloc, &store, host, names)?;
+        let load = load_here(alloc, &store, viewer, names)?;
         Ok(LoadedStore { store, load })
     }
 
     // Refreshes the load for another store, if these are just the places at which that one shows something else.
     fn refreshed(&self, store: &Store, changed: &[Place]) -> Result<Loaded, LoadFault>
-        requires load { IsLoad (host_view_of self.now.store self.now.load.host) self.now.load.extra self.now.load }
+        requires load { IsLoad (host_view_of self.now.store self.now.load.viewer) self.now.load.extra self.now.load }
         requires changed { (p : PlaceParts) → IsAmong p changed.now
             ↔ (visible_at store.now p ≢ visible_at self.now.store p) }
-        ensures load { IfOk result (λ load. IsLoad (host_view_of store.now load.host) load.extra load) }
+        ensures load { IfOk result (λ load. IsLoad (host_view_of store.now load.viewer) load.extra load) }
     {
         let load = parallel_load::refresh(&self.load, store, changed)?;
         Ok(load)
@@ -49,7 +49,7 @@ impl LoadedStore {
 
     // Refreshes the load in place, and gives it away.
     fn given_away(self, store: &Store, changed: &[Place]) -> Result<Refreshed, LoadFault>
-        requires load { IsLoad (host_view_of self.store self.load.host) self.load.extra self.load }
+        requires load { IsLoad (host_view_of self.store self.load.viewer) self.load.extra self.load }
         requires changed { (p : PlaceParts) → IsAmong p changed.now ↔ (visible_at store.now p ≢ visible_at self.store p) }
     {
         refresh_in_place(self.load, store, changed)
@@ -141,7 +141,7 @@ fn append_changed(out: &mut Answer, changed: &[Place]) {
 
 // The load of a store by one thread, as another load was made.
 fn load_like(alloc: Global, store: &Store, load: &Loaded) -> Result<Loaded, LoadFault> {
-    load_here(alloc, store, load.host(), load.extra())
+    load_here(alloc, store, load.viewer(), load.extra())
 }
 
 // Writes how a refreshed load compares with the one by one thread, and how the load before, given away, does.
@@ -153,7 +153,7 @@ fn append_both(
     load: &Loaded,
     here: &Result<Loaded, LoadFault>,
 ) -> Done
-    requires load { IsLoad (host_view_of before.store before.load.host) before.load.extra before.load }
+    requires load { IsLoad (host_view_of before.store before.load.viewer) before.load.extra before.load }
     requires changed { (p : PlaceParts) → IsAmong p changed.now ↔ (visible_at store.now p ≢ visible_at before.store p) }
 {
     append_compared(out, load, here)?;
@@ -167,8 +167,8 @@ fn append_refreshed(
     before: LoadedStore,
     store: Store,
 ) -> Result<LoadedStore, LineFault>
-    requires load { IsLoad (host_view_of before.store before.load.host) before.load.extra before.load }
-    ensures load { IfOk result (λ made. IsLoad (host_view_of made.store made.load.host) made.load.extra made.load) }
+    requires load { IsLoad (host_view_of before.store before.load.viewer) before.load.extra before.load }
+    ensures load { IfOk result (λ made. IsLoad (host_view_of made.store made.load.viewer) made.load.extra made.load) }
 {
     let changed = store.changed(&before.store)?;
     append_changed(out, &changed);
@@ -187,7 +187,7 @@ fn append_refreshed(
 
 // Refreshes the load for each of several numbers of edits, one after another.
 fn append_later(out: &mut Answer, first: LoadedStore, edits: &[Edit], counts: &[usize]) -> Done
-    requires load { IsLoad (host_view_of first.store first.load.host) first.load.extra first.load }
+    requires load { IsLoad (host_view_of first.store first.load.viewer) first.load.extra first.load }
 {
     let mut held = first;
     for count in counts {
@@ -201,7 +201,7 @@ fn append_later(out: &mut Answer, first: LoadedStore, edits: &[Edit], counts: &[
 // Loads the store of the first edits, as many as the first number says, and refreshes that load for each later number.
 fn append_counts(
     out: &mut Answer,
-    host: Option<&HostName>,
+    viewer: &Viewer,
     edits: &[Edit],
     names: &[UnitName],
     counts: &[usize],
@@ -209,7 +209,7 @@ fn append_counts(
     let (first, later) = counts.split_first().ok_or(LineFault::Words)?;
     append_count(out, *first);
     let store = store_of(out.alloc, edits, *first)?;
-    match LoadedStore::of(out.alloc, store, host, names) {
+    match LoadedStore::of(out.alloc, store, viewer, names) {
         Ok(held) => {
             append_fresh(out, &held.load);
             append_later(out, held, edits, later)
@@ -219,11 +219,11 @@ fn append_counts(
 }
 
 /// Loads a store of first edits, and refreshes its load for other numbers of first edits.
-pub fn refresh(words: &mut Words, host: Viewer, out: &mut Answer) -> Done {
+pub fn refresh(words: &mut Words, viewer: Viewer, out: &mut Answer) -> Done {
     let counts = words.numbers()?;
     let edits = words.edits()?;
     let names = words.names()?;
-    append_counts(out, host.as_ref(), &edits, &names, &counts)
+    append_counts(out, &viewer, &edits, &names, &counts)
 }
 
 // Writes the footprint of the unit of a main name.
@@ -250,10 +250,10 @@ fn append_footprints(out: &mut Answer, load: &Loaded, names: &[UnitName]) -> Don
 }
 
 /// Loads a store, and writes the footprints of the units of several names.
-pub fn footprint(words: &mut Words, host: Viewer, out: &mut Answer) -> Done {
-    let asked = asked_of(words, host)?;
+pub fn footprint(words: &mut Words, viewer: Viewer, out: &mut Answer) -> Done {
+    let asked = asked_of(words, viewer)?;
     let looked = words.names()?;
-    match load_here(words.alloc, &asked.store, asked.host.as_ref(), &asked.names) {
+    match load_here(words.alloc, &asked.store, &asked.viewer, &asked.names) {
         Ok(load) => append_footprints(out, &load, &looked),
         Err(fault) => append_fault(out, &fault),
     }

@@ -28,7 +28,7 @@ fn append_units(out: &mut Answer, units: &[&Unit]) {
 
 /// Writes for which host the load is, if for one, what was asked for, all names with what they stand for, and the units.
 pub fn append_load(out: &mut Answer, load: &Loaded) -> Done {
-    if let Some(host) = load.host() {
+    if let Some(host) = &load.viewer().host {
         out.line(b"for ");
         out.write(host.bytes());
     }
@@ -49,9 +49,9 @@ pub fn append_places(out: &mut Answer, places: &[Place]) {
     }
 }
 
-/// Whether two loads are for the same host, with the same names asked for, the same names, dependencies and units.
+/// Whether two loads are for the same viewer, with the same names asked for, the same names, dependencies and units.
 pub fn is_same_load(one: &Loaded, other: &Loaded) -> Result<bool, LineFault> {
-    let is_same_asked = one.host() == other.host() && one.extra() == other.extra();
+    let is_same_asked = *one.viewer() == *other.viewer() && one.extra() == other.extra();
     let is_same_map = one.names() == other.names() && one.dependencies() == other.dependencies();
     Ok(is_same_asked && is_same_map && one.units()? == other.units()?)
 }

@@ -1,8 +1,8 @@
 //! Questions of a node that is asked again, where only what it took since is read again, in words.
 use crate::asking::{Asking, asking_of, returned_here, text_of};
-use crate::edits::{Done, Viewer};
+use crate::edits::Done;
 use fleet_answers::{Question, TrackedReplica};
-use replica_store::{Content, Edit, EditFault, Place, Replica, Store, Version};
+use replica_store::{Content, Edit, EditFault, Place, Replica, Store, Version, Viewer};
 use std::alloc::Global;
 use std::thread::Threads;
 use worked_lines::{Answer, LineFault, Words};
@@ -144,12 +144,12 @@ fn append_again<R: Threads + Sync>(
 pub fn again<R: Threads + Sync>(
     rt: &R,
     words: &mut Words,
-    host: Viewer,
+    viewer: Viewer,
     taking: Taking,
     out: &mut Answer,
 ) -> Done {
     let edits = words.edits()?;
-    let asking = asking_of(words, host)?;
+    let asking = asking_of(words, viewer)?;
     append_again(rt, out, &edits, &asking, taking)
 }
 
@@ -227,8 +227,8 @@ fn append_counts<R: Threads + Sync>(
 
 /// Answers a question at a node that took all edits but the last, and then, behind each of several numbers of edits elsewhere,
 /// the last one too.
-pub fn far<R: Threads + Sync>(rt: &R, words: &mut Words, host: Viewer, out: &mut Answer) -> Done {
+pub fn far<R: Threads + Sync>(rt: &R, words: &mut Words, viewer: Viewer, out: &mut Answer) -> Done {
     let edits = words.edits()?;
-    let asking = asking_of(words, host)?;
+    let asking = asking_of(words, viewer)?;
     append_counts(rt, out, &edits, &asking)
 }

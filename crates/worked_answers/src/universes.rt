@@ -1,8 +1,7 @@
 //! What loads come to, in words: all edges of all units, the members of the graph, and a plan.
-ghost use Rattle.std.specs.Prelude.{◌≡◌, IfOk};
 ghost use Rattle.unit_graph.specs.Graphs.{IsKnown};
 
-use crate::edits::{Done, Viewer};
+use crate::edits::Done;
 use crate::graphs::append_steps;
 use crate::rendering::append_plan;
 use inverse_deps::edges;
@@ -15,22 +14,12 @@ use unit_graph::Graph;
 use unit_name::UnitName;
 use worked_lines::{Answer, LineFault};
 
-// The host of a graph.
-fn host_of(graph: &Graph) -> Result<Viewer, LineFault>
-    ensures host { IfOk result (λ host. host ≡ graph.now.load.host) }
-{
-    match graph.host() {
-        Some(host) => Ok(Some(host.try_clone()?)),
-        None => Ok(None),
-    }
-}
-
 // Writes what starts for a unit where none runs, or why it can't be started.
 fn append_started(out: &mut Answer, graph: &Graph, target: &UnitName) -> Done
     requires known { IsKnown graph.now.load target.now }
 {
     let request = Request {
-        host: host_of(graph)?,
+        viewer: graph.viewer().try_clone()?,
         target: target.try_clone()?,
         running: Items::new(out.alloc),
     };

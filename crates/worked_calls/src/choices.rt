@@ -1,8 +1,8 @@
 //! Calls on what a unit's name resolves to, for a host or for the fleet: the store as words, `+`, and the unit's name,
 //! or several names.
-use crate::edits::append_names;
+use crate::edits::{append_names, by_files};
 use fragment_choice::{AliasIndex, Choice, Resolution, choose, names_of, resolve};
-use replica_store::{HostName, Store};
+use replica_store::{Store, Viewer};
 use unit_name::UnitName;
 use worked_lines::{Answer, LineFault, Words, asked_of, match_word};
 
@@ -10,20 +10,20 @@ use worked_lines::{Answer, LineFault, Words, asked_of, match_word};
 pub fn answer(words: &mut Words, out: &mut Answer) -> Result<(), LineFault> {
     let (call, host) = asked_of(words.alloc, words.word()?)?;
     let store = words.store()?;
-    of_store(call, &store, host.as_ref(), words, out)
+    of_store(call, &store, &by_files(host), words, out)
 }
 
 // The answer to a call on a store, and on one name or several.
 fn of_store(
     call: &[u8],
     store: &Store,
-    host: Option<&HostName>,
+    viewer: &Viewer,
     words: &mut Words,
     out: &mut Answer,
 ) -> Result<(), LineFault> {
     match_word!(call;
-        b"index" => append_indexed(out, store, host, &words.spelled_names()?),
-        _ => returned(call, store, host, &words.name()?, out),
+        b"index" => append_indexed(out, store, viewer, &words.spelled_names()?),
+        _ => returned(call, store, viewer, &words.name()?, out),
     )
 }
 
@@ -31,20 +31,20 @@ fn of_store(
 fn returned(
     call: &[u8],
     store: &Store,
-    host: Option<&HostName>,
+    viewer: &Viewer,
     name: &UnitName,
     out: &mut Answer,
 ) -> Result<(), LineFault> {
     match_word!(call;
         b"choose" => {
-            append_choice(out, &choose(out.alloc, store, host, name)?);
+            append_choice(out, &choose(out.alloc, store, viewer, name)?);
             Ok(())
         },
         b"resolve" => {
-            append_resolution(out, &resolve(out.alloc, store, host, name)?);
+            append_resolution(out, &resolve(out.alloc, store, viewer, name)?);
             Ok(())
         },
-        b"names" => append_names_of(out, store, host, name),
+        b"names" => append_names_of(out, store, viewer, name),
     )
 }
 
@@ -70,11 +70,11 @@ fn append_resolution(out: &mut Answer, end: &Resolution) {
 fn append_names_of(
     out: &mut Answer,
     store: &Store,
-    host: Option<&HostName>,
+    viewer: &Viewer,
     name: &UnitName,
 ) -> Result<(), LineFault> {
-    if resolve(out.alloc, store, host, name)?.main.bytes() == name.bytes() {
-        append_names(out, &names_of(out.alloc, store, host, name)?);
+    if resolve(out.alloc, store, viewer, name)?.main.bytes() == name.bytes() {
+        append_names(out, &names_of(out.alloc, store, viewer, name)?);
     } else {
         out.write(b"no main name");
     }
@@ -85,10 +85,10 @@ fn append_names_of(
 fn append_indexed(
     out: &mut Answer,
     store: &Store,
-    host: Option<&HostName>,
+    viewer: &Viewer,
     units: &[UnitName],
 ) -> Result<(), LineFault> {
-    let index = AliasIndex::of(out.alloc, store, host)?;
+    let index = AliasIndex::of(out.alloc, store, viewer)?;
     for unit in units {
         append_unit(out, &index, unit)?;
     }

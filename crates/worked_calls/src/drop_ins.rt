@@ -1,8 +1,8 @@
 //! Calls on the folders, the drop-ins and the link folders of units: the store as words, `+`, and the unit's names.
 //! Calls on a store may be made for a host.
-use crate::edits::{append_names, append_places, append_viewed};
+use crate::edits::{append_names, append_places, append_viewed, by_files};
 use dropins::{Folder, UnitFolders, folders, links, order};
-use replica_store::{HostName, HostView, Store};
+use replica_store::{HostView, Store, Viewer};
 use unit_name::UnitName;
 use worked_lines::{Answer, LineFault, Words, asked_of, match_word};
 
@@ -22,27 +22,27 @@ pub fn answer(words: &mut Words, out: &mut Answer) -> Result<(), LineFault> {
 fn asked(word: &[u8], words: &mut Words, out: &mut Answer) -> Result<(), LineFault> {
     let (call, host) = asked_of(words.alloc, word)?;
     let store = words.store()?;
-    returned(call, &store, host.as_ref(), &words.spelled_names()?, out)
+    returned(call, &store, &by_files(host), &words.spelled_names()?, out)
 }
 
 // The answer to a call on the unit with these names in a store.
 fn returned(
     call: &[u8],
     store: &Store,
-    host: Option<&HostName>,
+    viewer: &Viewer,
     names: &[UnitName],
     out: &mut Answer,
 ) -> Result<(), LineFault> {
     match_word!(call;
         b"order" => {
-            append_places(out, &order(out.alloc, store, host, names)?);
+            append_places(out, &order(out.alloc, store, viewer, names)?);
             Ok(())
         },
-        b"lend" => append_borrowed(out, &store.host_view(host), names),
-        b"lend-wants" => append_lent(out, &store.host_view(host), names, Folder::Wants),
-        b"lend-requires" => append_lent(out, &store.host_view(host), names, Folder::Requires),
-        b"wants" => append_links(out, store, host, names, Folder::Wants),
-        b"requires" => append_links(out, store, host, names, Folder::Requires),
+        b"lend" => append_borrowed(out, &store.host_view(viewer), names),
+        b"lend-wants" => append_lent(out, &store.host_view(viewer), names, Folder::Wants),
+        b"lend-requires" => append_lent(out, &store.host_view(viewer), names, Folder::Requires),
+        b"wants" => append_links(out, store, viewer, names, Folder::Wants),
+        b"requires" => append_links(out, store, viewer, names, Folder::Requires),
     )
 }
 
@@ -50,11 +50,11 @@ fn returned(
 fn append_links(
     out: &mut Answer,
     store: &Store,
-    host: Option<&HostName>,
+    viewer: &Viewer,
     names: &[UnitName],
     folder: Folder,
 ) -> Result<(), LineFault> {
-    append_names(out, &links(out.alloc, store, host, names, folder)?);
+    append_names(out, &links(out.alloc, store, viewer, names, folder)?);
     Ok(())
 }
 

@@ -1,10 +1,20 @@
 //! How edits and stores are written: an edit as `COUNTER.WRITER:PLACE` for a removal, followed by `=TEXT` for a file
 //! and by `>TARGET` for a link.
+use profiles::Profile;
 use replica_store::{
-    Content, Edit, Entries, HostView, HostViewEntries, HostViewEntry, Place, Placed, Store, Version,
+    Content, Edit, Entries, HostName, HostView, HostViewEntries, HostViewEntry, Place, Placed,
+    Store, Version, Viewer,
 };
 use unit_name::UnitName;
 use worked_lines::{Answer, LineFault};
+
+/// The manager of a host, or one of the whole fleet, that loads units as their files say alone.
+pub fn by_files(host: Option<HostName>) -> Viewer {
+    Viewer {
+        host,
+        profile: Profile::Files,
+    }
+}
 
 /// Writes a version.
 pub fn append_version(out: &mut Answer, version: Version) {

@@ -3,8 +3,9 @@
 //! A level is written as the rank of the fleet's directory, or as `own:` and the rank of the host's own.
 use crate::edits::{
     append_all_viewed, append_content, append_places, append_store, append_version, append_viewed,
+    by_files,
 };
-use replica_store::{Content, Edit, Entry, HostName, HostView, HostViewEntry, Place, Store};
+use replica_store::{Content, Edit, Entry, HostView, HostViewEntry, Place, Store, Viewer};
 use worked_lines::{Answer, LineFault, Words, asked_of, byte_of, cut_at, edit_of, match_word};
 
 /// Writes the answer to a call on stores.
@@ -147,22 +148,19 @@ fn append_at(call: &[u8], out: &mut Answer, store: &Store, place: &Place) {
 // The answer to a call on what a host sees of a store, or on what the fleet sees.
 fn of_viewed(word: &[u8], words: &mut Words, out: &mut Answer) -> Result<(), LineFault> {
     let (call, host) = asked_of(words.alloc, word)?;
+    let viewer = by_files(host);
     match_word!(call;
-        b"seen" => viewed_at(host.as_ref(), words, out),
-        b"entries_in" => in_folder(host.as_ref(), words, out),
-        b"entry_at" => at_parts(host.as_ref(), words, out),
+        b"seen" => viewed_at(&viewer, words, out),
+        b"entries_in" => in_folder(&viewer, words, out),
+        b"entry_at" => at_parts(&viewer, words, out),
     )
 }
 
 // What is seen at a place.
-fn viewed_at(
-    host: Option<&HostName>,
-    words: &mut Words,
-    out: &mut Answer,
-) -> Result<(), LineFault> {
+fn viewed_at(viewer: &Viewer, words: &mut Words, out: &mut Answer) -> Result<(), LineFault> {
     let place = words.place()?;
     let store = words.store()?;
-    append_visible(out, store.host_view(host).visible(&place));
+    append_visible(out, store.host_view(viewer).visible(&place));
     Ok(())
 }
 
@@ -175,15 +173,11 @@ fn level_of(word: &[u8]) -> Result<u8, LineFault> {
 }
 
 // The entries that are seen in a folder of a level.
-fn in_folder(
-    host: Option<&HostName>,
-    words: &mut Words,
-    out: &mut Answer,
-) -> Result<(), LineFault> {
+fn in_folder(viewer: &Viewer, words: &mut Words, out: &mut Answer) -> Result<(), LineFault> {
     let level = level_of(words.word()?)?;
     let folder = words.text()?;
     let store = words.store()?;
-    append_seen(out, &store.host_view(host), level, &folder)
+    append_seen(out, &store.host_view(viewer), level, &folder)
 }
 
 // Writes the entries that are seen in a folder of a level.
@@ -206,12 +200,12 @@ fn of_folder(words: &mut Words, out: &mut Answer) -> Result<(), LineFault> {
 }
 
 // What is seen at the path of these parts.
-fn at_parts(host: Option<&HostName>, words: &mut Words, out: &mut Answer) -> Result<(), LineFault> {
+fn at_parts(viewer: &Viewer, words: &mut Words, out: &mut Answer) -> Result<(), LineFault> {
     let level = level_of(words.word()?)?;
     let folder = words.text()?;
     let name = words.text()?;
     let store = words.store()?;
-    let view = store.host_view(host);
+    let view = store.host_view(viewer);
     append_held(out, &view, view.entry_at(level, &folder, &name))
 }
 

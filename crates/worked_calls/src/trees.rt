@@ -1,7 +1,7 @@
 //! Calls on the trees of hosts: the store as words.
-use crate::edits::{append_content, append_store};
+use crate::edits::{append_content, append_store, by_files};
 use host_trees::{is_crossed, tree, tree_store};
-use replica_store::{HostName, Store};
+use replica_store::{HostName, Store, Viewer};
 use unit_name::UnitName;
 use worked_lines::{Answer, LineFault, Words, asked_of, match_word};
 
@@ -13,7 +13,7 @@ pub fn answer(words: &mut Words, out: &mut Answer) -> Result<(), LineFault> {
         b"store" => append_tree_store(out, &words.store()?, host.as_ref()),
         b"crossed" => {
             let store = words.store()?;
-            append_crossed(out, &store, host.as_ref(), &words.spelled_names()?)
+            append_crossed(out, &store, &by_files(host), &words.spelled_names()?)
         },
     )
 }
@@ -43,13 +43,13 @@ fn append_tree_store(
 fn append_crossed(
     out: &mut Answer,
     store: &Store,
-    host: Option<&HostName>,
+    viewer: &Viewer,
     names: &[UnitName],
 ) -> Result<(), LineFault> {
-    let pairs = tree(out.alloc, store, host)?;
+    let pairs = tree(out.alloc, store, viewer.host.as_ref())?;
     let shown = tree_store(out.alloc, pairs.as_slice())?;
     out.either(
-        is_crossed(out.alloc, store, host, &shown, names)?,
+        is_crossed(out.alloc, store, viewer, &shown, names)?,
         b"crossed",
         b"alike",
     );

@@ -11,11 +11,11 @@ returns-then-is_asked_by c =
 
 pub returns-then-are_sources : goal.returns-then-are_sources
 returns-then-are_sources c =
-    let s = host_view_of c.args.store.now c.args.snapshot.now.host in
+    let s = host_view_of c.args.store.now c.args.snapshot.now.viewer in
     let names = c.args.names.now in
     let asked = c.extra-asked.result.now in
-    let host_is = c.host.ensures.host ∙ ap (λ (l : LoadMap). l.host) c.loaded-loaded.ensures.load in
-    let viewed_is = c.host_view-view.ensures.view ∙ ap (λ (h : Viewer). host_view_of c.args.store.now h) host_is in
+    let viewer_is = c.viewer.ensures.viewer ∙ ap (λ (l : LoadMap). l.viewer) c.loaded-loaded.ensures.load in
+    let viewed_is = c.host_view-view.ensures.view ∙ ap (λ (h : Viewer). host_view_of c.args.store.now h) viewer_is in
     let extra_is = c.extra-asked.ensures.extra ∙ ap (λ (l : LoadMap). l.extra) c.loaded-loaded.ensures.load in
     record {
       these = λ _. subst (λ (es : List Name). AreSources s es names) extra_is (subst (λ (v : HostViewMap). AreSources v asked names) viewed_is (c.are_sources.ensures.sources c.if-are_sources.true));

@@ -1,4 +1,4 @@
-use Rattle.parallel_load.proofs.{Gathering.{have_links}, Normalizing.{viewed_link_targets}, Prelude.{AreOwnLinkTargets, HaveLinks, host_view_of, HostViewMap, NamedWords, option_copied, subst, sym, ◌∙◌}}
+use Rattle.parallel_load.proofs.{Gathering.{have_links}, Normalizing.{viewed_link_targets}, Prelude.{AreOwnLinkTargets, HaveLinks, host_view_of, HostViewMap, NamedWords, subst, sym, ◌∙◌}}
 use Rattle.parallel_load.proofs.loads.start_of.Goals as goal
 
 pub of_targets-requires : goal.of_targets-requires
@@ -10,7 +10,7 @@ of_targets-requires c = record {
 
 pub returns : goal.returns
 returns c =
-    let s = host_view_of c.args.store.now (option_copied c.args.host) in
+    let s = host_view_of c.args.store.now c.args.viewer.now in
     let own = c.in_ok-words.ensures.words in
     record {
       words = viewed_link_targets c.host_view-view.result s c.in_ok-new.field-0 c.in_ok-words.words c.host_view-view.ensures.view c.in_ok-new.ensures.value own;

@@ -1,5 +1,5 @@
 use Rattle.std.proofs.Common.{◌++◌, ◌+◌, ◌<◌, ◌∷◌, ◌≡◌}
-use Rattle.parallel_load.proofs.Prelude.{[], All, All-append, All-cons, All-nil, all_among, ap, AreReadOrLeft, DependencyList, get_or, host_view_of, IfSome, IsOwnUnit, IsReadAgain, length, List, Name, NameLoad, Option, option_copied, subst, sym, take, take_all, take_more, with_loads, ℕ, ◌∙◌}
+use Rattle.parallel_load.proofs.Prelude.{[], All, All-append, All-cons, All-nil, all_among, ap, AreReadOrLeft, DependencyList, get_or, host_view_of, IfSome, IsOwnUnit, IsReadAgain, length, List, Name, NameLoad, Option, subst, sym, take, take_all, take_more, with_loads, ℕ, ◌∙◌}
 use Rattle.parallel_load.proofs.{Again.{item_among}, UnitsPut.{none_read, read_next}}
 use Rattle.parallel_load.proofs.patching.units_again.Goals as goal
 
@@ -7,7 +7,7 @@ pub loop-index-init : goal.loop-index-init
 loop-index-init c =
     let P : ℕ × NameLoad → Type 0 = λ u. u.0 < length c.args.names.now in (
       subst (All P) (sym c.in_ok-units.ensures.items) (All-nil P),
-      none_read (host_view_of c.args.store.now (option_copied c.args.host)) c.args.kept.now.mains c.args.names.now c.as_slice-named.result.now c.in_ok-units.units.items c.in_ok-units.ensures.items,
+      none_read (host_view_of c.args.store.now c.args.viewer.now) c.args.kept.now.mains c.args.names.now c.as_slice-named.result.now c.in_ok-units.units.items c.in_ok-units.ensures.items,
     )
 
 pub unit_again-requires : goal.unit_again-requires
@@ -15,13 +15,13 @@ unit_again-requires c =
     let index = get_or c.args.affected.now c.loop-index.index-index 0 in
     record {
       own =
-          all_among (IsOwnUnit (host_view_of c.args.store.now (option_copied c.args.host))) c.args.names.now c.index-names-index.result c.requires.own
+          all_among (IsOwnUnit (host_view_of c.args.store.now c.args.viewer.now)) c.args.names.now c.index-names-index.result c.requires.own
           (item_among c.args.names.now index c.index-names-index.result (c.requires.affected c.loop-index.index-index 0 c.loop-index-test.true) c.index-names-index.is);
     }
 
 pub loop-index-preserved : goal.loop-index-preserved
 loop-index-preserved c =
-    let t = host_view_of c.args.store.now (option_copied c.args.host) in
+    let t = host_view_of c.args.store.now c.args.viewer.now in
     let ms = c.args.kept.now.mains in
     let names : List (Name × NameLoad) = c.args.names.now in
     let named : List (List DependencyList) = c.as_slice-named.result.now in
@@ -47,7 +47,7 @@ loop-index-preserved c =
 
 pub returns : goal.returns
 returns c =
-    let t = host_view_of c.args.store.now (option_copied c.args.host) in
+    let t = host_view_of c.args.store.now c.args.viewer.now in
     let names : List (Name × NameLoad) = c.args.names.now in
     let units : List (ℕ × NameLoad) = c.loop-index.units.items in
     let P : List ℕ → Type 0 = λ read. AreReadOrLeft t c.args.kept.now.mains read names c.as_slice-named.result.now (with_loads names units) in

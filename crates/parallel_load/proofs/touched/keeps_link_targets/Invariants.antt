@@ -2,4 +2,4 @@ use Rattle.parallel_load.proofs.Prelude.{All, host_view_of, KeepsLinkTargets, ta
 use Rattle.parallel_load.proofs.touched.keeps_link_targets.Given as goal
 
 abbrev pub invariant-loop-place : goal.invariant-loop-place
-invariant-loop-place l = All (KeepsLinkTargets l.loaded.host l.loaded.words (host_view_of l.store l.loaded.host)) (take l.place-index l.touched)
+invariant-loop-place l = All (KeepsLinkTargets l.loaded.viewer l.loaded.words (host_view_of l.store l.loaded.viewer)) (take l.place-index l.touched)

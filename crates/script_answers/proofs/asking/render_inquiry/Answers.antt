@@ -1,4 +1,4 @@
-use Rattle.script_answers.proofs.{Prelude.{ap, EntryMap, Form, form_of, get_or, get_or_default, host_of, IsOutcomeOf, List, question_asked, RendersWords, Replicated, subst, Viewer, ◌∙◌}, Rendered.{answer_rendered, for_host, IsRendered, question_rendered}}
+use Rattle.script_answers.proofs.{Prelude.{ap, EntryMap, Form, form_of, get_or, get_or_default, IsOutcomeOf, List, Option, question_asked, RendersWords, Replicated, subst, Viewer, viewer_asked, ℕ, ◌∙◌}, Rendered.{answer_rendered, for_host, IsRendered, question_rendered}}
 use Rattle.script_answers.proofs.asking.render_inquiry.Goals as goal
 
 pub returns-in-Ok-clause-rendered : goal.returns-in-Ok-clause-rendered
@@ -14,9 +14,9 @@ returns-in-Ok-clause-rendered g c = λ d.
     ∙ get_or_default c.args.nodes.now c.args.node node d c.requires.within in
     let store = c.store.ensures.store ∙ ap (λ (r : Replicated). r.store) same in
     let said =
-    subst (λ (f : Form). IsRendered text (IsOutcomeOf f s (host_of question) c.in-Ok.answer)) c.of-form.ensures.form
-    (subst (λ (t : EntryMap). IsRendered text (IsOutcomeOf c.of-form.result t (host_of question) c.in-Ok.answer)) store
-    (subst (λ (h : Viewer). IsRendered text (IsOutcomeOf c.of-form.result c.store.result.now h c.in-Ok.answer)) c.host.ensures.host c.answer_text.ensures.rendered)) in
+    subst (λ (f : Form). IsRendered text (IsOutcomeOf f s (viewer_asked question) c.in-Ok.answer)) c.of-form.ensures.form
+    (subst (λ (t : EntryMap). IsRendered text (IsOutcomeOf c.of-form.result t (viewer_asked question) c.in-Ok.answer)) store
+    (subst (λ (h : Viewer). IsRendered text (IsOutcomeOf c.of-form.result c.store.result.now h c.in-Ok.answer)) c.viewer.ensures.viewer c.answer_text.ensures.rendered)) in
     let rendered = answer_rendered form s question c.in-Ok.answer (c.in-Ok.ensures.answer d) text said in
-    for_host c.args.host (λ (host : Viewer). RendersWords form (asked host)) s c.in_ok-host.host c.in_ok-host.ensures.read text
+    for_host c.args.host (λ (host : Option (List ℕ)). RendersWords form (asked host)) s c.in_ok-host.host c.in_ok-host.ensures.read text
     (question_rendered form (asked c.in_ok-host.host) s question c.in_ok-question.ensures.read text rendered)

@@ -1,5 +1,5 @@
 use Rattle.std.proofs.Common.{◌↔◌, ◌≡◌}
-use Rattle.script_answers.proofs.Prelude.{ap, AreNames, borrowed_are_drop_ins, borrowed_text, Contains, entry_place, host_view_of, HostViewMap, IfOk-weaker, IsCat, IsDropInAtOf, IsFileAt, List, map, Name, option_copied, subst, sym, ◌∙◌}
+use Rattle.script_answers.proofs.Prelude.{ap, AreNames, borrowed_are_drop_ins, borrowed_text, Contains, entry_place, host_view_of, HostViewMap, IfOk-weaker, IsCat, IsDropInAtOf, IsFileAt, List, map, Name, subst, sym, ◌∙◌}
 use Rattle.script_answers.proofs.Borrowed.{drop_ins_borrowed, text_borrowed}
 use Rattle.script_answers.proofs.files.files_of_unit.Goals as goal
 
@@ -18,10 +18,10 @@ returns c =
     let ps = c.in_ok-dropins.dropins.items in
     let borrowed = borrowed_are_drop_ins s folders ps c.in_ok-dropins.ensures.exact in
     record {
-      files = IfOk-weaker c.files_text.result (λ text. text.items ≡ borrowed_text s c.args.fragment.now c.deref-2.result.now) (λ text. IsCat (host_view_of c.args.store.now (option_copied c.args.host)) c.args.unit.now c.args.fragment.now text.items)
+      files = IfOk-weaker c.files_text.result (λ text. text.items ≡ borrowed_text s c.args.fragment.now c.deref-2.result.now) (λ text. IsCat (host_view_of c.args.store.now c.args.viewer.now) c.args.unit.now c.args.fragment.now text.items)
           (λ text e. subst (λ (v : HostViewMap). IsCat v c.args.unit.now c.args.fragment.now text.items) view (record {
             names = c.deref.result.now;
-            names_are = subst (λ (v : HostViewMap). AreNames v c.args.unit.now c.deref.result.now) (sym view) (subst (AreNames (host_view_of c.args.store.now (option_copied c.args.host)) c.args.unit.now) (sym c.deref.ensures.value) c.in_ok-names.ensures.names);
+            names_are = subst (λ (v : HostViewMap). AreNames v c.args.unit.now c.deref.result.now) (sym view) (subst (AreNames (host_view_of c.args.store.now c.args.viewer.now) c.args.unit.now) (sym c.deref.ensures.value) c.in_ok-names.ensures.names);
             dropins = map (entry_place s) ps;
             ascending = borrowed.1 c.in_ok-dropins.ensures.ascending;
             exact = λ p. subst (λ (fs : List Name). Contains (map (entry_place s) ps) p ↔ IsDropInAtOf s fs p) c.in_ok-folders.ensures.folders (borrowed.0 p);

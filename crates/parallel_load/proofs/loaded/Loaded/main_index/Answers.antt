@@ -13,7 +13,7 @@ main_of-requires c =
 pub returns-in-Ok : goal.returns-in-Ok
 returns-in-Ok c =
     let inside : LoadMap = record {
-      host = c.self.inside.host;
+      viewer = c.self.inside.viewer;
       extra = c.self.inside.extra;
       names = c.self.inside.names.items;
       named = c.self.inside.kept.named.items;
