@@ -1,6 +1,6 @@
 -- Laws of hosts: one at whose places nothing is visible has the answer to each question that is had without a host.
 use Rattle.std.proofs.Common.{◌++◌, ◌↔◌, ◌≡◌}
-use Rattle.fleet_answers.specs.Prelude.{All-weaker, ap, AreEdges, AreEdgesFrom, AreEdgesOf, Bad, Conflict, Cycle, DependencyList, DependsOn, DepKind, EdgeMap, EntryMap, HasTemplate, Host, host_view_of, hosts_without_places_are_as_large, hosts_without_places_load_alike, HostViewMap, inl, inr, IsEdge, IsFault, IsLoad, IsPlanned, IsRefusalOf, IsRefused, List, loaded_for, LoadMap, ManualStart, Masked, Memory, Name, NotFound, of_fleet, of_host, PlanMap, Profile, refl, Refusal, Request, Requisite, ShowsNothing, subst, sym, Template, Viewer, viewer_of, Why, ℕ, ◌∙◌}
+use Rattle.fleet_answers.specs.Prelude.{All-weaker, ap, AreEdges, AreEdgesFrom, AreEdgesOf, Bad, Case, case_of, Conflict, Cycle, DependencyList, DependsOn, DepKind, EdgeMap, EntryMap, HasTemplate, Host, host_view_of, hosts_without_places_are_as_large, hosts_without_places_load_alike, HostViewMap, inl, inr, IsEdge, IsFault, IsLoad, IsPlan, IsPlanned, IsRefusal, IsRefusalOf, IsRefused, List, loaded_for, LoadMap, ManualStart, Masked, Memory, Name, name_cmp, NotFound, of_fleet, of_host, PlanMap, Profile, refl, Refusal, Request, Requisite, ShowsNothing, subst, sym, Template, Viewer, viewer_of, Why, ℕ, ◌∙◌}
 use Rattle.fleet_answers.specs.{Answers.{AreLinkedUnits, ArePulled, asked, viewer_asked, IsAnswer, IsLinkedUnit, IsPlanBy, IsPlanReturned, IsReturned, IsUnitWithEdges, IsWholeAnswer, names_asked, without_host}, declared.questions.{Answer.{Answer}, LinkedUnit.{LinkedUnit}, Question.{Question, TheVariants.{Plan as OfPlan, Pulled as OfPulled, Unit as OfUnit, Units as OfUnits}}}}
 
 -- A host at whose places nothing is visible has the answer to each question that is had without a host.
@@ -62,16 +62,25 @@ module _ (load : LoadMap) (viewer : Viewer) where
     depths_are = λ main stands. are.depths_are main (record { main_is = stands.main_is; unit = stands.unit });
   }
 
-  -- and whatever host a request is for
-  module _ (all : EdgeMap) (request : Request) (wanted : Viewer) where
+  -- and whatever host a request is for, by one profile
+  module _ (profile : load.viewer.profile ≡ viewer.profile) (all : EdgeMap) (request : Request) (wanted : Viewer) where
     abbrev moved_request : Request
     moved_request = record request { viewer = wanted }
 
+    one_case : case_of load all request ≡ case_of moved all moved_request
+    one_case = (λ i. record (case_of load all request) { profile = profile i })
+
     planned : (plan : PlanMap) → IsPlanned load all request plan → IsPlanned moved all moved_request plan
-    planned plan is = record { no_template = is.no_template; planned = is.planned }
+    planned plan is = record {
+      no_template = is.no_template;
+      planned = subst (λ (c : Case Name). IsPlan name_cmp c plan.stop plan.start) one_case is.planned;
+    }
 
     refused : (why : Why Name) → IsRefused load all request why → IsRefused moved all moved_request why
-    refused why is = record { no_template = is.no_template; refused = is.refused }
+    refused why is = record {
+      no_template = is.no_template;
+      refused = subst (λ (c : Case Name). IsRefusal name_cmp c why) one_case is.refused;
+    }
 
     faulted : (u : Name) → IsFault load all request u → IsFault moved all moved_request u
     faulted u (inl f) = inl (refused _ f)
@@ -92,25 +101,25 @@ module _ (load : LoadMap) (viewer : Viewer) where
     plan_by a (inl p) = inl (p.0, planned p.0 p.1, p.2)
     plan_by a (inr p) = inr (p.0, refusal p.0 p.1, p.2, p.3)
 
-  plan_returned : (request : Request) (wanted : Viewer) (a : Answer)
+  plan_returned : load.viewer.profile ≡ viewer.profile → (request : Request) (wanted : Viewer) (a : Answer)
       → IsPlanReturned load request a → IsPlanReturned moved (record request { viewer = wanted }) a
-  plan_returned request wanted a returned = record {
+  plan_returned profile request wanted a returned = record {
     edges = returned.edges;
     edges_are = edges returned.edges returned.edges_are;
-    plan_is = plan_by returned.edges request wanted a returned.plan_is;
+    plan_is = plan_by profile returned.edges request wanted a returned.plan_is;
   }
 
-  returned_without : (question : Question) (a : Answer) → IsReturned load question a → IsReturned moved (without_host question) a
-  returned_without (OfUnit wanted name) a returned = (returned.0, linked_unit name returned.0 returned.1, returned.2)
-  returned_without (OfPulled wanted name) a returned = (returned.0, pulled name returned.0 returned.1, returned.2)
-  returned_without (OfPlan request) a returned = plan_returned request (of_fleet request.viewer.profile) a returned
-  returned_without (OfUnits wanted) a returned = (returned.0, all_linked returned.0 returned.1, returned.2)
+  returned_without : load.viewer.profile ≡ viewer.profile → (question : Question) (a : Answer) → IsReturned load question a → IsReturned moved (without_host question) a
+  returned_without profile (OfUnit wanted name) a returned = (returned.0, linked_unit name returned.0 returned.1, returned.2)
+  returned_without profile (OfPulled wanted name) a returned = (returned.0, pulled name returned.0 returned.1, returned.2)
+  returned_without profile (OfPlan request) a returned = plan_returned profile request (of_fleet request.viewer.profile) a returned
+  returned_without profile (OfUnits wanted) a returned = (returned.0, all_linked returned.0 returned.1, returned.2)
 
-  returned_with : (question : Question) (a : Answer) → IsReturned load (without_host question) a → IsReturned moved question a
-  returned_with (OfUnit wanted name) a returned = (returned.0, linked_unit name returned.0 returned.1, returned.2)
-  returned_with (OfPulled wanted name) a returned = (returned.0, pulled name returned.0 returned.1, returned.2)
-  returned_with (OfPlan request) a returned = plan_returned (record request { viewer = of_fleet request.viewer.profile }) request.viewer a returned
-  returned_with (OfUnits wanted) a returned = (returned.0, all_linked returned.0 returned.1, returned.2)
+  returned_with : load.viewer.profile ≡ viewer.profile → (question : Question) (a : Answer) → IsReturned load (without_host question) a → IsReturned moved question a
+  returned_with profile (OfUnit wanted name) a returned = (returned.0, linked_unit name returned.0 returned.1, returned.2)
+  returned_with profile (OfPulled wanted name) a returned = (returned.0, pulled name returned.0 returned.1, returned.2)
+  returned_with profile (OfPlan request) a returned = plan_returned profile (record request { viewer = of_fleet request.viewer.profile }) request.viewer a returned
+  returned_with profile (OfUnits wanted) a returned = (returned.0, all_linked returned.0 returned.1, returned.2)
 
 -- what is loaded of a view is loaded for who looks
 for_looker : (v : HostViewMap) (names : List Name) (load : LoadMap) → IsLoad v names load → IsLoad v names (loaded_for (viewer_of v) load)
@@ -122,6 +131,10 @@ for_looker v names load is = record {
   named = is.named;
   words = is.words;
 }
+
+-- and by its profile
+of_looker : (v : HostViewMap) (names : List Name) (load : LoadMap) → IsLoad v names load → load.viewer.profile ≡ v.profile
+of_looker v names load is = ap (λ (viewer : Viewer). viewer.profile) is.viewer_is
 
 -- ---- a host without places
 
@@ -169,7 +182,8 @@ module _ (s : EntryMap) (host : List ℕ) (profile : Profile) (none : ShowsNothi
       within = λ large. returned.snapshot.within ((hosts_without_places_are_as_large s host profile none names).1 large);
       is_load = (hosts_without_places_load_alike s host profile none names returned.load).0 (for_looker hosts names returned.load returned.snapshot.is_load);
     };
-    returned_is = returned_without returned.load (of_fleet profile) question a returned.returned_is;
+    returned_is =
+        returned_without returned.load (of_fleet profile) (of_looker hosts names returned.load returned.snapshot.is_load) question a returned.returned_is;
   })
 
   whole_with : (names : List Name) → IsWholeAnswer fleets names bare a → IsWholeAnswer hosts names question a
@@ -180,7 +194,8 @@ module _ (s : EntryMap) (host : List ℕ) (profile : Profile) (none : ShowsNothi
       within = λ large. returned.snapshot.within ((hosts_without_places_are_as_large s host profile none names).0 large);
       is_load = (hosts_without_places_load_alike s host profile none names returned.load).1 (for_looker fleets names returned.load returned.snapshot.is_load);
     };
-    returned_is = returned_with returned.load (of_host host profile) question a returned.returned_is;
+    returned_is =
+        returned_with returned.load (of_host host profile) (of_looker fleets names returned.load returned.snapshot.is_load) question a returned.returned_is;
   })
 
   -- the same where the question's host is this one

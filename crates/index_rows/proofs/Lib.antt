@@ -5,3 +5,4 @@ pub mod Spreading
 pub mod Works
 pub mod Levels
 pub mod Insides
+pub mod Walks

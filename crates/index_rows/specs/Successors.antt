@@ -1,6 +1,6 @@
 -- Edges of one or more kinds between nodes: each kind has an adjacency list for each node.
 -- Source: this project's own.
-use Rattle.std.proofs.Common.{◌==◌, ◌||◌, ◌∷◌, ◌≡◌}
+use Rattle.std.proofs.Common.{◌==◌, ◌||◌, ◌∷◌, ◌≡◌, ◌⊎◌}
 use Rattle.index_rows.specs.{Adjacency.{AreAdjacencyOf, IsMember, neighbors}, Prelude.{[], All, Bool, false, filter, flat_map, IsAmong, List, slice_index_or, ℕ}}
 
 -- the nodes to which an edge of some kind leads from this one
@@ -15,6 +15,12 @@ AreSuccessorsOf n kinds = All (AreAdjacencyOf n) kinds
 pub record LeadsInside (inside : List Bool) (kinds : List (List (List ℕ))) (u v : ℕ) : Type 0 where
   pub step : IsAmong v (successors_from kinds u)
   pub member : IsMember inside v
+
+-- The first node is a member of `going`. A firm edge leads from it to the second, or a weak one, and the second is a
+-- member of `inside`.
+pub record LeadsOn (firm weak : List (List (List ℕ))) (inside going : List Bool) (u v : ℕ) : Type 0 where
+  pub goes_on : IsMember going u
+  pub edge : IsAmong v (successors_from firm u) ⊎ LeadsInside inside weak u v
 
 -- whether a node is a member of a list
 abbrev pub stands_in : ℕ → List ℕ → Bool

@@ -20,6 +20,6 @@ mod successors;
 
 pub use adjacency::{AdjacencyLists, put_in_order};
 pub use bits::{empty_bits, first_member, least_member, lesser, members_of, non_members, without};
-pub use closures::{closure, reached, reached_inside};
+pub use closures::{closure, reached, reached_inside, reached_on};
 pub use shortest::distances;
 pub use successors::Successors;

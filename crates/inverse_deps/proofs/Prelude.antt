@@ -1,6 +1,6 @@
 -- What the proofs use of std, of the crates below and of the definitions.
 pub use Rattle.index_rows.specs.{AdjacencyLaws.{All-neighbors, neighbors-below}, IndexingLaws.{among_mapped, ascending_named, mapped_from, members_named}, ListLaws.{IsAmong-push, IsAmong-push_cases}}
-pub use Rattle.inverse_deps.specs.{AdjacencyLaws.{adjacency_named, same_at}, AskedLaws.{asking_makes_no_edges}, EdgeAdjacency.{adjacency_at, AreAdjacencyBy, AreAdjacencyByKinds, edge_map, edges_from, list_from, lists_from}, EdgeLaws.{edges_come_from_names, edges_join_units, inverses_are_one, one_list_by_kind, one_list_of_edges}, Edges.{AreEdges, AreEdgesFrom, AreEdgesOf, DependsOn, EdgeMap, IsEdge, IsUnitIn, list_at, names_in, place}, IndexLaws.{find_place, key_at_place, keys_length, load_indexing, place_of_found, sorted_by_keys, unit_index}, Indices.{count_of, IsIndexOf, name_at}, Links.{AreLinks, AreLinksOf, AreTransposedIn, IsTransposed, links_in}, MakingLaws.{adjacency_of_successors, AreMade, made_more, made_none}, NamingLaws.{names_along, names_either, names_none, transposed_named}, Prelude.{After, AreAdjacencyOf, AreDependencyAdjacency, AreNamedSuccessors, AreNames, Before, BindsTo, BoundBy, ConflictedBy, Conflicts, ConsistsOf, Dependency, DependencyList, DepKind, HaveSameAdjacency, inverse, inverses_are_undone, IsAmong, IsAmong-append_left, IsAmong-append_right, kinds, Listed, LoadedUnit, LoadMap, Name, name_cmp, name_cmp-IsAntisymmetric, Named, NameLoad, neighbors, OfAlias, OfUnit, OnFailure, OnFailureOf, PartOf, PropagatesReloadTo, ReloadPropagatedFrom, RequiredBy, Requires, Requisite, RequisiteOf, unit_in, unit_part, WantedBy, Wants}, TableLaws.{all_edges, all_kept, asking_changes_no_table, get_mapped, no_edges, stands_at, table_list}, Tables.{AreEdgeAdjacency, AreIndicesBy, AreKept, HasKind, IsEdgeTable, IsKindList}}
+pub use Rattle.inverse_deps.specs.{AdjacencyLaws.{adjacency_named, same_at}, AskedLaws.{asking_makes_no_edges}, EdgeAdjacency.{adjacency_at, AreAdjacencyBy, AreAdjacencyByKinds, edge_map, edges_from, list_from, lists_from}, EdgeLaws.{edges_come_from_names, edges_join_units, inverses_are_one, one_list_by_kind, one_list_of_edges}, Edges.{AreEdges, AreEdgesFrom, AreEdgesOf, DependsOn, EdgeMap, IsEdge, IsUnitIn, list_at, names_in, place}, IndexLaws.{find_place, key_at_place, keys_length, load_indexing, place_of_found, sorted_by_keys, unit_index}, Indices.{count_of, IsIndexOf, name_at}, Links.{AreLinks, AreLinksOf, AreTransposedIn, IsTransposed, links_in}, MakingLaws.{adjacency_of_successors, AreMade, made_more, made_none}, NamingLaws.{names_along, names_either, names_none, transposed_named}, Prelude.{After, AreAdjacencyOf, AreDependencyAdjacency, AreNamedSuccessors, AreNames, Before, BindsTo, BoundBy, ConflictedBy, Conflicts, ConsistsOf, Dependency, DependencyList, DepKind, HaveSameAdjacency, inverse, inverses_are_undone, InSlice, IsAmong, IsAmong-append_left, IsAmong-append_right, kinds, Listed, LoadedUnit, LoadMap, Name, name_cmp, name_cmp-IsAntisymmetric, Named, NameLoad, neighbors, OfAlias, OfUnit, OnFailure, OnFailureOf, PartOf, PropagatesReloadTo, ReloadPropagatedFrom, RequiredBy, Requires, Requisite, RequisiteOf, SliceOf, TriggeredBy, Triggers, unit_in, unit_part, UpheldBy, Upholds, WantedBy, Wants}, TableLaws.{all_edges, all_kept, asking_changes_no_table, get_mapped, no_edges, stands_at, table_list}, Tables.{AreEdgeAdjacency, AreIndicesBy, AreKept, HasKind, IsEdgeTable, IsKindList}}
 pub use Rattle.parallel_load.specs.{KeyLaws.{key_found}, Prelude.{among_from_contains, contains_from_among, in_byte_order, IsAt, name_eq-Decides, names_stay}}
 pub use Rattle.setting_rules.specs.OrderLaws.{names_ascend}
 pub use Rattle.sorted_pairs.specs.{PlaceLaws.{at_within, find_at, find_gap}, Places.{IsGap}}

@@ -1,7 +1,7 @@
 -- Tables, made kind by kind.
 use Rattle.std.proofs.Common.{◌<◌, ◌≡◌}
 use denote.Enum.Declared.{tag_of}
-use Rattle.inverse_deps.proofs.Prelude.{[], adjacency_at, ap, AreMade, arith, DepKind, get_or, kinds, length, List, place, refl, same_at, stands_at, subst, ℕ, ◌∙◌, After, Before, BindsTo, BoundBy, ConflictedBy, Conflicts, ConsistsOf, OnFailure, OnFailureOf, PartOf, PropagatesReloadTo, ReloadPropagatedFrom, RequiredBy, Requires, Requisite, RequisiteOf, WantedBy, Wants}
+use Rattle.inverse_deps.proofs.Prelude.{[], adjacency_at, After, ap, AreMade, arith, Before, BindsTo, BoundBy, ConflictedBy, Conflicts, ConsistsOf, DepKind, get_or, InSlice, kinds, length, List, OnFailure, OnFailureOf, PartOf, place, PropagatesReloadTo, refl, ReloadPropagatedFrom, RequiredBy, Requires, Requisite, RequisiteOf, same_at, SliceOf, stands_at, subst, TriggeredBy, Triggers, UpheldBy, Upholds, WantedBy, Wants, ℕ, ◌∙◌}
 use Rattle.setting_rules.specs.contracts.kinds.DepKind as kinds_of
 
 -- a kind as a number is its position
@@ -24,6 +24,12 @@ tag_is OnFailure = refl
 tag_is OnFailureOf = refl
 tag_is PropagatesReloadTo = refl
 tag_is ReloadPropagatedFrom = refl
+tag_is Upholds = refl
+tag_is UpheldBy = refl
+tag_is Triggers = refl
+tag_is TriggeredBy = refl
+tag_is InSlice = refl
+tag_is SliceOf = refl
 
 -- what was made for each kind in order is there by kind
 pub by_kinds : (P : DepKind → List (List ℕ) → Type 0) (tables : List (List (List ℕ))) → ((k : ℕ) (d : List (List ℕ)) → k < length kinds → P (get_or kinds k Before) (get_or tables k d))

@@ -1,7 +1,7 @@
 -- The dependencies between the units of a load, in both directions.
 -- Source: systemd.unit(5), "Mapping of unit properties to their inverses".
 use Rattle.std.proofs.Common.{◌↔◌, ◌≡◌, ◌⊎◌}
-use Rattle.inverse_deps.specs.Prelude.{[], After, All, Before, BindsTo, BoundBy, ConflictedBy, Conflicts, ConsistsOf, DependencyList, DepKind, find, inverse, is_sorted, IsAmong, IsListed, IsStrictlySortedBy, IsTrue, keys_of, kinds, List, LoadedUnit, LoadMap, map, Name, name_cmp, None, OnFailure, OnFailureOf, Option, PartOf, PropagatesReloadTo, ReloadPropagatedFrom, RequiredBy, Requires, Requisite, RequisiteOf, slice_index_or, Some, unit_in, WantedBy, Wants, ℕ}
+use Rattle.inverse_deps.specs.Prelude.{[], After, All, Before, BindsTo, BoundBy, ConflictedBy, Conflicts, ConsistsOf, DependencyList, DepKind, find, InSlice, inverse, is_sorted, IsAmong, IsListed, IsStrictlySortedBy, IsTrue, keys_of, kinds, List, LoadedUnit, LoadMap, map, Name, name_cmp, None, OnFailure, OnFailureOf, Option, PartOf, PropagatesReloadTo, ReloadPropagatedFrom, RequiredBy, Requires, Requisite, RequisiteOf, slice_index_or, SliceOf, Some, TriggeredBy, Triggers, unit_in, UpheldBy, Upholds, WantedBy, Wants, ℕ}
 
 -- ---- edges
 
@@ -43,6 +43,12 @@ place OnFailure = 14
 place OnFailureOf = 15
 place PropagatesReloadTo = 16
 place ReloadPropagatedFrom = 17
+place Upholds = 18
+place UpheldBy = 19
+place Triggers = 20
+place TriggeredBy = 21
+place InSlice = 22
+place SliceOf = 23
 
 -- for each name a list of names for each kind, in the order of the kinds
 abbrev pub EdgeMap : Type 0

@@ -1,6 +1,6 @@
 -- Tables of edges: the edges by name that they make, and loads that have the same table.
 use Rattle.std.{proofs.Common.{◌+◌, ◌<◌, ◌↔◌, ◌∷◌, ◌≡◌}, specs.FinMap.Entries.{is_sorted}}
-use Rattle.inverse_deps.specs.Prelude.{[], After, among_mapped, ap, AreAdjacencyOf, AreNames, arith, ascending_named, asked_for, Before, BindsTo, BoundBy, ConflictedBy, Conflicts, ConsistsOf, DepKind, find, find_place, get_or, HaveSameAdjacency, IsAmong, IsStrictlySortedBy, IsTrue, keys_length, keys_of, kinds, length, List, Listed, LoadMap, map, mapped_from, members_named, Name, name_cmp, name_cmp-IsAntisymmetric, nat_cmp, nat_list_cmp_total, neighbors, neighbors-below, None, none-some, OnFailure, OnFailureOf, Option, PartOf, place_of_found, PropagatesReloadTo, refl, ReloadPropagatedFrom, RequiredBy, Requires, Requisite, RequisiteOf, Some, sorted_by_keys, subst, suc, sym, WantedBy, Wants, zero, ℕ, ◌∙◌}
+use Rattle.inverse_deps.specs.Prelude.{[], After, among_mapped, ap, AreAdjacencyOf, AreNames, arith, ascending_named, asked_for, Before, BindsTo, BoundBy, ConflictedBy, Conflicts, ConsistsOf, DepKind, find, find_place, get_or, HaveSameAdjacency, InSlice, IsAmong, IsStrictlySortedBy, IsTrue, keys_length, keys_of, kinds, length, List, Listed, LoadMap, map, mapped_from, members_named, Name, name_cmp, name_cmp-IsAntisymmetric, nat_cmp, nat_list_cmp_total, neighbors, neighbors-below, None, none-some, OnFailure, OnFailureOf, Option, PartOf, place_of_found, PropagatesReloadTo, refl, ReloadPropagatedFrom, RequiredBy, Requires, Requisite, RequisiteOf, SliceOf, Some, sorted_by_keys, subst, suc, sym, TriggeredBy, Triggers, UpheldBy, Upholds, WantedBy, Wants, zero, ℕ, ◌∙◌}
 use Rattle.inverse_deps.specs.{AdjacencyLaws.{edges_alike}, AskedLaws.{same_edges}, EdgeAdjacency.{adjacency_at, AreAdjacencyBy, AreAdjacencyByKinds, edge_map, edges_from, list_from, listed_name, lists_from}, EdgeLaws.{edges_join_units}, Edges.{AreEdges, AreEdgesFrom, EdgeMap, IsEdge, IsUnitIn, list_at, names_in, place}, IndexLaws.{counts_alike, load_indexing, named_alike, unit_index}, Indices.{count_of, name_at}, Tables.{AreEdgeAdjacency, AreKept, AreListsFrom, IsEdgeTable}}
 
 -- loads with the same dependencies by index have the same table
@@ -37,6 +37,12 @@ stands_at OnFailure = record { there = refl; below = omega arith }
 stands_at OnFailureOf = record { there = refl; below = omega arith }
 stands_at PropagatesReloadTo = record { there = refl; below = omega arith }
 stands_at ReloadPropagatedFrom = record { there = refl; below = omega arith }
+stands_at Upholds = record { there = refl; below = omega arith }
+stands_at UpheldBy = record { there = refl; below = omega arith }
+stands_at Triggers = record { there = refl; below = omega arith }
+stands_at TriggeredBy = record { there = refl; below = omega arith }
+stands_at InSlice = record { there = refl; below = omega arith }
+stands_at SliceOf = record { there = refl; below = omega arith }
 
 -- the element at a position of a mapped list
 pub get_mapped : {X Y : Type 0} (f : X → Y) (xs : List X) (k : ℕ) (x : X) (y : Y) → k < length xs → get_or (map f xs) k y ≡ f (get_or xs k x)

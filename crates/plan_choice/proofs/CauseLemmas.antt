@@ -1,6 +1,6 @@
 -- The causes of refusals, over bit sets and adjacency lists.
 use Rattle.std.proofs.Common.{◌<◌, ◌↔◌, ◌≡◌}
-use Rattle.plan_choice.proofs.Prelude.{AreBitsOf, AreInConflict, AreNeededConflicts, ArePairsOf, arith, Bool, case_of, count_of, false, get_or, IndexedCase, IsAmong, IsClearBelow, IsFirstPair, IsIdle, IsLeast, IsMember, IsNeeded, IsTrue, IsUnloadedNeed, LacksRequisite, least_along, length, List, member_read, nat_cmp, non_members_read, successors-below, successors_from, true, ℕ}
+use Rattle.plan_choice.proofs.Prelude.{AreBitsOf, AreInConflict, AreNeededConflicts, ArePairsOf, arith, Bool, case_of, count_of, false, get_or, IndexedCase, IsAmong, IsClearBelow, IsAbsent, IsFirstPair, IsLeast, IsMember, IsNeeded, IsTrue, IsUnloadedNeed, Lacks, LacksRequisite, least_along, length, List, member_read, nat_cmp, non_members_read, successors-below, successors_from, true, ℕ}
 use Rattle.plan_choice.proofs.Fitting.{is_false, stable, untrue}
 
 pub pair_along : (R S : ℕ → ℕ → Type 0) → ((u v : ℕ) → R u v ↔ S u v) → (a b : ℕ) → IsFirstPair nat_cmp R a b → IsFirstPair nat_cmp S a b
@@ -24,7 +24,7 @@ module _ (p : IndexedCase) (needed : List Bool) (n : AreBitsOf (count_of p) (IsN
           target_loaded = λ l. member_read p.loaded.items p.target loaded load_read p.valid_target is;
           needs_loaded = λ l. all_loaded none;
           may_start = λ l. is_false _ (non_members_read p.refuses_manual_start.items p.target refuses switch_read inside may);
-          requisites_run = λ l. absurd (omega arith);
+          requisites_there = λ l. absurd (omega arith);
           at_peace = λ l. absurd (omega arith);
           none_waits = λ l. absurd (omega arith);
         }
@@ -34,15 +34,15 @@ module _ (p : IndexedCase) (needed : List Bool) (n : AreBitsOf (count_of p) (IsN
         (λ v m. (let k = (left v).0 m in ((n.sets v).0 k.0, is_false ((case_of p).is_loaded v) k.1)))
         (λ v h. (left v).1 ((n.sets v).1 h.0, untrue ((case_of p).is_loaded v) h.1)) u l
 
-  module _ (idle : List Bool) (i : AreBitsOf (count_of p) (IsIdle (count_of p) (case_of p)) idle) where
-    pub lacking : (u v : ℕ) → (IsMember needed u × IsAmong v (successors_from p.requisites u) × IsMember idle v) ↔ LacksRequisite nat_cmp (case_of p) u v
+  module _ (absent : List Bool) (o : AreBitsOf (count_of p) (IsAbsent (count_of p) (case_of p)) absent) where
+    pub lacking : (u v : ℕ) → (IsMember needed u × IsAmong v (successors_from p.requisites u) × IsMember absent v) ↔ LacksRequisite nat_cmp (case_of p) u v
     lacking u v = (
-      λ h. ((n.sets u).0 h.0, h.1, is_false ((case_of p).is_running v) ((i.sets v).0 h.2).1),
-      λ h. ((n.sets u).1 h.0, h.1, (i.sets v).1 (successors-below (count_of p) p.requisites u v p.valid_requisites h.1, untrue ((case_of p).is_running v) h.2)),
+      λ h. (let a = (o.sets v).0 h.2 in ((n.sets u).0 h.0, record { asked = h.1; rests = a.rests; unpulled = a.unpulled })),
+      λ h. ((n.sets u).1 h.0, h.1.asked, (o.sets v).1 (record { within = successors-below (count_of p) p.requisites u v p.valid_requisites h.1.asked; rests = h.1.rests; unpulled = h.1.unpulled })),
     )
 
-    pub all_run : ((u v : ℕ) → ¬ (IsMember needed u × IsAmong v (successors_from p.requisites u) × IsMember idle v)) → (u v : ℕ) → IsNeeded (case_of p) u → IsAmong v ((case_of p).requisites u) → IsTrue ((case_of p).is_running v)
-    all_run none u v h a = stable ((case_of p).is_running v) (λ out. none u v ((lacking u v).1 (h, a, is_false ((case_of p).is_running v) out)))
+    pub none_lacks : ((u v : ℕ) → ¬ (IsMember needed u × IsAmong v (successors_from p.requisites u) × IsMember absent v)) → (u v : ℕ) → IsNeeded (case_of p) u → ¬ Lacks (case_of p) u v
+    none_lacks none u v h l = none u v ((lacking u v).1 (h, l))
 
   module _ (conflicting : List (List (List ℕ))) (r : ArePairsOf (count_of p) (AreInConflict (case_of p)) conflicting) where
     pub rivalry : (u v : ℕ) → (IsMember needed u × IsAmong v (successors_from conflicting u) × IsMember needed v) ↔ AreNeededConflicts nat_cmp (case_of p) u v
@@ -58,19 +58,19 @@ module _ (p : IndexedCase) where
     target_loaded = λ l. t;
     needs_loaded = λ l. absurd (omega arith);
     may_start = λ l. absurd (omega arith);
-    requisites_run = λ l. absurd (omega arith);
+    requisites_there = λ l. absurd (omega arith);
     at_peace = λ l. absurd (omega arith);
     none_waits = λ l. absurd (omega arith);
   }
 
   pub clear_5 : IsClearBelow nat_cmp (case_of p) 4
-      → ((u v : ℕ) → IsNeeded (case_of p) u → IsAmong v ((case_of p).requisites u) → IsTrue ((case_of p).is_running v))
+      → ((u v : ℕ) → IsNeeded (case_of p) u → ¬ Lacks (case_of p) u v)
       → IsClearBelow nat_cmp (case_of p) 5
-  clear_5 k run = record {
+  clear_5 k there = record {
     target_loaded = λ l. k.target_loaded (omega arith);
     needs_loaded = λ l. k.needs_loaded (omega arith);
     may_start = λ l. k.may_start (omega arith);
-    requisites_run = λ l. run;
+    requisites_there = λ l. there;
     at_peace = λ l. absurd (omega arith);
     none_waits = λ l. absurd (omega arith);
   }
@@ -82,7 +82,7 @@ module _ (p : IndexedCase) where
     target_loaded = λ l. k.target_loaded (omega arith);
     needs_loaded = λ l. k.needs_loaded (omega arith);
     may_start = λ l. k.may_start (omega arith);
-    requisites_run = λ l. k.requisites_run (omega arith);
+    requisites_there = λ l. k.requisites_there (omega arith);
     at_peace = λ l. peace;
     none_waits = λ l. absurd (omega arith);
   }

@@ -1,7 +1,7 @@
 -- What is pulled, what loses a conflict, and what is chosen, over bit sets and adjacency lists.
 use Rattle.std.proofs.Common.{◌++◌, ◌<◌, ◌↔◌, ◌∷◌, ◌≡◌, ◌⊎◌}
-use Rattle.plan_choice.proofs.Prelude.{[], AreBitsOf, arith, below_cmp, Bool, case_of, cases_eq, cmp_below, count_of, Err, false, get_or, get_or-set_other, get_or-set_same, Global, IfOk, IndexedCase, inl, inr, IsAmong, IsAmong-append_left, IsAmong-append_right, IsAmong-push_cases, IsChosen, IsClearBelow, IsDropped, IsExtra, IsGood, IsListOf, IsLoser, IsMember, IsNeeded, IsPulled, IsReached, Keeps, LeadsInside, length, length-set, List, Listed, member_or_not, more_kinds, Named, nat_cmp, needs_all, needs_itself, neighbors, Ok, opposite_is, Pulls, reached_closed, reached_least, refl, Result, set, SetsBits, subst, successors_from, sym, true, Vec, ℕ, ◌∙◌}
-use Rattle.plan_choice.proofs.{Fitting.{bits_along}, WeakDependencyLemmas.{needs_source, source_needed}}
+use Rattle.plan_choice.proofs.Prelude.{[], AreBitsOf, below_cmp, Bool, case_of, cases_eq, cmp_below, count_of, Err, false, get_or, get_or-set_other, get_or-set_same, Global, IfOk, IndexedCase, inl, inr, IsAbsent, IsAmong, IsAmong-append_left, IsAmong-append_right, IsAmong-push_cases, IsChosen, IsDropped, IsExtra, IsGoing, IsGood, IsListOf, IsLoser, IsMember, IsPulled, IsReached, Keeps, LeadsOn, length, length-set, List, Listed, LosesTo, Manager, member_or_not, MissesRequisite, more_kinds, nat_cmp, NeedsSome, neighbors, Ok, opposite_is, Pulls, refl, Result, set, SetsBits, subst, successors-below, successors-start, successors_from, sym, true, Vec, ℕ, ◌∙◌}
+use Rattle.plan_choice.proofs.{Fitting.{bits_along, is_false, untrue}, WalkLemmas.{from_target, is_or_not, no_edge, to_going}}
 
 -- ---- bits that are set
 
@@ -25,15 +25,8 @@ SetsBits-more old bits nodes more x value lt e h = subst (λ l. SetsBits old (se
 pub bits_of_neighbors : (none bits : List Bool) (nodes : List ℕ) → ((v : ℕ) → ¬ IsMember none v) → SetsBits none bits nodes true → (v : ℕ) → IsMember bits v ↔ IsAmong v nodes
 bits_of_neighbors none bits nodes clean s v = (to, s.there v)
   where
-    is_or_not : (xs : List ℕ) → IsAmong v xs ⊎ ¬ IsAmong v xs
-    is_or_not [] = inr (λ h. h)
-    is_or_not (x ∷ xs) = elim (cases_eq x v) [
-      | inl e ↦ inl (inl e)
-      | inr ne ↦ elim (is_or_not xs) [ inl a ↦ inl (inr a) | inr out ↦ inr (λ h. elim h [ inl e ↦ ne e | inr a ↦ out a ]) ]
-    ]
-
     to : IsMember bits v → IsAmong v nodes
-    to m = elim (is_or_not nodes) [ inl a ↦ a | inr out ↦ absurd (clean v (sym (s.others v out) ∙ m)) ]
+    to m = elim (is_or_not v nodes) [ inl a ↦ a | inr out ↦ absurd (clean v (sym (s.others v out) ∙ m)) ]
 
 pub clean_again : (none bits after : List Bool) (nodes : List ℕ) → ((v : ℕ) → ¬ IsMember none v) → SetsBits none bits nodes true → SetsBits bits after nodes false → (v : ℕ) → ¬ IsMember after v
 clean_again none bits after nodes clean s t v m = by (member_or_not bits v)
@@ -48,54 +41,63 @@ clean_again none bits after nodes clean s t v m = by (member_or_not bits v)
 module _ (p : IndexedCase) where
   -- ---- pulled
 
-  module _ (clear : IsClearBelow nat_cmp (case_of p) 6) where
-    -- what the target needs is good
-    needed_good : (u : ℕ) → IsNeeded (case_of p) u → IsGood (case_of p) u
-    needed_good u n = record {
-      all_loaded = λ v m. clear.needs_loaded (omega arith) v (needs_all (case_of p) p.target u v n m);
-      requisites_run = λ v w m a. clear.requisites_run (omega arith) v w (needs_all (case_of p) p.target u v n m) a;
-      at_peace = λ v w m k c. clear.at_peace (omega arith) v w (needs_all (case_of p) p.target u v n m) k c;
-    }
+  -- what is pulled is reached over needs, and over wants within what is good
+  pub pulled_is : (good going : List Bool) → AreBitsOf (count_of p) (IsGood (case_of p)) good → AreBitsOf (count_of p) (IsGoing (count_of p) (case_of p) (p.target ∷ [])) going
+      → (bits : List Bool) → AreBitsOf (count_of p) (IsReached (Listed (p.target ∷ [])) (LeadsOn p.needs p.wants good going)) bits → AreBitsOf (count_of p) (IsPulled (case_of p)) bits
+  pulled_is good going g o bits r =
+      bits_along (count_of p) (Listed (p.target ∷ [])) (Listed (p.target ∷ [])) (LeadsOn p.needs p.wants good going) (Pulls (case_of p)) bits r (λ u. (λ h. h, λ h. h))
+      (λ u v. (
+        λ l. (from_target p u ((o.sets u).0 l.goes_on), elim l.edge [ inl a ↦ inl a | inr k ↦ inr (k.step, (g.sets v).0 k.member) ]),
+        λ h. elim h.1 [
+          | inl a ↦ record { goes_on = (o.sets u).1 (to_going p u (successors-start (count_of p) p.needs u v p.valid_needs a) h.0); edge = inl a }
+          | inr a ↦ record { goes_on = (o.sets u).1 (to_going p u (successors-start (count_of p) p.wants u v p.valid_wants a.0) h.0); edge = inr (record { step = a.0; member = (g.sets v).1 a.1 }) }
+        ],
+      ))
 
-    -- what a good unit needs is good
-    good_needs : (u v : ℕ) → IsAmong v ((case_of p).needs u) → IsGood (case_of p) u → IsGood (case_of p) v
-    good_needs u v a g =
-        let one = (reached_closed (Listed (u ∷ [])) (Named (case_of p).needs)).stepped u v (needs_itself (case_of p) u) a in
-        record {
-          all_loaded = λ w m. g.all_loaded w (needs_all (case_of p) u v w one m);
-          requisites_run = λ w x m k. g.requisites_run w x (needs_all (case_of p) u v w one m) k;
-          at_peace = λ w x m k c. g.at_peace w x (needs_all (case_of p) u v w one m) k c;
-        }
+  -- ---- lacked requisites
 
-    module _ (good : List Bool) (g : AreBitsOf (count_of p) (IsGood (case_of p)) good) where
-      abbrev Inside : ℕ → ℕ → Type 0
-      Inside = LeadsInside good (p.needs ++ p.wants)
-
-      -- all that is pulled is good, and reached within what is good
-      pulled_inside : (u : ℕ) → IsPulled (case_of p) u → IsGood (case_of p) u × IsReached (Listed (p.target ∷ [])) Inside u
-      pulled_inside u r = reached_least (Listed (p.target ∷ [])) (Pulls (case_of p)) (λ x. IsGood (case_of p) x × IsReached (Listed (p.target ∷ [])) Inside x) (record {
-        started = λ x h. (needed_good x (record { steps = 0; chain = h }), record { steps = 0; chain = h });
-        stepped = λ x y h l. (let ok : IsGood (case_of p) y = elim l [ inl a ↦ good_needs x y a h.0 | inr b ↦ b.1 ] in
-            let step : IsAmong y (successors_from (p.needs ++ p.wants) x) = (more_kinds p.needs p.wants x y).1 (elim l [ inl a ↦ inl a | inr b ↦ inr b.0 ]) in
-            (ok, (reached_closed (Listed (p.target ∷ [])) Inside).stepped x y h.1 (record { step = step; member = (g.sets y).1 ok })));
-      }) u r
-
-      inside_pulled : (u : ℕ) → IsReached (Listed (p.target ∷ [])) Inside u → IsPulled (case_of p) u
-      inside_pulled u r = reached_least (Listed (p.target ∷ [])) Inside (IsPulled (case_of p)) (record {
-        started = λ x h. record { steps = 0; chain = h };
-        stepped = λ x y h l. (reached_closed (Listed (p.target ∷ [])) (Pulls (case_of p))).stepped x y h
-            (elim ((more_kinds p.needs p.wants x y).0 l.step) [ inl a ↦ inl a | inr b ↦ inr (b, (g.sets y).0 l.member) ]);
-      }) u r
-
-      pub pulled_is : (bits : List Bool) → AreBitsOf (count_of p) (IsReached (Listed (p.target ∷ [])) Inside) bits → AreBitsOf (count_of p) (IsPulled (case_of p)) bits
-      pulled_is bits r = record { units = r.units; sets = λ u. (λ m. inside_pulled u ((r.sets u).0 m), λ h. (r.sets u).1 (pulled_inside u h).1) }
+  -- an extra unit that doesn't run misses a requisite exactly where one is absent
+  pub missing_is : (extra resting absent : List Bool) (list : List ℕ) → p.profile ≡ Manager → AreBitsOf (count_of p) (IsExtra (case_of p)) extra
+      → ((u : ℕ) → IsMember resting u ↔ (IsMember extra u × ¬ IsMember p.running.items u)) → AreBitsOf (count_of p) (IsAbsent (count_of p) (case_of p)) absent
+      → IsListOf (count_of p) (λ u. IsMember resting u × ((v : ℕ) × (IsAmong v (successors_from p.requisites u) × IsMember absent v))) list → IsListOf (count_of p) (MissesRequisite nat_cmp (case_of p)) list
+  missing_is extra resting absent list e x r o l = record {
+    below = l.below;
+    members = λ u. (
+      λ h. (let k = (l.members u).0 h in
+          let a = (o.sets k.1.0).0 k.1.1.1 in
+          record {
+            manager = e;
+            extra = (x.sets u).0 ((r u).0 k.0).0;
+            rests = is_false ((case_of p).is_running u) ((r u).0 k.0).1;
+            requisite = k.1.0;
+            lacks = record { asked = k.1.1.0; rests = a.rests; unpulled = a.unpulled };
+          }),
+      λ m. (l.members u).1 (
+        (r u).1 ((x.sets u).1 m.extra, untrue ((case_of p).is_running u) m.rests),
+        (
+          m.requisite,
+          (
+            m.lacks.asked,
+            (o.sets m.requisite).1 (record {
+              within = successors-below (count_of p) p.requisites u m.requisite p.valid_requisites m.lacks.asked;
+              rests = m.lacks.rests;
+              unpulled = m.lacks.unpulled;
+            }),
+          ),
+        ),
+      ),
+    );
+  }
 
   -- ---- units that lose a conflict
+
+  abbrev pub LosesConflict : ℕ → Type 0
+  LosesConflict u = (v : ℕ) × LosesTo nat_cmp (case_of p) u v
 
   -- a unit loses exactly where it is extra, and another extra unit names it and either isn't named by it or is less
   pub loser_is : (extra named : List Bool) (u : ℕ) → AreBitsOf (count_of p) (IsExtra (case_of p)) extra
       → ((v : ℕ) → IsMember named v ↔ IsAmong v (neighbors p.conflicts.now u))
-      → IsMember extra u → (v : ℕ) × (IsAmong v (neighbors p.conflicted_by.now u) × IsMember extra v × (IsMember named v → v < u)) → IsLoser (case_of p) u
+      → IsMember extra u → (v : ℕ) × (IsAmong v (neighbors p.conflicted_by.now u) × IsMember extra v × (IsMember named v → v < u)) → LosesConflict u
   loser_is extra named u e m x l = (
     l.0,
     record {
@@ -108,7 +110,7 @@ module _ (p : IndexedCase) where
 
   pub loser_was : (extra named : List Bool) (u : ℕ) → AreBitsOf (count_of p) (IsExtra (case_of p)) extra
       → ((v : ℕ) → IsMember named v ↔ IsAmong v (neighbors p.conflicts.now u))
-      → IsLoser (case_of p) u → IsMember extra u × ((v : ℕ) × (IsAmong v (neighbors p.conflicted_by.now u) × IsMember extra v × (IsMember named v → v < u)))
+      → LosesConflict u → IsMember extra u × ((v : ℕ) × (IsAmong v (neighbors p.conflicted_by.now u) × IsMember extra v × (IsMember named v → v < u)))
   loser_was extra named u e m l =
       ((e.sets u).1 l.1.extra, (l.0, ((opposite_is (neighbors p.conflicts.now) (neighbors p.conflicted_by.now) p.conflicts_transposed u l.0).1 l.1.is_named, (e.sets l.0).1 l.1.other_extra, λ k. cmp_below l.0 u (l.1.greater ((m l.0).0 k)))))
 
@@ -119,16 +121,15 @@ module _ (p : IndexedCase) where
   Remains u = IsPulled (case_of p) u × ¬ IsDropped nat_cmp (case_of p) u
 
   module _ (pulled fallen : List Bool) (losers : List ℕ)
-      (is_pulled : AreBitsOf (count_of p) (IsPulled (case_of p)) pulled) (lost : IsListOf (count_of p) (IsLoser (case_of p)) losers)
-      (fell : (v : ℕ) → IsMember fallen v ↔ IsReached (Listed losers) (Named (successors_from p.needed_by)) v) where
+      (is_pulled : AreBitsOf (count_of p) (IsPulled (case_of p)) pulled) (lost : IsListOf (count_of p) (IsLoser nat_cmp (case_of p)) losers)
+      (fell : (v : ℕ) → IsMember fallen v ↔ NeedsSome (case_of p) losers v) where
     dropped_fell : (v : ℕ) → IsDropped nat_cmp (case_of p) v → IsMember fallen v
-    dropped_fell v d = (fell v).1 (source_needed p losers v d.loser ((lost.members d.loser).1 (d.winner, d.lost)) d.needed)
+    dropped_fell v d = (fell v).1 (d.loser, ((lost.members d.loser).1 d.lost, d.needed))
 
     fell_dropped : (v : ℕ) → IsMember pulled v → IsMember fallen v → IsDropped nat_cmp (case_of p) v
     fell_dropped v m f =
-        let s = needs_source p losers v ((fell v).0 f) in
-        let l = (lost.members s.0).0 s.1.0 in
-        record { pulled = (is_pulled.sets v).0 m; loser = s.0; winner = l.0; lost = l.1; needed = s.1.1 }
+        let s = (fell v).0 f in
+        record { pulled = (is_pulled.sets v).0 m; loser = s.0; lost = (lost.members s.0).0 s.1.0; needed = s.1.1 }
 
     pub remaining_is : (bits : List Bool) → AreBitsOf (count_of p) (λ v. IsMember pulled v × ¬ IsMember fallen v) bits → AreBitsOf (count_of p) Remains bits
     remaining_is bits r = record {
@@ -139,13 +140,19 @@ module _ (p : IndexedCase) where
       );
     }
 
-  pub chosen_is : (rest : List Bool) → AreBitsOf (count_of p) Remains rest
-      → (bits : List Bool) → AreBitsOf (count_of p) (IsReached (Listed (p.target ∷ [])) (LeadsInside rest (p.needs ++ p.wants))) bits → AreBitsOf (count_of p) (IsChosen nat_cmp (case_of p)) bits
-  chosen_is rest remaining bits r =
-      bits_along (count_of p) (Listed (p.target ∷ [])) (Listed (p.target ∷ [])) (LeadsInside rest (p.needs ++ p.wants)) (Keeps nat_cmp (case_of p)) bits r (λ u. (λ h. h, λ h. h))
+  pub chosen_is : (none : List (List (List ℕ))) (rest going : List Bool) → none ≡ [] → AreBitsOf (count_of p) Remains rest → AreBitsOf (count_of p) (IsGoing (count_of p) (case_of p) (p.target ∷ [])) going
+      → (bits : List Bool) → AreBitsOf (count_of p) (IsReached (Listed (p.target ∷ [])) (LeadsOn none (p.needs ++ p.wants) rest going)) bits → AreBitsOf (count_of p) (IsChosen nat_cmp (case_of p)) bits
+  chosen_is none rest going empty remaining o bits r =
+      bits_along (count_of p) (Listed (p.target ∷ [])) (Listed (p.target ∷ [])) (LeadsOn none (p.needs ++ p.wants) rest going) (Keeps nat_cmp (case_of p)) bits r (λ u. (λ h. h, λ h. h))
       (λ u v. (
-        λ h. (let l = (remaining.sets v).0 h.member in record { asked = (more_kinds p.needs p.wants u v).0 h.step; pulled = l.0; stays = l.1 }),
-        λ h. record { step = (more_kinds p.needs p.wants u v).1 h.asked; member = (remaining.sets v).1 (h.pulled, h.stays) },
+        λ l. elim l.edge [
+          | inl a ↦ absurd (no_edge p none empty u v a)
+          | inr k ↦ (let m = (remaining.sets v).0 k.member in record { goes_on = from_target p u ((o.sets u).0 l.goes_on); asked = (more_kinds p.needs p.wants u v).0 k.step; pulled = m.0; stays = m.1 })
+        ],
+        λ h. record {
+          goes_on = (o.sets u).1 (to_going p u (elim h.asked [ inl a ↦ successors-start (count_of p) p.needs u v p.valid_needs a | inr a ↦ successors-start (count_of p) p.wants u v p.valid_wants a ]) h.goes_on);
+          edge = inr (record { step = (more_kinds p.needs p.wants u v).1 h.asked; member = (remaining.sets v).1 (h.pulled, h.stays) });
+        },
       ))
 
 -- a bit set that a call returns, as the set of something else

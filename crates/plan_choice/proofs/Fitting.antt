@@ -1,6 +1,6 @@
 -- Bit sets, adjacency lists and options, as the code reads them.
-use Rattle.std.proofs.Common.{◌<◌, ◌∷◌, ◌≡◌}
-use Rattle.plan_choice.proofs.Prelude.{[], All, All-neighbors, among_from_contains, AreAdjacencyOf, AreBitsOf, AreSameNodes, AreSameSuccessors, AreSuccessorsOf, arith, Bool, Contains-get_or, false, get_or, is_some, IsAmong, IsReached, IsTrue, List, MatchOption, neighbors, None, not, Option, refl, same_reached, Some, subst, suc, sym, true, zero, ℕ}
+use Rattle.std.proofs.Common.{◌<◌, ◌≡◌}
+use Rattle.plan_choice.proofs.Prelude.{All, All-neighbors, among_from_contains, AreAdjacencyOf, AreBitsOf, AreSameNodes, AreSameSuccessors, Bool, Contains-get_or, Err, false, get_or, IfOk, is_some, IsAmong, IsReached, IsTrue, List, MatchOption, neighbors, None, not, Ok, Option, refl, Result, same_reached, Some, subst, sym, true, ℕ}
 
 -- the nodes of an adjacency list are below the length of a bit set of n units
 pub neighbors_fits : (m n : ℕ) (adjacency : List (List ℕ)) (u : ℕ) (r : List ℕ) → r ≡ neighbors adjacency u → AreAdjacencyOf n adjacency → m ≡ n → All (λ v. v < m) r
@@ -8,14 +8,6 @@ neighbors_fits m n adjacency u r e well_formed f =
     let P : List ℕ → Type 0 = λ l. All (λ v. v < m) l in
     let Q : ℕ → Type 0 = λ k. All (λ v. v < k) (neighbors adjacency u) in
     subst P (sym e) (subst Q (sym f) (All-neighbors n adjacency u well_formed.within))
-
--- edges between n units fit a bit set of n units
-pub successors_fit : (m n : ℕ) (successors : List (List (List ℕ))) → AreSuccessorsOf n successors → m ≡ n → AreSuccessorsOf m successors
-successors_fit m n successors a e = let P : ℕ → Type 0 = λ k. AreSuccessorsOf k successors in subst P (sym e) a
-
-pub one_place : (n u : ℕ) → u < n → All (λ v. v < n) (u ∷ [])
-one_place n u l zero d lt = l
-one_place n u l (suc k) d lt = absurd (omega arith)
 
 -- what holds of each member of a list holds at each position
 pub all_places : (P : ℕ → Type 0) (xs : List ℕ) → ((x : ℕ) → IsAmong x xs → P x) → All P xs
@@ -54,6 +46,11 @@ nothing_there false b e f = cc
 pub nothing_there_is : (a b : Bool) → not a ≡ b → b ≡ false → a ≡ true
 nothing_there_is true b e f = refl
 nothing_there_is false b e f = cc
+
+-- what a call returns, in other words
+pub ok_along : {A E : Type 0} (P Q : A → Type 0) → ((x : A) → P x → Q x) → (r : Result A E) → IfOk r P → IfOk r Q
+ok_along P Q so (Err e) h = tt
+ok_along P Q so (Ok x) h = so x h
 
 -- the set of what is reached over some sources and edges is that over the same ones in other words
 pub bits_along : (count : ℕ) (S T : ℕ → Type 0) (E F : ℕ → ℕ → Type 0) (bits : List Bool) → AreBitsOf count (IsReached S E) bits → AreSameNodes S T → AreSameSuccessors E F → AreBitsOf count (IsReached T F) bits

@@ -1,19 +1,29 @@
 -- A good unit needs nothing with which something is wrong.
-use Rattle.std.proofs.Common.{◌++◌, ◌+◌, ◌<◌, ◌↔◌, ◌∷◌, ◌≡◌}
-use Rattle.plan_choice.proofs.Prelude.{[], AreBitsOf, arith, Bool, case_of, cases_eq, count_of, IndexedCase, inl, inr, IsAmong, IsAmong-append_left, IsAmong-append_right, IsAmong-push_cases, IsGood, IsIdle, IsListOf, IsMember, IsMember-within, IsReached, IsSound, IsTrue, List, Listed, Named, Needs, needs_all, needs_itself, opposite_is, reached_closed, reached_least, subst, successors-below, successors_from, sym, ℕ}
-use Rattle.plan_choice.proofs.Fitting.{stable}
+use Rattle.std.proofs.Common.{◌++◌, ◌+◌, ◌<◌, ◌↔◌, ◌∷◌, ◌≡◌, ◌⊎◌}
+use Rattle.plan_choice.proofs.Prelude.{[], AreBitsOf, arith, Bool, case_of, cases_eq, count_of, Files, HasIdleRequisite, IndexedCase, inl, inr, IsAmong, IsAmong-append_cases, IsAmong-append_left, IsAmong-append_right, IsAmong-push_cases, IsGood, IsIdle, IsListOf, IsMember, IsMember-within, IsSound, IsTrue, List, Listed, Needs, needs_itself, NeedsNext, NeedsSome, reached_least, subst, successors-below, sym, ℕ}
+use Rattle.plan_choice.proofs.Fitting.{is_false, stable, untrue}
 
 module _ (p : IndexedCase) where
-  -- the requisites of a unit are running where none of them is idle
-  pub run_unless_idle : (idle : List Bool) → AreBitsOf (count_of p) (IsIdle (count_of p) (case_of p)) idle → (u : ℕ) → ((v : ℕ) → IsAmong v ((case_of p).requisites u) → ¬ IsMember idle v)
-      → (v : ℕ) → IsAmong v ((case_of p).requisites u) → IsTrue ((case_of p).is_running v)
-  run_unless_idle idle i u none v a =
-      stable ((case_of p).is_running v) (λ rests. none v a ((i.sets v).1 (successors-below (count_of p) p.requisites u v p.valid_requisites a, rests)))
+  -- a requisite of the unit is found among the idle units
+  pub idle_found : (idle : List Bool) → AreBitsOf (count_of p) (IsIdle (count_of p) (case_of p)) idle → p.profile ≡ Files → (u v : ℕ) → IsAmong v ((case_of p).requisites u) → IsMember idle v → HasIdleRequisite (case_of p) u
+  idle_found idle i e u v a m = record { files = e; requisite = v; asked = a; rests = is_false ((case_of p).is_running v) ((i.sets v).0 m).1 }
+
+  -- or none is
+  pub idle_missed : (idle : List Bool) → AreBitsOf (count_of p) (IsIdle (count_of p) (case_of p)) idle → (u : ℕ) → ((v : ℕ) → IsAmong v ((case_of p).requisites u) → ¬ IsMember idle v) → ¬ HasIdleRequisite (case_of p) u
+  idle_missed idle i u none h =
+      none h.requisite h.asked ((i.sets h.requisite).1 (successors-below (count_of p) p.requisites u h.requisite p.valid_requisites h.asked, untrue ((case_of p).is_running h.requisite) h.rests))
+
+  -- where no requisite is idle by files alone, they run
+  pub run_unless_idle : (u : ℕ) → ¬ HasIdleRequisite (case_of p) u → p.profile ≡ Files → (v : ℕ) → IsAmong v ((case_of p).requisites u) → IsTrue ((case_of p).is_running v)
+  run_unless_idle u none e v a = stable ((case_of p).is_running v) (λ out. none (record { files = e; requisite = v; asked = a; rests = is_false ((case_of p).is_running v) out }))
+
+  pub none_idle : (u : ℕ) → IsSound (case_of p) u → ¬ HasIdleRequisite (case_of p) u
+  none_idle u s h = untrue ((case_of p).is_running h.requisite) h.rests (s.requisites_run h.files h.requisite h.asked)
 
   stable_sound : (u : ℕ) → ¬ (¬ IsSound (case_of p) u) → IsSound (case_of p) u
   stable_sound u h = record {
     loaded = stable ((case_of p).is_loaded u) (λ out. h (λ s. out s.loaded));
-    requisites_run = λ v a. stable ((case_of p).is_running v) (λ out. h (λ s. out (s.requisites_run v a)));
+    requisites_run = λ e v a. stable ((case_of p).is_running v) (λ out. h (λ s. out (s.requisites_run e v a)));
     at_peace = λ v n k. h (λ s. s.at_peace v n k);
   }
 
@@ -21,59 +31,36 @@ module _ (p : IndexedCase) where
   good_sound : (u : ℕ) → IsGood (case_of p) u → (v : ℕ) → Needs (case_of p) u v → IsSound (case_of p) v
   good_sound u g v n = record {
     loaded = g.all_loaded v n;
-    requisites_run = λ w a. g.requisites_run v w n a;
+    requisites_run = λ e w a. g.requisites_run e v w n a;
     at_peace = λ w m k. g.at_peace v w n m k;
   }
 
   sound_good : (u : ℕ) → ((v : ℕ) → Needs (case_of p) u v → IsSound (case_of p) v) → IsGood (case_of p) u
   sound_good u h = record {
     all_loaded = λ v n. (h v n).loaded;
-    requisites_run = λ v w n a. (h v n).requisites_run w a;
+    requisites_run = λ e v w n a. (h v n).requisites_run e w a;
     at_peace = λ v w n m k. (h v n).at_peace w m k;
   }
 
-  -- what needs a unit is reached from it along reversed edges
-  module _ (sources : List ℕ) where
-    -- reached backwards: it needs a source
-    pub needs_source : (u : ℕ) → IsReached (Listed sources) (Named (successors_from p.needed_by)) u → (s : ℕ) × (IsAmong s sources × Needs (case_of p) u s)
-    needs_source u r = reached_least (Listed sources) (Named (successors_from p.needed_by)) (λ x. (s : ℕ) × (IsAmong s sources × Needs (case_of p) x s)) (record {
-      started = λ x h. (x, (h, needs_itself (case_of p) x));
-      stepped = λ x y h l. (h.0, (h.1.0, needs_all (case_of p) y x h.0 ((reached_closed (Listed (y ∷ [])) (Named (case_of p).needs)).stepped y x (needs_itself (case_of p) y) ((opposite_is (successors_from p.needs) (successors_from p.needed_by) p.needs_transposed x y).0 l)) h.1.1));
-    }) u r
-
-    -- each unit that needs x is reached backwards if x is
-    back_along : (u x : ℕ) → IsReached (Listed sources) (Named (successors_from p.needed_by)) x → Needs (case_of p) u x → IsReached (Listed sources) (Named (successors_from p.needed_by)) u
-    back_along u x r n = by n
-      where
-        -- if anything that u needs is reached, so is u
-        by : Needs (case_of p) u x → IsReached (Listed sources) (Named (successors_from p.needed_by)) u
-        by m = reached_least (Listed (u ∷ [])) (Named (case_of p).needs) (λ y. IsReached (Listed sources) (Named (successors_from p.needed_by)) y → IsReached (Listed sources) (Named (successors_from p.needed_by)) u) (record {
-          started = λ y h q. elim h [ inl e ↦ subst (IsReached (Listed sources) (Named (successors_from p.needed_by))) (sym e) q | inr none ↦ absurd none ];
-          stepped = λ y z h l q. h ((reached_closed (Listed sources) (Named (successors_from p.needed_by))).stepped z y q ((opposite_is (successors_from p.needs) (successors_from p.needed_by) p.needs_transposed z y).1 l));
-        }) x m r
-
-    pub source_needed : (u s : ℕ) → IsAmong s sources → Needs (case_of p) u s → IsReached (Listed sources) (Named (successors_from p.needed_by)) u
-    source_needed u s h n = back_along u s (record { steps = 0; chain = h }) n
-
   -- a unit with an index needs only units with an index
   pub needs_within : (u v : ℕ) → u < count_of p → Needs (case_of p) u v → v < count_of p
-  needs_within u v l n = reached_least (Listed (u ∷ [])) (Named (case_of p).needs) (λ x. x < count_of p) (record {
+  needs_within u v l n = reached_least (Listed (u ∷ [])) (NeedsNext (case_of p) u) (λ x. x < count_of p) (record {
     started = λ x h. elim h [ inl e ↦ subst (λ y. y < count_of p) e l | inr none ↦ absurd none ];
-    stepped = λ x y h a. successors-below (count_of p) p.needs x y p.valid_needs a;
+    stepped = λ x y h l. successors-below (count_of p) p.needs x y p.valid_needs l.1;
   }) v n
 
   -- the set of all units except those that need a faulty one is the set of the good ones
   module _ (faulty : List ℕ) (bad good : List Bool)
       (faults : IsListOf (count_of p) (λ u. (u < count_of p) × ¬ IsSound (case_of p) u) faulty)
-      (spoilt : (v : ℕ) → IsMember bad v ↔ IsReached (Listed faulty) (Named (successors_from p.needed_by)) v)
+      (spoilt : (v : ℕ) → IsMember bad v ↔ NeedsSome (case_of p) faulty v)
       (others : (v : ℕ) → IsMember good v ↔ ((v < count_of p) × ¬ IsMember bad v)) where
     pub good_is : (u : ℕ) → IsMember good u ↔ IsGood (case_of p) u
     good_is u = (
       λ m. (let o = (others u).0 m in
-          sound_good u (λ v n. stable_sound v (λ out. o.1 ((spoilt u).1 (source_needed faulty u v ((faults.members v).1 (needs_within u v o.0 n, out)) n))))),
+          sound_good u (λ v n. stable_sound v (λ out. o.1 ((spoilt u).1 (v, ((faults.members v).1 (needs_within u v o.0 n, out), n)))))),
       λ g. (others u).1 (
         IsMember-within p.loaded.items u (g.all_loaded u (needs_itself (case_of p) u)),
-        (λ b. (let s = needs_source faulty u ((spoilt u).0 b) in ((faults.members s.0).0 s.1.0).1 (good_sound u g s.0 s.1.1))),
+        (λ b. (let s = (spoilt u).0 b in ((faults.members s.0).0 s.1.0).1 (good_sound u g s.0 s.1.1))),
       ),
     )
 
@@ -113,3 +100,15 @@ listed_all P list i n e h =
     let Q : ℕ → Type 0 = λ k. (v : ℕ) → IsAmong v list ↔ ((v < k) × P v) in
     let m = subst Q e h in
     record { below = λ u a. ((m u).0 a).0; members = m }
+
+-- one list after another
+pub listed_either : (P Q : ℕ → Type 0) (xs ys both : List ℕ) (n : ℕ) → both ≡ xs ++ ys → IsListOf n P xs → IsListOf n Q ys → IsListOf n (λ v. P v ⊎ Q v) both
+listed_either P Q xs ys both n e a b =
+    let R : List ℕ → Type 0 = λ l. IsListOf n (λ v. P v ⊎ Q v) l in
+    subst R (sym e) (record {
+      below = λ u h. elim (IsAmong-append_cases u xs ys h) [ inl k ↦ a.below u k | inr k ↦ b.below u k ];
+      members = λ u. (
+        λ h. elim (IsAmong-append_cases u xs ys h) [ inl k ↦ inl ((a.members u).0 k) | inr k ↦ inr ((b.members u).0 k) ],
+        λ h. elim h [ inl k ↦ IsAmong-append_left u xs ys ((a.members u).1 k) | inr k ↦ IsAmong-append_right u xs ys ((b.members u).1 k) ],
+      );
+    })

@@ -1,20 +1,23 @@
 -- A request has at most one answer; and what a plan promises.
-use Rattle.std.proofs.Common.{◌++◌, ◌<◌, ◌∷◌, ◌≡◌, ◌≤◌}
-use Rattle.plan_choice.specs.Prelude.{ap, arith, Bool, cycle_stuck, false, inl, IsAmong, IsAntisymmetric, IsLeast, IsTotalOrder, IsTrue, List, one_closure, one_cycle, one_least, one_start_list, Ordering, refl, subst, sym, true, ℕ, ◌∙◌}
-use Rattle.plan_choice.specs.{Answers.{AreNeededConflicts, conflict, cycle, IsClearBelow, IsFirstPair, IsPlan, IsRefusal, IsUnloadedNeed, LacksRequisite, manual_start, need_fault, rank, Refusal, requisite, Stands, target_fault, WaitsForever}, Case.{Case}, SetLaws.{chosen_closed, chosen_loaded, chosen_peace, chosen_requisites, SparesItself}, Sets.{AreInConflict, IsChosen, IsStoppedByConflict, Precedes, Starts, TakesAlong}}
+use Rattle.std.proofs.Common.{◌++◌, ◌<◌, ◌∷◌, ◌≡◌, ◌≤◌, ◌⊎◌}
+use Rattle.plan_choice.specs.Prelude.{ap, arith, Bool, cycle_stuck, false, Files, inl, inr, IsAmong, IsAntisymmetric, IsLeast, IsTotalOrder, IsTrue, List, one_closure, one_cycle, one_least, one_start_list, Ordering, refl, subst, sym, true, ℕ, ◌∙◌}
+use Rattle.plan_choice.specs.{Answers.{AreNeededConflicts, conflict, cycle, IsClearBelow, IsFirstPair, IsPlan, IsRefusal, IsUnloadedNeed, LacksRequisite, manual_start, need_fault, rank, Refusal, requisite, Stands, target_fault, WaitsForever}, Case.{Case}, SetLaws.{chosen_closed, chosen_loaded, chosen_peace, chosen_requisites, files_or_manager, SparesItself, unlike}, Sets.{AreInConflict, GoesOn, IsChosen, IsLeftAlone, IsNeeded, IsStoppedByConflict, Lacks, Precedes, Starts, TakesAlong}}
 
--- What a plan chooses is closed under need and loaded, its requisites are running, and no two chosen units conflict.
--- Each unit that starts comes after all started units before it.
+-- What a plan chooses is closed under need, but for units that are left alone, and loaded; no requisite is lacking, but
+-- of what is only wanted and left alone; and no two chosen units conflict. Each unit that starts comes after all started
+-- units before it.
 pub record KeepsPromises {N : Type 0} (order : N → N → Ordering) (c : Case N) (starts : List N) : Type 0 where
   pub target : IsChosen order c c.target
-  pub closed : (u v : N) → IsChosen order c u → IsAmong v (c.needs u) → IsChosen order c v
+  pub closed : (u v : N) → IsChosen order c u → GoesOn c c.target u → IsAmong v (c.needs u) → IsChosen order c v ⊎ IsLeftAlone c v
   pub loaded : (u : N) → IsChosen order c u → IsTrue (c.is_loaded u)
-  pub requisites : (u v : N) → IsChosen order c u → IsAmong v (c.requisites u) → IsTrue (c.is_running v)
+  pub requisites : (u v : N) → IsChosen order c u → IsNeeded c u ⊎ ¬ IsLeftAlone c u → ¬ Lacks c u v
   pub peace : (u v : N) → IsChosen order c u → IsChosen order c v → ¬ AreInConflict c u v
   pub after : (prefix : List N) (u : N) (rest : List N) → starts ≡ prefix ++ u ∷ rest → (v : N) → Starts order c v → Precedes c v u → IsAmong v prefix
 
-unlike : (b : Bool) → b ≡ false → ¬ (b ≡ true)
-unlike b f t = cc
+-- By files alone there are no exceptions: what is chosen is closed under need, and its requisites are running.
+pub record KeepsFilePromises {N : Type 0} (order : N → N → Ordering) (c : Case N) : Type 0 where
+  pub closed : (u v : N) → IsChosen order c u → IsAmong v (c.needs u) → IsChosen order c v
+  pub requisites : (u v : N) → IsChosen order c u → IsAmong v (c.requisites u) → IsTrue (c.is_running v)
 
 module _ {N : Type 0} (order : N → N → Ordering) (c : Case N) where
   -- no cause of lesser rank holds
@@ -22,7 +25,7 @@ module _ {N : Type 0} (order : N → N → Ordering) (c : Case N) where
   clear_first k (target_fault u) clear s l = unlike _ s.1 (clear.target_loaded l)
   clear_first k (need_fault u) clear s l = unlike _ s.member.1 (clear.needs_loaded l u s.member.0)
   clear_first k manual_start clear s l = unlike _ (clear.may_start l) s
-  clear_first k (requisite u v) clear s l = let m = s.inner.member in unlike _ m.2 (clear.requisites_run l u v m.0 m.1)
+  clear_first k (requisite u v) clear s l = let m = s.inner.member in clear.requisites_there l u v m.0 m.1
   clear_first k (conflict u v) clear s l = let m = s.inner.member in clear.at_peace l u v m.0 m.1 m.2
   clear_first k (cycle list) clear s l = let u = cycle_stuck order (WaitsForever order c) (Precedes c) list s in clear.none_waits l u.0 u.1
 
@@ -84,7 +87,21 @@ module _ {N : Type 0} (order : N → N → Ordering) (c : Case N) where
       target = record { steps = 0; chain = inl refl };
       closed = chosen_closed c order;
       loaded = chosen_loaded c order (p.clear.needs_loaded (omega arith));
-      requisites = chosen_requisites c order (p.clear.requisites_run (omega arith));
+      requisites = chosen_requisites c order (p.clear.requisites_there (omega arith));
       peace = chosen_peace c order (p.clear.at_peace (omega arith)) total exact spares;
       after = λ prefix u rest e v s b. (p.started.each_least prefix u rest e).member.ready v s b;
     }
+
+-- by files alone a plan keeps the promises without exceptions
+pub files_keep : {N : Type 0} (order : N → N → Ordering) (c : Case N) (starts : List N) → c.profile ≡ Files → KeepsPromises order c starts → KeepsFilePromises order c
+files_keep {N} order c starts e k = record {
+  closed = λ u v h a. elim (k.closed u v h (inr (free u)) a) [ inl chosen ↦ chosen | inr left ↦ absurd (free v left) ];
+  requisites = λ u v h a. stable (c.is_running v) (λ rests. k.requisites u v h (inr (free u)) (record { asked = a; rests = rests; unpulled = λ m. absurd (files_or_manager (sym e ∙ m)) }));
+}
+  where
+    free : (u : N) → ¬ IsLeftAlone c u
+    free u left = files_or_manager (sym e ∙ left.0)
+
+    stable : (b : Bool) → ¬ (b ≡ false) → b ≡ true
+    stable true h = refl
+    stable false h = absurd (h refl)

@@ -1,8 +1,8 @@
 -- What planning answers: what stops and starts, or the first refusal whose cause holds.
 -- Source: this project's own.
 use Rattle.std.proofs.Common.{◌<◌, ◌≡◌}
-use Rattle.plan_choice.specs.Prelude.{false, IsAmong, IsClosure, IsCycle, IsLeast, IsStartList, IsStuck, IsTrue, List, Ordering, ℕ}
-use Rattle.plan_choice.specs.{Case.{Case}, Sets.{AreInConflict, IsNeeded, IsStoppedByConflict, Precedes, Starts, TakesAlong}}
+use Rattle.plan_choice.specs.Prelude.{false, IsClosure, IsCycle, IsLeast, IsStartList, IsStuck, IsTrue, List, Ordering, ℕ}
+use Rattle.plan_choice.specs.{Case.{Case}, Sets.{AreInConflict, IsNeeded, IsStoppedByConflict, Lacks, Precedes, Starts, TakesAlong}}
 pub use Rattle.plan_choice.specs.declared.answers.PlanRefusal.{PlanRefusal as Refusal, TheVariants.{Conflict as conflict, Cycle as cycle, ManualStart as manual_start, Need as need_fault, Requisite as requisite, Target as target_fault}}
 
 -- The order in which the causes are tested.
@@ -25,7 +25,7 @@ module _ {N : Type 0} (order : N → N → Ordering) where
     IsUnloadedNeed u = IsNeeded c u × (c.is_loaded u ≡ false)
 
     abbrev pub LacksRequisite : N → N → Type 0
-    LacksRequisite u v = IsNeeded c u × IsAmong v (c.requisites u) × (c.is_running v ≡ false)
+    LacksRequisite u v = IsNeeded c u × Lacks c u v
 
     abbrev pub AreNeededConflicts : N → N → Type 0
     AreNeededConflicts u v = IsNeeded c u × IsNeeded c v × AreInConflict c u v
@@ -48,7 +48,7 @@ module _ {N : Type 0} (order : N → N → Ordering) where
       pub target_loaded : 1 < k → IsTrue (c.is_loaded c.target)
       pub needs_loaded : 2 < k → (u : N) → IsNeeded c u → IsTrue (c.is_loaded u)
       pub may_start : 3 < k → c.refuses_manual_start c.target ≡ false
-      pub requisites_run : 4 < k → (u v : N) → IsNeeded c u → IsAmong v (c.requisites u) → IsTrue (c.is_running v)
+      pub requisites_there : 4 < k → (u v : N) → IsNeeded c u → ¬ Lacks c u v
       pub at_peace : 5 < k → (u v : N) → IsNeeded c u → IsNeeded c v → ¬ AreInConflict c u v
       pub none_waits : 6 < k → (u : N) → ¬ WaitsForever u
 

@@ -9,6 +9,7 @@ pub mod IndexedAnswers
 pub mod BitSets
 pub mod Soundness
 pub mod Losing
+pub mod Walks
 pub mod CaseSetFacts
 pub mod NamedCases
 pub mod NamedPlans

@@ -3,14 +3,16 @@
 use Rattle.std.proofs.Common.{◌<◌, ◌≡◌}
 use Rattle.plan_choice.specs.{Answers.{conflict, cycle, manual_start, need_fault, Refusal, requisite, target_fault}, Case.{Case}, Prelude.{AreNamedSuccessors, AreNames, IsTrue, map, Named, ℕ}}
 
--- Only the named units with an index are loaded or running, and the names in a list of a named unit are those of the
+-- Only the named units with an index are loaded, running or perpetual, and the names in a list of a named unit are those of the
 -- indices in its list.
 pub record IsNamedCase {N : Type 0} (count : ℕ) (name : ℕ → N) (indices : Case ℕ) (names : Case N) : Type 0 where
   pub below : indices.target < count
+  pub profile : indices.profile ≡ names.profile
   pub target : name indices.target ≡ names.target
   pub refuses : names.refuses_manual_start names.target ≡ indices.refuses_manual_start indices.target
   pub loaded : AreNames count name (λ i. IsTrue (indices.is_loaded i)) (λ u. IsTrue (names.is_loaded u))
   pub running : AreNames count name (λ i. IsTrue (indices.is_running i)) (λ u. IsTrue (names.is_running u))
+  pub perpetual : AreNames count name (λ i. IsTrue (indices.is_perpetual i)) (λ u. IsTrue (names.is_perpetual u))
   pub needs : AreNamedSuccessors count name (Named indices.needs) (Named names.needs)
   pub wants : AreNamedSuccessors count name (Named indices.wants) (Named names.wants)
   pub requisites : AreNamedSuccessors count name (Named indices.requisites) (Named names.requisites)

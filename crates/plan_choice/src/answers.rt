@@ -27,7 +27,8 @@ pub enum PlanRefusal<N: Drop> {
     Need(N),
     /// The target refuses to be started by hand.
     ManualStart,
-    /// The least needed unit with a requisite that isn't running, and the least such requisite.
+    /// The least needed unit with a requisite that doesn't run and, for a manager, isn't pulled either, and the least
+    /// such requisite.
     Requisite(N, N),
     /// The least needed unit that conflicts with a needed one, and the least of these.
     Conflict(N, N),

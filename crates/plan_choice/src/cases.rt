@@ -3,15 +3,20 @@ ghost use Rattle.std.specs.Prelude.{◌≡◌, ◌<◌, length};
 ghost use Rattle.index_rows.specs.{Adjacency.{AreAdjacencyOf, AreTransposed, neighbors as neighbors_of}, Successors.{AreOpposite, AreSuccessorsOf, successors_from}};
 
 use index_rows::{AdjacencyLists, Successors};
+use profiles::Profile;
 
 /// What is known of units given by indices from 0, and the target. Each vector has one element for each unit. The
 /// adjacency lists are borrowed; they have units in any order, possibly repeated.
 #[derive(Drop)]
 pub struct IndexedCase<'a> {
+    /// By which rules it is planned.
+    pub profile: Profile,
     pub target: usize,
     pub loaded: Vec<bool>,
     pub refuses_manual_start: Vec<bool>,
     pub running: Vec<bool>,
+    /// The units that always run, and never stop.
+    pub perpetual: Vec<bool>,
     /// What each unit requires or binds to.
     pub needs: Successors<'a>,
     /// What requires each unit or binds to it.
@@ -33,6 +38,7 @@ pub struct IndexedCase<'a> {
     pub ghost valid_target: { target < length loaded.items },
     pub ghost valid_refuses: { length refuses_manual_start.items ≡ length loaded.items },
     pub ghost valid_running: { length running.items ≡ length loaded.items },
+    pub ghost valid_perpetual: { length perpetual.items ≡ length loaded.items },
     pub ghost valid_needs: { AreSuccessorsOf (length loaded.items) needs },
     pub ghost valid_needed_by: { AreSuccessorsOf (length loaded.items) needed_by },
     pub ghost valid_wants: { AreSuccessorsOf (length loaded.items) wants },

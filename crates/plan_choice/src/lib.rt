@@ -7,6 +7,10 @@
 //! be started along with it. Of two pulled units in conflict one is dropped, with all units that need it. The rest is
 //! chosen: it starts, and running units that conflict with it stop.
 //!
+//! By files alone (`Profile::Files`) running units pull others as well. A manager (`Profile::Manager`) leaves them as they
+//! are, but for the target: they pull nothing, and no unit stops for them. Of the units that the target only wants it
+//! drops those that lack a requisite.
+//!
 //! - `cases`: the input of a plan.
 //! - `case_sets`: which weak dependencies are good, which units are pulled, dropped and chosen, why there is no plan, and
 //!   the plan: `indexed_plan`.

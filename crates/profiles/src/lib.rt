@@ -1,4 +1,5 @@
-//! By which rules units are loaded: as their files say alone, or with what systemd's system manager adds of itself.
+//! By which rules units are loaded: as their files say alone, or with what systemd's system manager adds of itself. Who
+//! reads a store chooses one.
 //!
 //! Promise: units are exact.
 //!

@@ -1,6 +1,6 @@
 -- Rows and notes, one value or one key at a time.
 use Rattle.std.proofs.Common.{◌++◌, ◌+◌, ◌<◌, ◌∷◌, ◌≡◌}
-use Rattle.setting_rules.proofs.Prelude.{[], add-one, ap, append-nil, append_assoc, BadEscape, cond, drop, escape_notes_at, expand, false, filter, filter-append, filter_map, filter_map-append, find, flat_map, flat_map-append, get_or, is_dependency, is_none, length, List, map, map-append, Name, none-some, note_on, row, rows_at, same_key, SettingKey, SettingMap, slice_get, Some, suc, sym, take, take_more, Text, texts_or_none, true, values_at, zero, ℕ, ◌∙◌}
+use Rattle.setting_rules.proofs.Prelude.{[], add-one, ap, append-nil, append_assoc, BadEscape, cond, drop, escape_notes_at, expand, false, filter, filter-append, filter_map, filter_map-append, find, flat_map, flat_map-append, get_or, is_dependency, is_none, length, List, map, map-append, Name, none-some, note_on, Profile, row, rows_at, same_key, SettingKey, SettingMap, slice_get, Some, suc, sym, take, take_more, Text, texts_or_none, true, values_at, zero, ℕ, ◌∙◌}
 
 module _ {X : Type 0} where
   -- the elements up to and including the one at an index
@@ -40,15 +40,15 @@ escape_notes_at-append unit k xs ys =
     ∙ map-append (λ _. note_on k BadEscape) (filter (λ value. is_none (expand value unit)) xs) (filter (λ value. is_none (expand value unit)) ys)
 
 -- lists that are built key by key, without the keys that set dependencies
-module _ {B : Type 0} (at_key : SettingKey → List Text → List B) where
+module _ (profile : Profile) {B : Type 0} (at_key : SettingKey → List Text → List B) where
   abbrev pub made_of : SettingMap → List B
-  made_of m = flat_map (λ e. cond (is_dependency e.0) [] (at_key e.0 e.1)) m
+  made_of m = flat_map (λ e. cond (is_dependency profile e.0) [] (at_key e.0 e.1)) m
 
-  pub keys_more : (m : SettingMap) (i : ℕ) (k : SettingKey) (values : List Text) (was new : List B) → slice_get m i ≡ Some (k, values) → was ≡ made_of (take i m) → new ≡ was ++ cond (is_dependency k) [] (at_key k values) → new ≡ made_of (take (i + 1) m)
+  pub keys_more : (m : SettingMap) (i : ℕ) (k : SettingKey) (values : List Text) (was new : List B) → slice_get m i ≡ Some (k, values) → was ≡ made_of (take i m) → new ≡ was ++ cond (is_dependency profile k) [] (at_key k values) → new ≡ made_of (take (i + 1) m)
   keys_more m i k values was new got w n =
-      n ∙ ap (λ l. l ++ cond (is_dependency k) [] (at_key k values)) w
-      ∙ ap (λ l. made_of (take i m) ++ l) (sym (append-nil (cond (is_dependency k) [] (at_key k values))))
-      ∙ sym (flat_map-append (λ e. cond (is_dependency e.0) [] (at_key e.0 e.1)) (take i m) ((k, values) ∷ []))
+      n ∙ ap (λ l. l ++ cond (is_dependency profile k) [] (at_key k values)) w
+      ∙ ap (λ l. made_of (take i m) ++ l) (sym (append-nil (cond (is_dependency profile k) [] (at_key k values))))
+      ∙ sym (flat_map-append (λ e. cond (is_dependency profile e.0) [] (at_key e.0 e.1)) (take i m) ((k, values) ∷ []))
       ∙ ap made_of (sym (take_got m i (k, values) got))
 
 -- the loop over the map is at the key

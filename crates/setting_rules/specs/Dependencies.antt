@@ -2,8 +2,8 @@
 -- Source: systemd.unit(5), "[Unit] Section Options"; that a template takes the instance or the prefix is this project's
 -- own.
 use Rattle.std.proofs.Common.{if◌then◌else◌}
-use Rattle.setting_rules.specs.Prelude.{codes, Err, expand, filter_map, flat_map, is_name, List, map, Name, name_cmp, None, Ok, Option, Result, result_ok, Some}
-use Rattle.setting_rules.specs.{declared.{dependency_lists.DependencyList.{DependencyList}, keys.SettingKey.{SettingKey}, kinds.DepKind.{DepKind}, notes.{SettingNote.{SettingNote}, SettingNoteKind.{SettingNoteKind, TheVariants.{BadEscape, BadName}}}}, Kinds.{settable, word}, Maps.{SettingMap, values_at}, Rules.{Text}, Settings.{note_on}, Words.{for_unit, words_of}}
+use Rattle.setting_rules.specs.Prelude.{[], codes, Err, expand, filter_map, flat_map, is_name, List, map, Name, name_cmp, None, Ok, Option, Profile, Result, result_ok, Some}
+use Rattle.setting_rules.specs.{declared.{dependency_lists.DependencyList.{DependencyList}, keys.SettingKey.{SettingKey}, kinds.DepKind.{DepKind}, notes.{SettingNote.{SettingNote}, SettingNoteKind.{SettingNoteKind, TheVariants.{BadEscape, BadName}}}}, Kinds.{is_settable, naming_kinds, word}, Maps.{SettingMap, values_at}, Rules.{Text}, Settings.{note_on}, Words.{for_unit, words_of}}
 use Rattle.std.specs.FinMap as finmap
 
 -- the name, or `BadName` if there is none
@@ -42,22 +42,22 @@ in_byte_order names = finmap.keys (finmap.from_entries {X = Unit {0}} {R = name_
 abbrev pub key_for : DepKind → SettingKey
 key_for kind = record { section = codes "Unit"; key = word kind }
 
--- the words in the values of a kind's key
-abbrev pub words_for : SettingMap → DepKind → List Text
-words_for entries kind = flat_map words_of (values_at entries (key_for kind))
+-- the words in the values of a kind's key; none if no key sets the kind
+abbrev pub words_for : Profile → SettingMap → DepKind → List Text
+words_for profile entries kind = if is_settable profile kind then flat_map words_of (values_at entries (key_for kind)) else []
 
 -- the names that a unit's settings give for a kind
-abbrev pub list_for : SettingMap → Name → DepKind → DependencyList
-list_for entries unit kind = record { kind = kind; names = in_byte_order (names_by unit (words_for entries kind)) }
+abbrev pub list_for : Profile → SettingMap → Name → DepKind → DependencyList
+list_for profile entries unit kind = record { kind = kind; names = in_byte_order (names_by unit (words_for profile entries kind)) }
 
--- A list for each kind that a unit file may set, in the order of the kinds.
-unfoldable pub lists_of : SettingMap → Name → List DependencyList
-lists_of entries unit = map (list_for entries unit) settable
+-- A list for each kind by which a unit may name another, in the order of the kinds.
+unfoldable pub lists_of : Profile → SettingMap → Name → List DependencyList
+lists_of profile entries unit = map (list_for profile entries unit) naming_kinds
 
 -- the notes on the words of a kind
-abbrev pub notes_for : SettingMap → Name → DepKind → List SettingNote
-notes_for entries unit kind = map (note_on (key_for kind)) (faults_by unit (words_for entries kind))
+abbrev pub notes_for : Profile → SettingMap → Name → DepKind → List SettingNote
+notes_for profile entries unit kind = map (note_on (key_for kind)) (faults_by unit (words_for profile entries kind))
 
 -- The notes on words, in the order of the kinds and then of the words.
-unfoldable pub word_notes : SettingMap → Name → List SettingNote
-word_notes entries unit = flat_map (notes_for entries unit) settable
+unfoldable pub word_notes : Profile → SettingMap → Name → List SettingNote
+word_notes profile entries unit = flat_map (notes_for profile entries unit) naming_kinds

@@ -1,7 +1,7 @@
 -- Which keys enter the map, and in what order.
 -- Source: this project's own.
 use Rattle.std.proofs.Common.{if◌then◌else◌, ◌++◌, ◌||◌, ◌∷◌, ◌≡◌}
-use Rattle.setting_rules.specs.Prelude.{[], ap, Assignment, Bool, cond, false, filter, filter-append, filter_agree, filter_twice, List, list_any, map, map-append, not, refl, sym, true, ◌∙◌}
+use Rattle.setting_rules.specs.Prelude.{[], ap, Assignment, Bool, cond, false, filter, filter-append, filter_agree, filter_twice, List, list_any, map, map-append, not, Profile, refl, sym, true, ◌∙◌}
 use Rattle.setting_rules.specs.{declared.keys.SettingKey.{SettingKey}, KeyLaws.{same_key_is}, Maps.{keys_in, same_key}, Rules.{Text}, Settings.{counts, firsts, key_of, keys_of, settings_of, values_of}}
 
 -- those of some keys that aren't among others
@@ -10,12 +10,12 @@ not_among others ks = filter (λ k. not (list_any (same_key k) others)) ks
 
 -- The keys of two concatenated lists are those of the first, then those of the second that the first doesn't have.
 abbrev pub KeysJoin : Type 0
-KeysJoin = (first second : List Assignment) →
-    keys_in (settings_of (first ++ second)) ≡ keys_in (settings_of first) ++ not_among (keys_in (settings_of first)) (keys_in (settings_of second))
+KeysJoin = (profile : Profile) (first second : List Assignment) →
+    keys_in (settings_of profile (first ++ second)) ≡ keys_in (settings_of profile first) ++ not_among (keys_in (settings_of profile first)) (keys_in (settings_of profile second))
 
 -- One assignment enters its key if it counts.
 abbrev pub OneKeyEnters : Type 0
-OneKeyEnters = (a : Assignment) → keys_in (settings_of (a ∷ [])) ≡ (if counts a then key_of a ∷ [] else [])
+OneKeyEnters = (profile : Profile) (a : Assignment) → keys_in (settings_of profile (a ∷ [])) ≡ (if counts profile a then key_of a ∷ [] else [])
 
 -- all keys but one
 abbrev pub others : SettingKey → List SettingKey → List SettingKey
@@ -56,26 +56,26 @@ firsts-append (x ∷ ks) ls =
             alone false = refl
 
 -- the keys of the map are those that are entered
-keys_entered : (items : List Assignment) → keys_in (settings_of items) ≡ keys_of items
+keys_entered : (profile : Profile) (items : List Assignment) → keys_in (settings_of profile items) ≡ keys_of profile items
 unfolding settings_of
-keys_entered items = alike (keys_of items)
+keys_entered profile items = alike (keys_of profile items)
   where
-    alike : (ks : List SettingKey) → map (λ e. e.0) (map (λ k. let p : SettingKey × List Text = (k, values_of k items) in p) ks) ≡ ks
+    alike : (ks : List SettingKey) → map (λ e. e.0) (map (λ k. let p : SettingKey × List Text = (k, values_of profile k items) in p) ks) ≡ ks
     alike [] = refl
     alike (k ∷ ks) = ap (λ l. k ∷ l) (alike ks)
 
 pub keys_join : KeysJoin
 unfolding keys_of
-keys_join first second =
-    keys_entered (first ++ second)
-    ∙ ap firsts (ap (map key_of) (filter-append counts first second) ∙ map-append key_of (filter counts first) (filter counts second))
-    ∙ firsts-append (map key_of (filter counts first)) (map key_of (filter counts second))
-    ∙ ap (λ l. l ++ not_among l (keys_of second)) (sym (keys_entered first))
-    ∙ ap (λ l. keys_in (settings_of first) ++ not_among (keys_in (settings_of first)) l) (sym (keys_entered second))
+keys_join profile first second =
+    keys_entered profile (first ++ second)
+    ∙ ap firsts (ap (map key_of) (filter-append (counts profile) first second) ∙ map-append key_of (filter (counts profile) first) (filter (counts profile) second))
+    ∙ firsts-append (map key_of (filter (counts profile) first)) (map key_of (filter (counts profile) second))
+    ∙ ap (λ l. l ++ not_among l (keys_of profile second)) (sym (keys_entered profile first))
+    ∙ ap (λ l. keys_in (settings_of profile first) ++ not_among (keys_in (settings_of profile first)) l) (sym (keys_entered profile second))
 
 pub one_key_enters : OneKeyEnters
 unfolding keys_of
-one_key_enters a = keys_entered (a ∷ []) ∙ by (counts a)
+one_key_enters profile a = keys_entered profile (a ∷ []) ∙ by (counts profile a)
   where
     by : (b : Bool) → firsts (map key_of (cond b (a ∷ []) [])) ≡ cond b (key_of a ∷ []) []
     by true = refl

@@ -1,7 +1,7 @@
 -- The settings of concatenated lists, such as the assignments of a fragment and of its drop-ins.
 use Rattle.std.proofs.Common.{◌++◌, ◌+◌, ◌-◌, ◌∷◌, ◌≡◌}
-use Rattle.setting_rules.specs.Prelude.{[], ap, append-nil, arith, Assignment, Bool, cond, drop, drop-append-add, false, length, length-append, List, list_any, refl, sym, true, ◌∙◌}
-use Rattle.setting_rules.specs.{declared.{keys.SettingKey.{SettingKey}, rules.KeyRule.{KeyRule, TheVariants.{Assertion, Condition, Dependency, Ignored, Plain, Switch}}}, ResetLaws.{following_last-append, following_last-none, given-append}, Rules.{Text}, Settings.{counted, following_last, given, last_alone, resets, rule_at, values_of}}
+use Rattle.setting_rules.specs.Prelude.{[], ap, append-nil, arith, Assignment, Bool, cond, drop, drop-append-add, false, length, length-append, List, list_any, Profile, refl, sym, true, ◌∙◌}
+use Rattle.setting_rules.specs.{declared.{keys.SettingKey.{SettingKey}, rules.KeyRule.{KeyRule, TheVariants.{Assertion, Condition, Dependency, Ignored, Kept, Plain, Switch}}}, ResetLaws.{following_last-append, following_last-none, given-append}, Rules.{Text}, Settings.{counted, following_last, given, last_alone, resets, rule_at, values_of}}
 
 -- the last value of two lists is that of the second, if it has any
 pub last_following : (xs : List Text) (y : Text) (ys : List Text) → last_alone (xs ++ y ∷ ys) ≡ last_alone (y ∷ ys)
@@ -30,21 +30,22 @@ counted-append Switch xs ys = last_alone-append xs ys
 counted-append Condition xs ys = refl
 counted-append Assertion xs ys = refl
 counted-append Plain xs ys = refl
+counted-append Kept xs ys = refl
 
 -- The values of two lists are those of the second alone if something there empties the key, and else those of both.
 abbrev pub ListsJoin : Type 0
-ListsJoin = (k : SettingKey) (first second : List Assignment) →
-    values_of k (first ++ second) ≡ cond (list_any (resets k) second) (values_of k second) (counted (rule_at k) (values_of k first ++ values_of k second))
+ListsJoin = (profile : Profile) (k : SettingKey) (first second : List Assignment) →
+    values_of profile k (first ++ second) ≡ cond (list_any (resets profile k) second) (values_of profile k second) (counted (rule_at profile k) (values_of profile k first ++ values_of profile k second))
 
 pub lists_join : ListsJoin
 unfolding values_of
-lists_join k first second =
-    ap (λ l. counted (rule_at k) (given k l)) (following_last-append (resets k) first second) ∙ by (list_any (resets k) second) refl
+lists_join profile k first second =
+    ap (λ l. counted (rule_at profile k) (given profile k l)) (following_last-append (resets profile k) first second) ∙ by (list_any (resets profile k) second) refl
   where
-    by : (b : Bool) → list_any (resets k) second ≡ b → counted (rule_at k) (given k (cond b (following_last (resets k) second) (following_last (resets k) first ++ second)))
-        ≡ cond b (counted (rule_at k) (given k (following_last (resets k) second))) (counted (rule_at k) (counted (rule_at k) (given k (following_last (resets k) first)) ++ counted (rule_at k) (given k (following_last (resets k) second))))
+    by : (b : Bool) → list_any (resets profile k) second ≡ b → counted (rule_at profile k) (given profile k (cond b (following_last (resets profile k) second) (following_last (resets profile k) first ++ second)))
+        ≡ cond b (counted (rule_at profile k) (given profile k (following_last (resets profile k) second))) (counted (rule_at profile k) (counted (rule_at profile k) (given profile k (following_last (resets profile k) first)) ++ counted (rule_at profile k) (given profile k (following_last (resets profile k) second))))
     by true e = refl
     by false e =
-        ap (counted (rule_at k)) (given-append k (following_last (resets k) first) second)
-        ∙ counted-append (rule_at k) (given k (following_last (resets k) first)) (given k second)
-        ∙ ap (λ l. counted (rule_at k) (counted (rule_at k) (given k (following_last (resets k) first)) ++ counted (rule_at k) (given k l))) (sym (following_last-none (resets k) second e))
+        ap (counted (rule_at profile k)) (given-append profile k (following_last (resets profile k) first) second)
+        ∙ counted-append (rule_at profile k) (given profile k (following_last (resets profile k) first)) (given profile k second)
+        ∙ ap (λ l. counted (rule_at profile k) (counted (rule_at profile k) (given profile k (following_last (resets profile k) first)) ++ counted (rule_at profile k) (given profile k l))) (sym (following_last-none (resets profile k) second e))

@@ -10,6 +10,7 @@ pub mod Maps
 pub mod Notes
 pub mod OrderLaws
 pub mod Places
+pub mod ProfileLaws
 pub mod ResetLaws
 pub mod Rows
 pub mod Rules

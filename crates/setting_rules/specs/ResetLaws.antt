@@ -1,7 +1,7 @@
 -- The values that remain after resets.
 use Rattle.std.proofs.Common.{find, ◌&&◌, ◌++◌, ◌||◌, ◌∷◌, ◌≡◌}
-use Rattle.setting_rules.specs.Prelude.{[], and-false, ap, Assignment, Bool, cond, drop, false, filter, filter-append, List, list_any, list_any-append, map, map-append, not, refl, Some, suc, sym, true, true≢false, zero, ℕ, ◌∙◌}
-use Rattle.setting_rules.specs.{declared.{keys.SettingKey.{SettingKey}, rules.KeyRule.{KeyRule, TheVariants.{Assertion, Condition, Dependency, Ignored, Plain, Switch}}}, KeyLaws.{same_key_is}, Maps.{same_key, SettingMap, texts_or_none, values_at}, Rules.{is_empty, rule_of, Text}, Settings.{counted, counts, counts_by, emptied_by, firsts, following_last, given, gives, key_of, keys_of, resets, rule_at, settings_of, values_of}}
+use Rattle.setting_rules.specs.Prelude.{[], and-false, ap, Assignment, Bool, cond, drop, false, filter, filter-append, List, list_any, list_any-append, map, map-append, not, Profile, refl, Some, suc, sym, true, true≢false, zero, ℕ, ◌∙◌}
+use Rattle.setting_rules.specs.{declared.{keys.SettingKey.{SettingKey}, rules.KeyRule.{KeyRule, TheVariants.{Assertion, Condition, Dependency, Ignored, Kept, Plain, Switch}}}, KeyLaws.{same_key_is}, Maps.{same_key, SettingMap, texts_or_none, values_at}, Rules.{is_empty, rule_of, Text}, Settings.{counted, counts, counts_by, emptied_by, firsts, following_last, given, gives, key_of, keys_of, resets, rule_at, settings_of, values_of}}
 
 module _ {X : Type 0} (p : X → Bool) where
   -- if no element passes, all of the list remains
@@ -75,76 +75,76 @@ module _ {X : Type 0} (p : X → Bool) where
       rest true e = absurd (true≢false e)
       rest false e = e
 
-pub given-append : (k : SettingKey) (xs ys : List Assignment) → given k (xs ++ ys) ≡ given k xs ++ given k ys
-given-append k xs ys = ap (map (λ a. a.value)) (filter-append (gives k) xs ys) ∙ map-append (λ a. a.value) (filter (gives k) xs) (filter (gives k) ys)
+pub given-append : (profile : Profile) (k : SettingKey) (xs ys : List Assignment) → given profile k (xs ++ ys) ≡ given profile k xs ++ given profile k ys
+given-append profile k xs ys = ap (map (λ a. a.value)) (filter-append (gives profile k) xs ys) ∙ map-append (λ a. a.value) (filter (gives profile k) xs) (filter (gives profile k) ys)
 
 -- A key that no assignment empties keeps all its values.
 abbrev pub KeepsAllValues : Type 0
-KeepsAllValues = (k : SettingKey) (items : List Assignment) → list_any (resets k) items ≡ false → values_of k items ≡ counted (rule_at k) (given k items)
+KeepsAllValues = (profile : Profile) (k : SettingKey) (items : List Assignment) → list_any (resets profile k) items ≡ false → values_of profile k items ≡ counted (rule_at profile k) (given profile k items)
 
 pub keeps_all_values : KeepsAllValues
 unfolding values_of
-keeps_all_values k items h = ap (λ l. counted (rule_at k) (given k l)) (following_last-none (resets k) items h)
+keeps_all_values profile k items h = ap (λ l. counted (rule_at profile k) (given profile k l)) (following_last-none (resets profile k) items h)
 
 -- Assignments before a reset of a key don't change its values.
 abbrev pub ResetsForget : Type 0
-ResetsForget = (k : SettingKey) (before after : List Assignment) (a : Assignment) → resets k a ≡ true → values_of k (before ++ a ∷ after) ≡ values_of k after
+ResetsForget = (profile : Profile) (k : SettingKey) (before after : List Assignment) (a : Assignment) → resets profile k a ≡ true → values_of profile k (before ++ a ∷ after) ≡ values_of profile k after
 
 pub resets_forget : ResetsForget
 unfolding values_of
-resets_forget k before after a h =
-    ap (λ l. counted (rule_at k) (given k l))
-    (following_last-append (resets k) before (a ∷ after)
-    ∙ ap (λ b. cond (b || list_any (resets k) after) (cond (list_any (resets k) after) (following_last (resets k) after) (cond b after (a ∷ after))) (following_last (resets k) before ++ a ∷ after)) h
-    ∙ by (list_any (resets k) after) refl)
+resets_forget profile k before after a h =
+    ap (λ l. counted (rule_at profile k) (given profile k l))
+    (following_last-append (resets profile k) before (a ∷ after)
+    ∙ ap (λ b. cond (b || list_any (resets profile k) after) (cond (list_any (resets profile k) after) (following_last (resets profile k) after) (cond b after (a ∷ after))) (following_last (resets profile k) before ++ a ∷ after)) h
+    ∙ by (list_any (resets profile k) after) refl)
   where
-    by : (b : Bool) → list_any (resets k) after ≡ b → cond b (following_last (resets k) after) after ≡ following_last (resets k) after
+    by : (b : Bool) → list_any (resets profile k) after ≡ b → cond b (following_last (resets profile k) after) after ≡ following_last (resets profile k) after
     by true e = refl
-    by false e = sym (following_last-none (resets k) after e)
+    by false e = sym (following_last-none (resets profile k) after e)
 
 -- An assignment that neither gives a key a value nor empties it doesn't change its values.
 abbrev pub OthersChangeNothing : Type 0
-OthersChangeNothing = (k : SettingKey) (before after : List Assignment) (a : Assignment) → gives k a ≡ false → resets k a ≡ false → values_of k (before ++ a ∷ after) ≡ values_of k (before ++ after)
+OthersChangeNothing = (profile : Profile) (k : SettingKey) (before after : List Assignment) (a : Assignment) → gives profile k a ≡ false → resets profile k a ≡ false → values_of profile k (before ++ a ∷ after) ≡ values_of profile k (before ++ after)
 
 pub others_change_nothing : OthersChangeNothing
 unfolding values_of
-others_change_nothing k before after a none stays =
-    ap (counted (rule_at k))
-    (ap (given k) (following_last-append (resets k) before (a ∷ after))
-    ∙ ap (λ b. given k (cond (b || list_any (resets k) after) (cond (list_any (resets k) after) (following_last (resets k) after) (cond b after (a ∷ after))) (following_last (resets k) before ++ a ∷ after))) stays
-    ∙ by (list_any (resets k) after)
-    ∙ ap (given k) (sym (following_last-append (resets k) before after)))
+others_change_nothing profile k before after a none stays =
+    ap (counted (rule_at profile k))
+    (ap (given profile k) (following_last-append (resets profile k) before (a ∷ after))
+    ∙ ap (λ b. given profile k (cond (b || list_any (resets profile k) after) (cond (list_any (resets profile k) after) (following_last (resets profile k) after) (cond b after (a ∷ after))) (following_last (resets profile k) before ++ a ∷ after))) stays
+    ∙ by (list_any (resets profile k) after)
+    ∙ ap (given profile k) (sym (following_last-append (resets profile k) before after)))
   where
-    passed : given k (a ∷ after) ≡ given k after
-    passed = ap (λ b. map (λ y. y.value) (cond b (a ∷ filter (gives k) after) (filter (gives k) after))) none
+    passed : given profile k (a ∷ after) ≡ given profile k after
+    passed = ap (λ b. map (λ y. y.value) (cond b (a ∷ filter (gives profile k) after) (filter (gives profile k) after))) none
 
-    by : (b : Bool) → given k (cond b (cond b (following_last (resets k) after) (a ∷ after)) (following_last (resets k) before ++ a ∷ after)) ≡ given k (cond b (following_last (resets k) after) (following_last (resets k) before ++ after))
+    by : (b : Bool) → given profile k (cond b (cond b (following_last (resets profile k) after) (a ∷ after)) (following_last (resets profile k) before ++ a ∷ after)) ≡ given profile k (cond b (following_last (resets profile k) after) (following_last (resets profile k) before ++ after))
     by true = refl
-    by false = given-append k (following_last (resets k) before) (a ∷ after) ∙ ap (λ l. given k (following_last (resets k) before) ++ l) passed ∙ sym (given-append k (following_last (resets k) before) after)
+    by false = given-append profile k (following_last (resets profile k) before) (a ∷ after) ∙ ap (λ l. given profile k (following_last (resets profile k) before) ++ l) passed ∙ sym (given-append profile k (following_last (resets profile k) before) after)
 
 -- An assignment to another key doesn't change a key's values, unless both keys are in one family.
 abbrev pub OtherKeysChangeNothing : Type 0
-OtherKeysChangeNothing = (k : SettingKey) (before after : List Assignment) (a : Assignment) → same_key k (key_of a) ≡ false → emptied_by (rule_of a.section a.key) (rule_at k) false ≡ false → values_of k (before ++ a ∷ after) ≡ values_of k (before ++ after)
+OtherKeysChangeNothing = (profile : Profile) (k : SettingKey) (before after : List Assignment) (a : Assignment) → same_key k (key_of a) ≡ false → emptied_by (rule_of profile a.section a.key) (rule_at profile k) false ≡ false → values_of profile k (before ++ a ∷ after) ≡ values_of profile k (before ++ after)
 
 pub other_keys_change_nothing : OtherKeysChangeNothing
-other_keys_change_nothing k before after a other apart =
-    others_change_nothing k before after a
-    (ap (λ b. b && counts a && not (is_empty a.value)) other)
-    (ap (λ b. is_empty a.value && emptied_by (rule_of a.section a.key) (rule_at k) b) other ∙ ap (λ b. is_empty a.value && b) apart ∙ and-false (is_empty a.value))
+other_keys_change_nothing profile k before after a other apart =
+    others_change_nothing profile k before after a
+    (ap (λ b. b && counts profile a && not (is_empty a.value)) other)
+    (ap (λ b. is_empty a.value && emptied_by (rule_of profile a.section a.key) (rule_at profile k) b) other ∙ ap (λ b. is_empty a.value && b) apart ∙ and-false (is_empty a.value))
 
 -- a key that isn't entered gets no value from any assignment
-none_given : (k : SettingKey) (l : List Assignment) → list_any (same_key k) (map key_of (filter counts l)) ≡ false → list_any (gives k) l ≡ false
-none_given k [] h = refl
-none_given k (y ∷ l) h = by (counts y) (same_key k (key_of y)) refl refl h (none_given k l)
+none_given : (profile : Profile) (k : SettingKey) (l : List Assignment) → list_any (same_key k) (map key_of (filter (counts profile) l)) ≡ false → list_any (gives profile k) l ≡ false
+none_given profile k [] h = refl
+none_given profile k (y ∷ l) h = by (counts profile y) (same_key k (key_of y)) refl refl h (none_given profile k l)
   where
-    by : (b s : Bool) → counts y ≡ b → same_key k (key_of y) ≡ s → list_any (same_key k) (map key_of (cond b (y ∷ filter counts l) (filter counts l))) ≡ false → (list_any (same_key k) (map key_of (filter counts l)) ≡ false → list_any (gives k) l ≡ false) → (gives k y || list_any (gives k) l) ≡ false
-    by b false e d h more = ap (λ s. (s && counts y && not (is_empty y.value)) || list_any (gives k) l) d ∙ more (rest b h)
+    by : (b s : Bool) → counts profile y ≡ b → same_key k (key_of y) ≡ s → list_any (same_key k) (map key_of (cond b (y ∷ filter (counts profile) l) (filter (counts profile) l))) ≡ false → (list_any (same_key k) (map key_of (filter (counts profile) l)) ≡ false → list_any (gives profile k) l ≡ false) → (gives profile k y || list_any (gives profile k) l) ≡ false
+    by b false e d h more = ap (λ s. (s && counts profile y && not (is_empty y.value)) || list_any (gives profile k) l) d ∙ more (rest b h)
       where
-        rest : (b : Bool) → list_any (same_key k) (map key_of (cond b (y ∷ filter counts l) (filter counts l))) ≡ false → list_any (same_key k) (map key_of (filter counts l)) ≡ false
+        rest : (b : Bool) → list_any (same_key k) (map key_of (cond b (y ∷ filter (counts profile) l) (filter (counts profile) l))) ≡ false → list_any (same_key k) (map key_of (filter (counts profile) l)) ≡ false
         rest false h = h
-        rest true h = sym (ap (λ s. s || list_any (same_key k) (map key_of (filter counts l))) d) ∙ h
-    by true true e d h more = absurd (true≢false (sym (ap (λ s. s || list_any (same_key k) (map key_of (filter counts l))) d) ∙ h))
-    by false true e d h more = ap (λ b. (same_key k (key_of y) && b && not (is_empty y.value)) || list_any (gives k) l) e ∙ ap (λ s. (s && false && not (is_empty y.value)) || list_any (gives k) l) d ∙ more h
+        rest true h = sym (ap (λ s. s || list_any (same_key k) (map key_of (filter (counts profile) l))) d) ∙ h
+    by true true e d h more = absurd (true≢false (sym (ap (λ s. s || list_any (same_key k) (map key_of (filter (counts profile) l))) d) ∙ h))
+    by false true e d h more = ap (λ b. (same_key k (key_of y) && b && not (is_empty y.value)) || list_any (gives profile k) l) e ∙ ap (λ s. (s && false && not (is_empty y.value)) || list_any (gives profile k) l) d ∙ more h
 
 any_firsts : (k : SettingKey) (ks : List SettingKey) → list_any (same_key k) ks ≡ true → list_any (same_key k) (firsts ks) ≡ true
 any_firsts k [] h = h
@@ -166,27 +166,27 @@ any_firsts k (x ∷ ks) h = by (same_key k x) refl h (any_firsts k ks)
 
 -- The settings have at each key its effective values; none if the key isn't entered.
 abbrev pub SettingsShowValues : Type 0
-SettingsShowValues = (k : SettingKey) (items : List Assignment) → values_at (settings_of items) k ≡ values_of k items
+SettingsShowValues = (profile : Profile) (k : SettingKey) (items : List Assignment) → values_at (settings_of profile items) k ≡ values_of profile k items
 
 pub settings_show_values : SettingsShowValues
 unfolding settings_of keys_of values_of
-settings_show_values k items = by (list_any (same_key k) (keys_of items)) refl
+settings_show_values profile k items = by (list_any (same_key k) (keys_of profile items)) refl
   where
-    found : (ks : List SettingKey) → list_any (same_key k) ks ≡ true → values_at (map (λ q. (q, values_of q items)) ks) k ≡ values_of k items
+    found : (ks : List SettingKey) → list_any (same_key k) ks ≡ true → values_at (map (λ q. (q, values_of profile q items)) ks) k ≡ values_of profile k items
     found [] h = absurd (true≢false (sym h))
     found (q ∷ ks) h = at (same_key k q) refl h (found ks)
       where
-        at : (b : Bool) → same_key k q ≡ b → (b || list_any (same_key k) ks) ≡ true → (list_any (same_key k) ks ≡ true → values_at (map (λ q. (q, values_of q items)) ks) k ≡ values_of k items) → texts_or_none (cond (same_key k q) (Some (q, values_of q items)) (find (λ e. same_key k e.0) (map (λ q. (q, values_of q items)) ks))) ≡ values_of k items
-        at true e h more = ap (λ b. texts_or_none (cond b (Some (q, values_of q items)) (find (λ e. same_key k e.0) (map (λ q. (q, values_of q items)) ks)))) e ∙ sym (ap (λ q. values_of q items) (same_key_is k q e))
-        at false e h more = ap (λ b. texts_or_none (cond b (Some (q, values_of q items)) (find (λ e. same_key k e.0) (map (λ q. (q, values_of q items)) ks)))) e ∙ more h
+        at : (b : Bool) → same_key k q ≡ b → (b || list_any (same_key k) ks) ≡ true → (list_any (same_key k) ks ≡ true → values_at (map (λ q. (q, values_of profile q items)) ks) k ≡ values_of profile k items) → texts_or_none (cond (same_key k q) (Some (q, values_of profile q items)) (find (λ e. same_key k e.0) (map (λ q. (q, values_of profile q items)) ks))) ≡ values_of profile k items
+        at true e h more = ap (λ b. texts_or_none (cond b (Some (q, values_of profile q items)) (find (λ e. same_key k e.0) (map (λ q. (q, values_of profile q items)) ks)))) e ∙ sym (ap (λ q. values_of profile q items) (same_key_is k q e))
+        at false e h more = ap (λ b. texts_or_none (cond b (Some (q, values_of profile q items)) (find (λ e. same_key k e.0) (map (λ q. (q, values_of profile q items)) ks)))) e ∙ more h
 
-    absent : (ks : List SettingKey) → list_any (same_key k) ks ≡ false → values_at (map (λ q. (q, values_of q items)) ks) k ≡ []
+    absent : (ks : List SettingKey) → list_any (same_key k) ks ≡ false → values_at (map (λ q. (q, values_of profile q items)) ks) k ≡ []
     absent [] h = refl
     absent (q ∷ ks) h = at (same_key k q) refl h (absent ks)
       where
-        at : (b : Bool) → same_key k q ≡ b → (b || list_any (same_key k) ks) ≡ false → (list_any (same_key k) ks ≡ false → values_at (map (λ q. (q, values_of q items)) ks) k ≡ []) → texts_or_none (cond (same_key k q) (Some (q, values_of q items)) (find (λ e. same_key k e.0) (map (λ q. (q, values_of q items)) ks))) ≡ []
+        at : (b : Bool) → same_key k q ≡ b → (b || list_any (same_key k) ks) ≡ false → (list_any (same_key k) ks ≡ false → values_at (map (λ q. (q, values_of profile q items)) ks) k ≡ []) → texts_or_none (cond (same_key k q) (Some (q, values_of profile q items)) (find (λ e. same_key k e.0) (map (λ q. (q, values_of profile q items)) ks))) ≡ []
         at true e h more = absurd (true≢false h)
-        at false e h more = ap (λ b. texts_or_none (cond b (Some (q, values_of q items)) (find (λ e. same_key k e.0) (map (λ q. (q, values_of q items)) ks)))) e ∙ more h
+        at false e h more = ap (λ b. texts_or_none (cond b (Some (q, values_of profile q items)) (find (λ e. same_key k e.0) (map (λ q. (q, values_of profile q items)) ks)))) e ∙ more h
 
     counted_none : (r : KeyRule) → counted r [] ≡ []
     counted_none Ignored = refl
@@ -195,25 +195,27 @@ settings_show_values k items = by (list_any (same_key k) (keys_of items)) refl
     counted_none Condition = refl
     counted_none Assertion = refl
     counted_none Plain = refl
+    counted_none Kept = refl
 
-    nothing : list_any (same_key k) (keys_of items) ≡ false → values_of k items ≡ []
+    nothing : list_any (same_key k) (keys_of profile items) ≡ false → values_of profile k items ≡ []
     nothing h =
-        ap (λ l. counted (rule_at k) (map (λ y. y.value) l)) (filter-following_last-none (gives k) (resets k) items (none_given k items (not_first (list_any (same_key k) (map key_of (filter counts items))) refl)))
-        ∙ counted_none (rule_at k)
+        ap (λ l. counted (rule_at profile k) (map (λ y. y.value) l)) (filter-following_last-none (gives profile k) (resets profile k) items (none_given profile k items (not_first (list_any (same_key k) (map key_of (filter (counts profile) items))) refl)))
+        ∙ counted_none (rule_at profile k)
       where
-        not_first : (b : Bool) → list_any (same_key k) (map key_of (filter counts items)) ≡ b → list_any (same_key k) (map key_of (filter counts items)) ≡ false
-        not_first true e = absurd (true≢false (sym (any_firsts k (map key_of (filter counts items)) e) ∙ h))
+        not_first : (b : Bool) → list_any (same_key k) (map key_of (filter (counts profile) items)) ≡ b → list_any (same_key k) (map key_of (filter (counts profile) items)) ≡ false
+        not_first true e = absurd (true≢false (sym (any_firsts k (map key_of (filter (counts profile) items)) e) ∙ h))
         not_first false e = e
 
-    by : (b : Bool) → list_any (same_key k) (keys_of items) ≡ b → values_at (map (λ q. (q, values_of q items)) (keys_of items)) k ≡ values_of k items
-    by true h = found (keys_of items) h
-    by false h = absent (keys_of items) h ∙ sym (nothing h)
+    by : (b : Bool) → list_any (same_key k) (keys_of profile items) ≡ b → values_at (map (λ q. (q, values_of profile q items)) (keys_of profile items)) k ≡ values_of profile k items
+    by true h = found (keys_of profile items) h
+    by false h = absent (keys_of profile items) h ∙ sym (nothing h)
 
 -- no empty value empties the keys with this rule
 abbrev pub is_never_emptied : KeyRule → Bool
 is_never_emptied Ignored = true
 is_never_emptied Dependency = true
 is_never_emptied Switch = true
+is_never_emptied Kept = true
 is_never_emptied rule = false
 
 never_emptied : (by rule : KeyRule) (itself : Bool) → is_never_emptied rule ≡ true → emptied_by by rule itself ≡ false
@@ -223,28 +225,28 @@ never_emptied Plain Plain itself h = absurd (true≢false (sym h))
 never_emptied by rule itself h = refl
 
 -- so no assignment empties such a key
-pub none_resets : (k : SettingKey) (items : List Assignment) → is_never_emptied (rule_at k) ≡ true → list_any (resets k) items ≡ false
-none_resets k [] h = refl
-none_resets k (a ∷ items) h =
-    ap (λ b. (is_empty a.value && b) || list_any (resets k) items)
-    (never_emptied (rule_of a.section a.key) (rule_at k) (same_key k (key_of a)) h)
-    ∙ ap (λ b. b || list_any (resets k) items) (and-false (is_empty a.value)) ∙ none_resets k items h
+pub none_resets : (profile : Profile) (k : SettingKey) (items : List Assignment) → is_never_emptied (rule_at profile k) ≡ true → list_any (resets profile k) items ≡ false
+none_resets profile k [] h = refl
+none_resets profile k (a ∷ items) h =
+    ap (λ b. (is_empty a.value && b) || list_any (resets profile k) items)
+    (never_emptied (rule_of profile a.section a.key) (rule_at profile k) (same_key k (key_of a)) h)
+    ∙ ap (λ b. b || list_any (resets profile k) items) (and-false (is_empty a.value)) ∙ none_resets profile k items h
 
 -- and the settings have all values that the key is given
-pub settings_keep_all : (k : SettingKey) (items : List Assignment) → is_never_emptied (rule_at k) ≡ true
-    → values_at (settings_of items) k ≡ counted (rule_at k) (given k items)
-settings_keep_all k items h = settings_show_values k items ∙ keeps_all_values k items (none_resets k items h)
+pub settings_keep_all : (profile : Profile) (k : SettingKey) (items : List Assignment) → is_never_emptied (rule_at profile k) ≡ true
+    → values_at (settings_of profile items) k ≡ counted (rule_at profile k) (given profile k items)
+settings_keep_all profile k items h = settings_show_values profile k items ∙ keeps_all_values profile k items (none_resets profile k items h)
 
 -- An assignment that doesn't count changes nothing at all; an example is an empty one of a key that sets dependencies.
 abbrev pub PassedOverChangesNothing : Type 0
-PassedOverChangesNothing = (before after : List Assignment) (a : Assignment) → counts a ≡ false → settings_of (before ++ a ∷ after) ≡ settings_of (before ++ after)
+PassedOverChangesNothing = (profile : Profile) (before after : List Assignment) (a : Assignment) → counts profile a ≡ false → settings_of profile (before ++ a ∷ after) ≡ settings_of profile (before ++ after)
 
 pub passed_over_changes_nothing : PassedOverChangesNothing
 unfolding settings_of keys_of
-passed_over_changes_nothing before after a h =
-    ap (λ l. map {B = SettingKey × List Text} (λ k. (k, values_of k (before ++ a ∷ after))) (firsts (map key_of l)))
-    (filter-append counts before (a ∷ after) ∙ ap (λ b. filter counts before ++ cond b (a ∷ filter counts after) (filter counts after)) h ∙ sym (filter-append counts before after))
-    ∙ alike (firsts (map key_of (filter counts (before ++ after))))
+passed_over_changes_nothing profile before after a h =
+    ap (λ l. map {B = SettingKey × List Text} (λ k. (k, values_of profile k (before ++ a ∷ after))) (firsts (map key_of l)))
+    (filter-append (counts profile) before (a ∷ after) ∙ ap (λ b. filter (counts profile) before ++ cond b (a ∷ filter (counts profile) after) (filter (counts profile) after)) h ∙ sym (filter-append (counts profile) before after))
+    ∙ alike (firsts (map key_of (filter (counts profile) (before ++ after))))
   where
     undefined : (r : KeyRule) → counts_by r a.value ≡ false → (q : KeyRule) (b : Bool) → emptied_by r q b ≡ false
     undefined Ignored h q b = refl
@@ -253,22 +255,23 @@ passed_over_changes_nothing before after a h =
     undefined Condition h q b = absurd (true≢false h)
     undefined Assertion h q b = absurd (true≢false h)
     undefined Plain h q b = absurd (true≢false h)
+    undefined Kept h q b = refl
 
-    stays : (k : SettingKey) → values_of k (before ++ a ∷ after) ≡ values_of k (before ++ after)
+    stays : (k : SettingKey) → values_of profile k (before ++ a ∷ after) ≡ values_of profile k (before ++ after)
     stays k =
-        others_change_nothing k before after a
+        others_change_nothing profile k before after a
         (ap (λ b. same_key k (key_of a) && b && not (is_empty a.value)) h ∙ ap (λ b. b && not (is_empty a.value)) (and-false (same_key k (key_of a))))
-        (ap (λ b. is_empty a.value && b) (undefined (rule_of a.section a.key) h (rule_at k) (same_key k (key_of a))) ∙ and-false (is_empty a.value))
+        (ap (λ b. is_empty a.value && b) (undefined (rule_of profile a.section a.key) h (rule_at profile k) (same_key k (key_of a))) ∙ and-false (is_empty a.value))
 
-    alike : (ks : List SettingKey) → map {B = SettingKey × List Text} (λ k. (k, values_of k (before ++ a ∷ after))) ks ≡ map (λ k. (k, values_of k (before ++ after))) ks
+    alike : (ks : List SettingKey) → map {B = SettingKey × List Text} (λ k. (k, values_of profile k (before ++ a ∷ after))) ks ≡ map (λ k. (k, values_of profile k (before ++ after))) ks
     alike [] = refl
     alike (k ∷ ks) =
-        let following : SettingMap = map (λ k. (k, values_of k (before ++ a ∷ after))) ks in
-        ap (λ v. (k, v) ∷ following) (stays k) ∙ ap (λ l. (k, values_of k (before ++ after)) ∷ l) (alike ks)
+        let following : SettingMap = map (λ k. (k, values_of profile k (before ++ a ∷ after))) ks in
+        ap (λ v. (k, v) ∷ following) (stays k) ∙ ap (λ l. (k, values_of profile k (before ++ after)) ∷ l) (alike ks)
 
 -- An empty value of a key that sets dependencies changes nothing.
 abbrev pub EmptyDependenciesChangeNothing : Type 0
-EmptyDependenciesChangeNothing = (before after : List Assignment) (a : Assignment) → rule_of a.section a.key ≡ Dependency → is_empty a.value ≡ true → settings_of (before ++ a ∷ after) ≡ settings_of (before ++ after)
+EmptyDependenciesChangeNothing = (profile : Profile) (before after : List Assignment) (a : Assignment) → rule_of profile a.section a.key ≡ Dependency → is_empty a.value ≡ true → settings_of profile (before ++ a ∷ after) ≡ settings_of profile (before ++ after)
 
 pub empty_dependencies_change_nothing : EmptyDependenciesChangeNothing
-empty_dependencies_change_nothing before after a r h = passed_over_changes_nothing before after a (ap (λ r. counts_by r a.value) r ∙ ap not h)
+empty_dependencies_change_nothing profile before after a r h = passed_over_changes_nothing profile before after a (ap (λ r. counts_by r a.value) r ∙ ap not h)

@@ -1,12 +1,12 @@
 -- The rows of a unit's settings: the values with the specifiers of its name expanded.
 -- Source: systemd.unit(5), "Specifiers".
 use Rattle.std.proofs.Common.{if◌then◌else◌}
-use Rattle.setting_rules.specs.Prelude.{[], Bool, expand, filter, filter_map, flat_map, is_none, List, map, Name}
+use Rattle.setting_rules.specs.Prelude.{[], Bool, expand, filter, filter_map, flat_map, is_none, List, map, Name, Profile}
 use Rattle.setting_rules.specs.{declared.{keys.SettingKey.{SettingKey}, notes.{SettingNote.{SettingNote}, SettingNoteKind.TheVariants.{BadEscape}}, rows.Row.{Row}, rules.KeyRule.TheVariants.{Dependency}}, Maps.{SettingMap}, Rules.{same_rule, Text}, Settings.{note_on, rule_at}}
 
 -- the key sets dependencies
-abbrev pub is_dependency : SettingKey → Bool
-is_dependency k = same_rule (rule_at k) Dependency
+abbrev pub is_dependency : Profile → SettingKey → Bool
+is_dependency profile k = same_rule (rule_at profile k) Dependency
 
 -- a value of a key as a row
 abbrev pub row : SettingKey → Text → Row
@@ -21,9 +21,9 @@ abbrev pub escape_notes_at : Name → SettingKey → List Text → List SettingN
 escape_notes_at unit k values = map (λ _. note_on k BadEscape) (filter (λ value. is_none (expand value unit)) values)
 
 -- The rows, key by key, without the keys that set dependencies.
-unfoldable pub rows_of : SettingMap → Name → List Row
-rows_of entries unit = flat_map (λ e. if is_dependency e.0 then [] else rows_at unit e.0 e.1) entries
+unfoldable pub rows_of : Profile → SettingMap → Name → List Row
+rows_of profile entries unit = flat_map (λ e. if is_dependency profile e.0 then [] else rows_at unit e.0 e.1) entries
 
 -- The notes on values that can't be expanded, in the same order.
-unfoldable pub escape_notes : SettingMap → Name → List SettingNote
-escape_notes entries unit = flat_map (λ e. if is_dependency e.0 then [] else escape_notes_at unit e.0 e.1) entries
+unfoldable pub escape_notes : Profile → SettingMap → Name → List SettingNote
+escape_notes profile entries unit = flat_map (λ e. if is_dependency profile e.0 then [] else escape_notes_at unit e.0 e.1) entries

@@ -4,7 +4,7 @@ ghost use Rattle.setting_rules.specs.Rules.{boolean};
 
 /// Parses a boolean, ignoring case (systemd.syntax(7), "Introduction").
 #[tactic(auto, unfolding(crate::specs::Rules::boolean))]
-pub(crate) fn boolean(text: &[u8]) -> Option<bool>
+pub fn boolean(text: &[u8]) -> Option<bool>
     ensures boolean { result ≡ boolean text.now }
 {
     if is_word_of(text, &[b"1", b"yes", b"true", b"on"]) {

@@ -4,8 +4,8 @@ ghost use Rattle.setting_rules.specs.{Dependencies.{key_for, in_byte_order, name
 
 use crate::kinds::DepKind;
 use crate::notes::{SettingNote, SettingNoteKind};
+use crate::word_lists::words;
 use crate::word_names::named_by;
-use crate::words::words;
 use plain_values::{Bytes, Items, TryClone};
 use std::alloc::{AllocError, Global};
 use unit_name::UnitName;
@@ -41,7 +41,7 @@ impl TryClone for DependencyList {
 /// The units that a unit's settings name.
 #[derive(Debug, PartialEq, Eq, Drop)]
 pub struct Dependencies {
-    /// One list for each kind that a unit file may set, in the order of the kinds. A list may be empty.
+    /// One list for each kind by which a unit may name another, in the order of the kinds. A list may be empty.
     pub lists: Items<DependencyList>,
     /// What is wrong with words, in the order of the kinds and then of the words.
     pub notes: Items<SettingNote>,

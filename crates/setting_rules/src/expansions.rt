@@ -13,15 +13,18 @@ use unit_name::{ExpandFault, UnitName, expand as expand_bytes};
 /// (systemd.unit(5), "Specifiers"). A value whose specifiers can't be expanded is left out and noted. Fails only if
 /// memory runs out.
 ///
+/// Which keys set dependencies depends on the settings' profile: `Upholds` of `[Unit]` does for a manager. For files
+/// alone it is a key like any other.
+///
 /// Linear in the bytes of the values and of their expansions. A value without a percent sign isn't copied.
 pub fn values(alloc: Global, settings: &Settings, unit: &UnitName) -> Result<Values, AllocError>
-    ensures rows { IfOk result (λ values. values.rows ≡ rows_of settings.now.map unit.now) }
-    ensures notes { IfOk result (λ values. values.notes ≡ escape_notes settings.now.map unit.now) }
+    ensures rows { IfOk result (λ values. values.rows ≡ rows_of settings.now.profile settings.now.map unit.now) }
+    ensures notes { IfOk result (λ values. values.notes ≡ escape_notes settings.now.profile settings.now.map unit.now) }
 {
     let mut values = Values::new(alloc);
     for place in 0..settings.map.len() {
         let (key, texts) = settings.map.entry(place);
-        values.add_key(alloc, key, texts, unit)?;
+        values.add_key(alloc, settings.profile, key, texts, unit)?;
     }
     Ok(values)
 }

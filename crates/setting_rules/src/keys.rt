@@ -3,6 +3,7 @@ ghost use Rattle.std.specs.Prelude.{◌≡◌, IfOk};
 
 use crate::rules::KeyRule;
 use plain_values::Bytes;
+use profiles::Profile;
 use section_reader::Assignment;
 use std::alloc::AllocError;
 
@@ -29,11 +30,12 @@ impl SettingKey {
         })
     }
 
-    /// Returns whether the key sets dependencies. Allocates nothing.
-    pub(crate) fn sets_dependencies(&self) -> bool
-        ensures test { result ≡ is_dependency self.now }
+    /// Returns whether the key sets dependencies by a profile. Allocates nothing.
+    pub(crate) fn sets_dependencies(&self, profile: Profile) -> bool
+        ensures test { result ≡ is_dependency profile self.now }
     {
-        KeyRule::of(self.section.as_slice(), self.key.as_slice()) == KeyRule::Dependency
+        let rule = KeyRule::of(profile, self.section.as_slice(), self.key.as_slice());
+        rule == KeyRule::Dependency
     }
 
     /// Returns whether this is the key with this name in this section. Allocates nothing.

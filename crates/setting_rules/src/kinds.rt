@@ -1,7 +1,9 @@
 //! The kinds of dependencies.
 ghost use Rattle.std.specs.{Prelude.{◌≡◌, IsTrue}, List.{slice_index_or}};
 ghost use Rattle.setting_rules.specs.declared.kinds.DepKind.TheVariants.{Before};
-ghost use Rattle.setting_rules.specs.{Kinds.{kinds, settable, is_settable, inverse, word, settable_kind}, Places.{place}};
+ghost use Rattle.setting_rules.specs.{Kinds.{kinds, naming_kinds, is_settable, inverse, word, settable_kind}, Places.{place, is_naming}};
+
+use profiles::Profile;
 
 /// How one unit depends on another (systemd.unit(5), "Mapping of unit properties to their inverses"). The kinds come in
 /// pairs of a kind and its inverse, which states the same relation from the other unit.
@@ -25,10 +27,16 @@ pub enum DepKind {
     OnFailureOf,
     PropagatesReloadTo,
     ReloadPropagatedFrom,
+    Upholds,
+    UpheldBy,
+    Triggers,
+    TriggeredBy,
+    InSlice,
+    SliceOf,
 }
 
 // All kinds, in order.
-const KINDS: [DepKind; 18] = [
+const KINDS: [DepKind; 24] = [
     DepKind::Before,
     DepKind::After,
     DepKind::Wants,
@@ -47,10 +55,16 @@ const KINDS: [DepKind; 18] = [
     DepKind::OnFailureOf,
     DepKind::PropagatesReloadTo,
     DepKind::ReloadPropagatedFrom,
+    DepKind::Upholds,
+    DepKind::UpheldBy,
+    DepKind::Triggers,
+    DepKind::TriggeredBy,
+    DepKind::InSlice,
+    DepKind::SliceOf,
 ];
 
-// The kinds that a unit file may set, in order.
-const SETTABLE: [DepKind; 11] = [
+// The kinds by which a unit may name another, in order.
+const NAMING: [DepKind; 15] = [
     DepKind::Before,
     DepKind::After,
     DepKind::Wants,
@@ -62,6 +76,10 @@ const SETTABLE: [DepKind; 11] = [
     DepKind::OnFailure,
     DepKind::PropagatesReloadTo,
     DepKind::ReloadPropagatedFrom,
+    DepKind::Upholds,
+    DepKind::Triggers,
+    DepKind::TriggeredBy,
+    DepKind::InSlice,
 ];
 
 impl DepKind {
@@ -72,18 +90,19 @@ impl DepKind {
         &KINDS
     }
 
-    /// Returns the kinds that a key of `[Unit]` sets, in the order of all kinds. Allocates nothing.
-    pub fn settable() -> &'static [DepKind]
-        ensures kinds { result.now ≡ settable }
+    /// Returns the kinds by which a unit may name another, in the order of all kinds: those that a key of `[Unit]` sets
+    /// by some profile, and those that a manager implies. Allocates nothing.
+    pub fn naming() -> &'static [DepKind]
+        ensures kinds { result.now ≡ naming_kinds }
     {
-        &SETTABLE
+        &NAMING
     }
 
-    /// Returns the index of the kind among those that a key of `[Unit]` sets; the number of those if no key sets it.
-    /// Allocates nothing.
+    /// Returns the index of the kind among those by which a unit may name another; the number of those for any other
+    /// kind. Allocates nothing.
     pub fn place(self) -> usize
         ensures place { result ≡ place self }
-        ensures kind { IsTrue (is_settable self) → slice_index_or settable result Before ≡ self }
+        ensures kind { IsTrue (is_naming self) → slice_index_or naming_kinds result Before ≡ self }
     {
         match self {
             DepKind::Before => 0,
@@ -97,7 +116,11 @@ impl DepKind {
             DepKind::OnFailure => 8,
             DepKind::PropagatesReloadTo => 9,
             DepKind::ReloadPropagatedFrom => 10,
-            _ => SETTABLE.len(),
+            DepKind::Upholds => 11,
+            DepKind::Triggers => 12,
+            DepKind::TriggeredBy => 13,
+            DepKind::InSlice => 14,
+            _ => NAMING.len(),
         }
     }
 
@@ -124,6 +147,12 @@ impl DepKind {
             DepKind::OnFailureOf => DepKind::OnFailure,
             DepKind::PropagatesReloadTo => DepKind::ReloadPropagatedFrom,
             DepKind::ReloadPropagatedFrom => DepKind::PropagatesReloadTo,
+            DepKind::Upholds => DepKind::UpheldBy,
+            DepKind::UpheldBy => DepKind::Upholds,
+            DepKind::Triggers => DepKind::TriggeredBy,
+            DepKind::TriggeredBy => DepKind::Triggers,
+            DepKind::InSlice => DepKind::SliceOf,
+            DepKind::SliceOf => DepKind::InSlice,
         }
     }
 
@@ -150,17 +179,46 @@ impl DepKind {
             DepKind::OnFailureOf => "OnFailureOf",
             DepKind::PropagatesReloadTo => "PropagatesReloadTo",
             DepKind::ReloadPropagatedFrom => "ReloadPropagatedFrom",
+            DepKind::Upholds => "Upholds",
+            DepKind::UpheldBy => "UpheldBy",
+            DepKind::Triggers => "Triggers",
+            DepKind::TriggeredBy => "TriggeredBy",
+            DepKind::InSlice => "InSlice",
+            DepKind::SliceOf => "SliceOf",
         }
     }
 
-    /// Returns the kind that the key of `[Unit]` with this name sets. Allocates nothing.
-    #[tactic(auto, unfolding(crate::specs::Kinds::settable_kind))]
-    pub fn of_key(key: &[u8]) -> Option<DepKind>
-        ensures kind { result ≡ settable_kind key.now }
+    /// Returns whether a key of `[Unit]` sets the kind by this profile. Allocates nothing.
+    pub(crate) fn is_settable(self, profile: Profile) -> bool
+        ensures test { result ≡ is_settable profile self }
     {
-        SETTABLE
+        match self {
+            DepKind::Before
+            | DepKind::After
+            | DepKind::Wants
+            | DepKind::Requires
+            | DepKind::Requisite
+            | DepKind::BindsTo
+            | DepKind::PartOf
+            | DepKind::Conflicts
+            | DepKind::OnFailure
+            | DepKind::PropagatesReloadTo
+            | DepKind::ReloadPropagatedFrom => true,
+            DepKind::Upholds => matches!(profile, Profile::Manager),
+            _ => false,
+        }
+    }
+
+    /// Returns the kind that the key of `[Unit]` with this name sets by this profile: by files alone, `Upholds` sets
+    /// none. Allocates nothing.
+    #[tactic(auto, unfolding(crate::specs::Kinds::settable_kind))]
+    pub fn of_key(profile: Profile, key: &[u8]) -> Option<DepKind>
+        ensures kind { result ≡ settable_kind profile key.now }
+    {
+        KINDS
             .iter()
             .copied()
+            .filter(|kind| kind.is_settable(profile))
             .find(|kind| kind.word().as_bytes() == key)
     }
 }

@@ -4,7 +4,8 @@
 //!
 //! Promise: units are exact.
 //!
-//! The rules are those of systemd.unit(5) and systemd.syntax(7).
+//! The rules are those of systemd.unit(5), systemd.service(5) and systemd.syntax(7). They depend on a `Profile`: a
+//! manager reads four keys otherwise than files alone.
 //!
 //! - `apply` evaluates assignments to `Settings`, a `SettingMap` from `SettingKey` to effective values.
 //! - `values` expands the specifiers in these values.
@@ -27,9 +28,10 @@ mod rows;
 mod rules;
 mod settings;
 mod switches;
+mod word_lists;
 mod word_names;
-mod words;
 
+pub use booleans::boolean;
 pub use dependency_lists::{Dependencies, DependencyList, in_byte_order};
 pub use expansions::values;
 pub use keys::SettingKey;
@@ -42,3 +44,4 @@ pub use notes::{SettingNote, SettingNoteKind};
 pub use rows::{Row, Values};
 pub use settings::{Settings, apply};
 pub use switches::refuses_manual_start;
+pub use word_lists::words;

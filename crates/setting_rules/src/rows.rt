@@ -6,6 +6,7 @@ use crate::expansions::expanded;
 use crate::keys::SettingKey;
 use crate::notes::{SettingNote, SettingNoteKind};
 use plain_values::{Bytes, Items, TryClone};
+use profiles::Profile;
 use std::alloc::{AllocError, Global};
 use unit_name::UnitName;
 
@@ -62,20 +63,21 @@ impl Values {
         }
     }
 
-    /// Adds the values of a key, unless it sets dependencies. Fails only if memory runs out.
+    /// Adds the values of a key, unless it sets dependencies by the profile. Fails only if memory runs out.
     pub(crate) fn add_key(
         &mut self,
         alloc: Global,
+        profile: Profile,
         key: &SettingKey,
         texts: &[Bytes],
         unit: &UnitName,
     ) -> Result<(), AllocError>
         ensures rows { OnOk result (self.new.rows
-            ≡ self.old.rows ++ (if is_dependency key.now then [] else rows_at unit.now key.now texts.now)) }
+            ≡ self.old.rows ++ (if is_dependency profile key.now then [] else rows_at unit.now key.now texts.now)) }
         ensures notes { OnOk result (self.new.notes
-            ≡ self.old.notes ++ (if is_dependency key.now then [] else escape_notes_at unit.now key.now texts.now)) }
+            ≡ self.old.notes ++ (if is_dependency profile key.now then [] else escape_notes_at unit.now key.now texts.now)) }
     {
-        if key.sets_dependencies() {
+        if key.sets_dependencies(profile) {
             return Ok(());
         }
         for text in texts {

@@ -7,7 +7,7 @@ use crate::dependency_lists::UNIT;
 use crate::settings::Settings;
 
 /// Returns whether the unit refuses a manual start: the last valid boolean of `RefuseManualStart` (systemd.unit(5),
-/// "[Unit] Section Options"). Linear in the keys. Allocates nothing.
+/// "[Unit] Section Options"). The rule is the same by each profile. Linear in the keys. Allocates nothing.
 pub fn refuses_manual_start(settings: &Settings) -> bool
     ensures test { result ≡ refuses settings.now.map }
 {

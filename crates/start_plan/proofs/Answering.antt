@@ -1,6 +1,6 @@
 -- Plans and refusals over indices, given by name.
 use Rattle.std.proofs.Common.{◌++◌, ◌<◌, ◌∷◌, ◌≡◌}
-use Rattle.start_plan.proofs.Prelude.{[], All, among_from_contains, ap, AreNames, AsksTemplate, Bad, Case, case_of, Conflict, conflict, Contains-get_or, count_of, Cycle, cycle, DepKind, EdgeMap, get_or, inl, inr, is_loaded, IsAmong, IsBlockedAlong, IsChain, IsCycle, IsFault, IsFaultOf, IsIndexing, IsKnown, IsNamedCase, IsNeeded, IsPlan, IsRefusal, IsRefusalOf, IsReturnable, IsReturnedBy, IsStoppedByConflict, IsUnitIn, List, Listed, LoadMap, manual_start, ManualStart, Masked, Memory, Name, name_at, name_cmp, Named, named_by, named_refusal, names_in, nat_cmp, nat_list_cmp_total, need_fault, needing, NotFound, Precedes, reached_named, refl, Refusal, refusal_is_named, Request, requisite, Starts, starts_named, status_in, stuck_chosen, subst, suc, sym, TakesAlong, target_fault, Template, unit_in, WaitsForever, Why, zero, ℕ, ◌∙◌}
+use Rattle.start_plan.proofs.Prelude.{[], All, among_from_contains, ap, AsksTemplate, Bad, Case, case_of, Conflict, conflict, Contains-get_or, count_of, Cycle, cycle, DepKind, EdgeMap, get_or, inl, inr, is_loaded, IsAmong, IsBlockedAlong, IsChain, IsCycle, IsFault, IsFaultOf, IsIndexing, IsKnown, IsNamedCase, IsNeeded, IsPlan, IsRefusal, IsRefusalOf, IsReturnable, IsReturnedBy, IsStoppedByConflict, IsUnitIn, List, Listed, LoadMap, manual_start, ManualStart, Masked, Memory, Name, name_at, name_cmp, named_by, named_refusal, names_in, nat_cmp, nat_list_cmp_total, need_fault, needing, NeedsNext, NotFound, Precedes, Refusal, refusal_is_named, Request, requisite, Starts, starts_named, status_in, stuck_chosen, subst, suc, sym, TakesAlong, target_fault, Template, unit_in, WaitsForever, Why, zero, ℕ, ◌∙◌}
 use Rattle.start_plan.proofs.Casing.{main_is}
 use Rattle.start_plan.specs.declared.requests.Refusal.TheVariants.{Requisite}
 
@@ -52,25 +52,13 @@ module _ (load : LoadMap) (edges : EdgeMap) (request : Request) (order : IsIndex
       all_from (λ i. i < count_of load) list
       (λ i a. starts_within i (stuck_chosen (Starts nat_cmp c) (Precedes c) i (ring_stuck (WaitsForever nat_cmp c) (Precedes c) list s i a)))
 
-  sources : AreNames (count_of load) (name_at load) (Listed (c.target ∷ [])) (Listed ((case_of load edges request).target ∷ []))
-  sources = record { within = within; named = named; indexed = indexed }
-    where
-      within : (i : ℕ) → IsAmong i (c.target ∷ []) → i < count_of load
-      within i (inl e) = let P : ℕ → Type 0 = λ k. k < count_of load in subst P e h.below
-      within i (inr a) = absurd a
-
-      named : (i : ℕ) → IsAmong i (c.target ∷ []) → IsAmong (name_at load i) ((case_of load edges request).target ∷ [])
-      named i (inl e) = inl (sym (ap (name_at load) (sym e) ∙ h.target))
-      named i (inr a) = absurd a
-
-      indexed : (u : Name) → IsAmong u ((case_of load edges request).target ∷ []) → (i : ℕ) × (IsAmong i (c.target ∷ []) × (name_at load i ≡ u))
-      indexed u (inl e) = (c.target, (inl refl, h.target ∙ e))
-      indexed u (inr a) = absurd a
+  chain_within : (k i : ℕ) → IsChain (Listed (c.target ∷ [])) (NeedsNext c c.target) k i → i < count_of load
+  chain_within zero i (inl e) = let P : ℕ → Type 0 = λ j. j < count_of load in subst P e h.below
+  chain_within zero i (inr a) = absurd a
+  chain_within (suc k) i n = (h.needs n.0 (chain_within k n.0 n.1.0)).within i n.1.1.1
 
   needs_within : (i : ℕ) → IsNeeded c i → i < count_of load
-  needs_within =
-      (reached_named (count_of load) (name_at load) (Listed (c.target ∷ [])) (Listed ((case_of load edges request).target ∷ []))
-      (Named c.needs) (Named (case_of load edges request).needs) sources h.needs).within
+  needs_within i n = chain_within n.steps i n.chain
 
   by_name : (why : Why ℕ) → IsRefusal nat_cmp c why → IsRefusal name_cmp (case_of load edges request) (named_refusal (name_at load) why)
   by_name = refusal_is_named (count_of load) (name_at load) name_cmp nat_list_cmp_total order c (case_of load edges request) h
@@ -81,10 +69,10 @@ module _ (load : LoadMap) (edges : EdgeMap) (request : Request) (order : IsIndex
     target_unit : IsUnitIn load (case_of load edges request).target
     target_unit = subst (IsUnitIn load) (sym (main_is load request.target known.0 known.1)) known.1.unit
 
-    needed_chain : (k : ℕ) (u : Name) → IsChain (Listed ((case_of load edges request).target ∷ [])) (Named (case_of load edges request).needs) k u → IsUnitIn load u
+    needed_chain : (k : ℕ) (u : Name) → IsChain (Listed ((case_of load edges request).target ∷ [])) (NeedsNext (case_of load edges request) (case_of load edges request).target) k u → IsUnitIn load u
     needed_chain zero u (inl e) = subst (IsUnitIn load) e target_unit
     needed_chain zero u (inr a) = absurd a
-    needed_chain (suc k) u n = let r = named_by (λ dep. names_in edges dep n.0) needing u n.1.1 in lead r.0 n.0 u r.1.1
+    needed_chain (suc k) u n = let r = named_by (λ dep. names_in edges dep n.0) needing u n.1.1.1 in lead r.0 n.0 u r.1.1
 
     pub returnable : (why : Why ℕ) → IsRefusal nat_cmp c why → IsReturnable load why
     returnable (target_fault u) r =
@@ -105,7 +93,7 @@ module _ (load : LoadMap) (edges : EdgeMap) (request : Request) (order : IsIndex
     returnable manual_start r = tt
     returnable (requisite u v) r =
         let l = needs_within u r.stands.outer.member.1.0 in
-        (l, (h.requisites u l).within v r.stands.inner.member.1)
+        (l, (h.requisites u l).within v r.stands.inner.member.1.asked)
     returnable (conflict u v) r = (needs_within u r.stands.outer.member.1.0, needs_within v r.stands.inner.member.1)
     returnable (cycle list) r = cycle_below list r.stands
 

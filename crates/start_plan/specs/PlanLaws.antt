@@ -1,8 +1,8 @@
 -- Laws of plans: a request has one answer, which the load alone determines, and a plan keeps its promises.
 use Rattle.std.proofs.Common.{◌∷◌, ◌≡◌, ◌≢◌, ◌⊎◌}
 use mathlib.Core.Path.{fun_ext}
-use Rattle.start_plan.specs.Prelude.{[], ap, AreEdges, Case, conflict, cycle, DepKind, EdgeMap, edges_come_from_names, flat_map, HostViewMap, inl, inr, is_same, IsEdge, IsLoad, KeepsPromises, List, list_any, LoadMap, manual_start, map, Name, name_cmp, name_cmp-IsAntisymmetric, named_by, names_in, nat_list_cmp_total, need_fault, None, one_list_of_edges, one_refusal, one_start, one_stop, Option, plan_keeps, plan_unrefused, refl, requisite, Some, SparesItself, Status, status_in, sym, target_fault, unit_in, Why, ◌∙◌}
-use Rattle.start_plan.specs.{declared.requests.{Plan.{Plan}, Refusal.{Refusal, TheVariants.{Bad, Conflict, Cycle, ManualStart, Masked, Memory, NotFound, Requisite, Template}}, Request.{Request}}, Outcomes.{IsFault, IsPlanned, IsRefusalOf, IsRefused}, Requests.{AsksTemplate, case_of, is_loaded, is_manual, main_of, needing, tying}}
+use Rattle.start_plan.specs.Prelude.{[], ap, AreEdges, Case, conflict, cycle, DepKind, EdgeMap, edges_come_from_names, false, Files, files_keep, flat_map, HostViewMap, inl, inr, is_same, IsEdge, IsLoad, KeepsFilePromises, KeepsPromises, List, list_any, LoadMap, manual_start, map, Name, name_cmp, name_cmp-IsAntisymmetric, named_by, names_in, nat_list_cmp_total, need_fault, None, one_list_of_edges, one_refusal, one_start, one_stop, Option, plan_keeps, plan_unrefused, refl, requisite, Some, SparesItself, Status, status_in, sym, target_fault, unit_in, Why, ◌∙◌}
+use Rattle.start_plan.specs.{declared.requests.{Plan.{Plan}, Refusal.{Refusal, TheVariants.{Bad, Conflict, Cycle, ManualStart, Masked, Memory, NotFound, Requisite, Template}}, Request.{Request}}, Outcomes.{IsFault, IsPlanned, IsRefusalOf, IsRefused}, Requests.{AsksTemplate, case_of, is_loaded, is_manual, main_of, needing, tying, weak}}
 use Rattle.setting_rules.specs.declared.kinds.DepKind.TheVariants as kind
 use Rattle.unit_loads.specs.declared.units.Status.TheVariants as status
 
@@ -23,12 +23,19 @@ PlanOrRefusal = (load : LoadMap) (edges : EdgeMap) (request : Request) (p : Plan
 abbrev pub OneCase : Type 0
 OneCase = (load : LoadMap) (request : Request) (a b : EdgeMap) → AreEdges load a → AreEdges load b → case_of load a request ≡ case_of load b request
 
--- In a load of a store, the units that a plan chooses include the target and all that they need. They are all loaded,
--- their requisites are running and they don't conflict; and each unit starts after all started units that are to start
+-- In a load of a store, the units that a plan chooses include the target. They include all that they need, but for the
+-- running units that a manager leaves alone and what those need. They are all loaded, and they don't conflict. They lack
+-- no requisite, but for what is only wanted and left alone. Each unit starts after all started units that are to start
 -- before it.
 abbrev pub PlansKeepPromises : Type 0
 PlansKeepPromises = (s : HostViewMap) (extra : List Name) (load : LoadMap) (edges : EdgeMap) (request : Request) (p : Plan) → IsLoad s extra load → AreEdges load edges
     → IsPlanned load edges request p → KeepsPromises name_cmp (case_of load edges request) p.start
+
+-- In a load of a store by files alone there are no exceptions: what a plan chooses is closed under need, and its
+-- requisites are running.
+abbrev pub PlansByFilesKeepPromises : Type 0
+PlansByFilesKeepPromises = (s : HostViewMap) (extra : List Name) (load : LoadMap) (edges : EdgeMap) (request : Request) (p : Plan) → load.viewer.profile ≡ Files
+    → IsLoad s extra load → AreEdges load edges → IsPlanned load edges request p → KeepsFilePromises name_cmp (case_of load edges request)
 
 plan_with : List Name → List Name → Plan
 plan_with stop start = record { stop = stop; start = start }
@@ -110,12 +117,14 @@ plan_or_refusal load edges request p r a b n = by (returns load edges request r 
 
 abbrev case_by : LoadMap → Request → (DepKind → Name → List Name) → Case Name
 case_by load request lists = record {
+  profile = load.viewer.profile;
   target = main_of load request.target;
   is_loaded = λ u. is_loaded (unit_in load u);
   refuses_manual_start = λ u. is_manual (unit_in load u);
   is_running = λ u. list_any (is_same u) (map (main_of load) request.running);
+  is_perpetual = λ u. false;
   needs = λ u. flat_map (λ dep. lists dep u) needing;
-  wants = λ u. flat_map (λ dep. lists dep u) (kind.Wants ∷ []);
+  wants = λ u. flat_map (λ dep. lists dep u) weak;
   requisites = λ u. flat_map (λ dep. lists dep u) (kind.Requisite ∷ []);
   conflicts = λ u. flat_map (λ dep. lists dep u) (kind.Conflicts ∷ []);
   predecessors = λ u. flat_map (λ dep. lists dep u) (kind.After ∷ []);
@@ -140,3 +149,7 @@ pub plans_keep_promises : PlansKeepPromises
 plans_keep_promises s extra load edges request p l a planned =
     plan_keeps name_cmp (case_of load edges request) nat_list_cmp_total name_cmp-IsAntisymmetric p.stop p.start
     (spares_itself s extra load edges request l a) planned.planned
+
+pub plans_by_files_keep_promises : PlansByFilesKeepPromises
+plans_by_files_keep_promises s extra load edges request p files l a planned =
+    files_keep name_cmp (case_of load edges request) p.start files (plans_keep_promises s extra load edges request p l a planned)

@@ -1,8 +1,8 @@
 -- What a request asks of a load, by name: the case of a plan.
--- Source: systemd.unit(5), "Wants=", "Requires=", "Requisite=", "BindsTo=", "PartOf=", "Conflicts=", "Before=, After=",
--- "RefuseManualStart=".
+-- Source: systemd.unit(5), "Wants=", "Requires=", "Requisite=", "BindsTo=", "PartOf=", "Upholds=", "Conflicts=",
+-- "Before=, After=", "RefuseManualStart=".
 use Rattle.std.proofs.Common.{◌∷◌, ◌≡◌, ◌⊎◌}
-use Rattle.start_plan.specs.Prelude.{[], After, Bad, BindsTo, Bool, Case, Conflicts, DepKind, EdgeMap, false, flat_map, is_same, IsAmong, IsKnown, List, list_any, Loaded, LoadedUnit, LoadMap, main_in, map, Masked, Name, names_in, None, NotFound, Option, PartOf, Requires, Requisite, shape, Some, Status, Template, true, unit_in, unwrap_or, Wants}
+use Rattle.start_plan.specs.Prelude.{[], After, Bad, BindsTo, Bool, Case, Conflicts, DepKind, EdgeMap, false, flat_map, is_same, IsAmong, IsKnown, List, list_any, Loaded, LoadedUnit, LoadMap, main_in, map, Masked, Name, names_in, None, NotFound, Option, PartOf, Requires, Requisite, shape, Some, Status, Template, true, unit_in, unwrap_or, Upholds, Wants}
 use Rattle.start_plan.specs.declared.requests.Request.{Request}
 
 -- ---- the names of a request
@@ -51,20 +51,26 @@ edges_of edges deps u = flat_map (λ dep. names_in edges dep u) deps
 abbrev pub needing : List DepKind
 needing = Requires ∷ BindsTo ∷ []
 
+-- what a unit wants: what it pulls only where that can start
+abbrev pub weak : List DepKind
+weak = Wants ∷ Upholds ∷ []
+
 -- the kinds by which a unit stops along with another
 abbrev pub tying : List DepKind
 tying = Requires ∷ Requisite ∷ BindsTo ∷ PartOf ∷ []
 
 -- The case of a plan: the request's names are replaced by main names, and the edges say what units ask of each other.
--- The units that are to start before a unit are those that it is `After`.
+-- The units that are to start before a unit are those that it is `After`. No unit is perpetual yet.
 abbrev pub case_of : LoadMap → EdgeMap → Request → Case Name
 case_of load edges request = record {
+  profile = load.viewer.profile;
   target = main_of load request.target;
   is_loaded = λ u. is_loaded (unit_in load u);
   refuses_manual_start = λ u. is_manual (unit_in load u);
   is_running = λ u. list_any (is_same u) (map (main_of load) request.running);
+  is_perpetual = λ u. false;
   needs = edges_of edges needing;
-  wants = edges_of edges (Wants ∷ []);
+  wants = edges_of edges weak;
   requisites = edges_of edges (Requisite ∷ []);
   conflicts = edges_of edges (Conflicts ∷ []);
   predecessors = edges_of edges (After ∷ []);

@@ -3,15 +3,15 @@ ghost use Rattle.std.specs.Prelude.{IfOk, [], ◌∷◌};
 ghost use Rattle.name_closure.specs.ListedLaws.{Named};
 ghost use Rattle.index_rows.specs.{Indexing.{AreNamedSuccessors, IsIndexing}, Successors.{AreSuccessorsOf, successors_from}};
 ghost use Rattle.unit_name.specs.Names.{name_cmp};
-ghost use Rattle.setting_rules.specs.declared.kinds.DepKind.TheVariants.{Requisite, Wants};
+ghost use Rattle.setting_rules.specs.declared.kinds.DepKind.TheVariants.{Requisite};
 ghost use Rattle.plan_choice.specs.{NamedCases.{IsNamedCase}, IndexedCases.{case_of as case_of_indexed}};
 ghost use Rattle.inverse_deps.specs.Indices.{count_of, name_at};
 ghost use Rattle.unit_graph.specs.Graphs.{LeadsBy};
-ghost use Rattle.start_plan.specs.Requests.{AsksTemplate, IsOfGraph, case_of};
+ghost use Rattle.start_plan.specs.Requests.{AsksTemplate, IsOfGraph, case_of, weak};
 
 use crate::bits::{named_bits, status_bits};
 use crate::requests::Request;
-use index_rows::Successors;
+use index_rows::{Successors, empty_bits};
 use plan_choice::IndexedCase;
 use setting_rules::DepKind;
 use std::alloc::{AllocError, Global};
@@ -22,6 +22,9 @@ const NEEDING: [DepKind; 2] = [DepKind::Requires, DepKind::BindsTo];
 
 /// The inverses of `NEEDING`.
 const NEEDED: [DepKind; 2] = [DepKind::RequiredBy, DepKind::BoundBy];
+
+/// The kinds of what a unit wants.
+const WEAK: [DepKind; 2] = [DepKind::Wants, DepKind::Upholds];
 
 /// The kinds by which a unit stops along with another.
 const TYING: [DepKind; 4] = [
@@ -66,16 +69,21 @@ pub(crate) fn case_of<'b>(
     ensures order { IfOk result (λ _. IsIndexing (count_of graph.now.load) (name_at graph.now.load) name_cmp) }
 {
     let target = graph.index(&request.target).unwrap();
-    let status = status_bits(alloc, graph.loaded())?;
+    let loaded = graph.loaded();
+    let status = status_bits(alloc, loaded)?;
     let running = named_bits(alloc, graph, request.running.as_slice())?;
+    // no unit is perpetual yet
+    let perpetual = empty_bits(alloc, loaded.names().len())?;
     let needing = both_ways(graph, &NEEDING, &NEEDED)?;
     let asked = asked_of(graph)?;
     let tying = both_ways(graph, &TYING, &TAKING)?;
     Ok(IndexedCase {
+        profile: loaded.viewer().profile,
         target,
         loaded: status.loaded,
         refuses_manual_start: status.manual,
         running,
+        perpetual,
         needs: needing.successors,
         needed_by: needing.inverses,
         wants: asked.wants,
@@ -113,13 +121,13 @@ fn both_ways<'b>(
 // The edges to what units want, and to their requisites.
 fn asked_of<'b>(graph: &'b IndexedGraph) -> Result<Asked<'b>, AllocError>
     ensures wants { IfOk result (λ asked. AreNamedSuccessors (count_of graph.now.load) (name_at graph.now.load)
-        (Named (successors_from asked.wants)) (LeadsBy graph.now.edges (Wants ∷ []))) }
+        (Named (successors_from asked.wants)) (LeadsBy graph.now.edges weak)) }
     ensures wants_within { IfOk result (λ asked. AreSuccessorsOf (count_of graph.now.load) asked.wants) }
     ensures requisites { IfOk result (λ asked. AreNamedSuccessors (count_of graph.now.load) (name_at graph.now.load)
         (Named (successors_from asked.requisites)) (LeadsBy graph.now.edges (Requisite ∷ []))) }
     ensures requisites_within { IfOk result (λ asked. AreSuccessorsOf (count_of graph.now.load) asked.requisites) }
 {
-    let wants = graph.successors(&[DepKind::Wants])?;
+    let wants = graph.successors(&WEAK)?;
     let requisites = graph.successors(&[DepKind::Requisite])?;
     Ok(Asked { wants, requisites })
 }

@@ -3,6 +3,9 @@
 //!
 //! Promise: the plan is exact.
 //!
+//! By files alone running units pull others as well. A manager leaves them as they are, but for the target: they pull
+//! nothing, and no unit stops for them.
+//!
 //! - `requests`: the types `Request`, `Plan` and `Refusal`.
 //! - `planning`: `plan`, and `plan_by_index` for a graph by index.
 //! - `checks`: whether a request names templates.

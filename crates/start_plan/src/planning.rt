@@ -52,8 +52,11 @@ fn named_answer(
 /// graph's viewer, and each of its names must be a template or resolve to a unit of the graph.
 ///
 /// The target and what it pulls start if they aren't running: what it needs by `Requires` and `BindsTo`, and what these
-/// want by `Wants`, if that can start without a fault and without a conflict. Running units stop if they conflict with
-/// what is chosen, and with them the units that stop along with them. Fails with `Memory` only if memory runs out.
+/// want by `Wants` or `Upholds`, if that can start without a fault and without a conflict. Running units stop if they
+/// conflict with what is chosen, and with them the units that stop along with them.
+///
+/// By files alone running units pull others as well, and each requisite must be running. A manager leaves running units
+/// as they are, but for the target, and a requisite may be pulled instead. Fails with `Memory` only if memory runs out.
 /// O(n log n + m), for n names and m edges, and O(log n) for each name of the request.
 pub fn plan(alloc: Global, graph: &Graph, request: &Request) -> Result<Plan, Refusal>
     requires viewer { request.now.viewer ≡ graph.now.load.viewer }

@@ -57,7 +57,8 @@ pub enum Refusal {
     /// The target refuses to be started by hand.
     #[error("P5 ManualStart")]
     ManualStart,
-    /// The least needed unit with a requisite that isn't running, and the least such requisite.
+    /// The least needed unit with a requisite that isn't running, and the least such requisite. For a manager such a
+    /// requisite isn't pulled either.
     #[error("P6 Requisite")]
     Requisite(UnitName, UnitName),
     /// The least needed unit that conflicts with a needed one, and the least of these.

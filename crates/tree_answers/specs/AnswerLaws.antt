@@ -50,7 +50,7 @@ module _ (v w : HostViewMap) (over : IsAlike v w) (extra : List Name) (good : (n
   whole_there asking a (inr returned) =
       let l = returned.snapshot.is_load in
       let has = load_there v w over extra good reads returned.load l in
-      let b = returned_there v w extra returned.load has.other l has.is_load has.same asking a returned.returned_is in (
+      let b = returned_there v w extra returned.load has.other l has.is_load has.same over.profile asking a returned.returned_is in (
         b.0,
         inr (record {
           load = has.other;
@@ -118,6 +118,7 @@ answer_there s t viewer over extra asking is good reads a h = by h
 pub trees_are_alike : TreesResolveAlike → TreesNameAlike → TreesShowTheSameNames → TreesHaveTheSameFragments
     → (s t : EntryMap) (viewer : Viewer) → ShowsTree t s viewer.host → IsAlike (host_view_of s viewer) (host_view_of t (of_fleet viewer.profile))
 trees_are_alike resolves names visible fragments s t viewer shows = record {
+  profile = refl;
   resolved = resolves s t viewer shows;
   names = names s t viewer shows;
   shown = visible s t viewer shows;

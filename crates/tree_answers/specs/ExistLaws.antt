@@ -220,11 +220,11 @@ unit_exists v n names fragment own are e =
           names = names;
           status = status.Loaded fragment;
           dropins = dropins;
-          values = rows_of settings n;
-          deps = lists_with settings n (record { wanted = wanted; required = required });
+          values = rows_of v.profile settings n;
+          deps = lists_with v.profile settings n (record { wanted = wanted; required = required });
           notes =
               file_notes v (fragment ∷ dropins)
-              ++ map note.Setting (setting_notes items n (record { wanted = wanted; required = required }));
+              ++ map note.Setting (setting_notes v.profile items n (record { wanted = wanted; required = required }));
           manual = refuses settings;
         } in (
           unit,

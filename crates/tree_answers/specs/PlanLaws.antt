@@ -29,7 +29,7 @@ module _ (v w : HostViewMap) where
   status_same None p e = ap status_of e
   status_same (Some u) p (t, same, at) = ap status_of at ∙ ap (λ (x : Status). Some x) same.status_is
 
-  module _ (load other : LoadMap) (same : AreSamePairs v w load.names other.names) (all : EdgeMap) (request : Request) where
+  module _ (load other : LoadMap) (same : AreSamePairs v w load.names other.names) (profile : load.viewer.profile ≡ other.viewer.profile) (all : EdgeMap) (request : Request) where
     abbrev bare : Request
     bare = record request { viewer = of_fleet request.viewer.profile }
 
@@ -42,6 +42,7 @@ module _ (v w : HostViewMap) where
 
     case_alike : case_of load all request ≡ case_of other all bare
     case_alike = (λ i. record (case_of load all request) {
+      profile = profile i;
       target = sym (main_alike request.target) i;
       is_loaded = λ u. sym (loaded_same (unit_in load u) (unit_in other u) (units_found v w load other same u)) i;
       refuses_manual_start = λ u. sym (manual_same (unit_in load u) (unit_in other u) (units_found v w load other same u)) i;

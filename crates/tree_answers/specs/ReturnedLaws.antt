@@ -1,6 +1,6 @@
 -- Laws of what loads answer: a load that is the same but for places answers each question the same, whatever host it is for.
 use Rattle.std.proofs.Common.{◌∷◌, ◌≡◌}
-use Rattle.tree_answers.specs.Prelude.{[], All, All-cons, All-head, All-nil, All-tail, among_find, Answer, ap, AreEdgesOf, AreLinkedUnits, ArePulled, cons_option, filter_map, HostViewMap, inl, inr, IsAmong, IsLinkedUnit, IsLoad, IsLoadedUnit, IsPlanReturned, IsReturned, IsUnitWithEdges, LinkedUnit, List, LoadedUnit, LoadMap, map, Name, NameLoad, name_cmp, nat_list_cmp_total, of_fleet, option_and_then, Question, refl, Request, Some, sorted_from, subst, sym, units_are_their_own_mains, unit_in, unit_part, without_host, ℕ, ◌∙◌}
+use Rattle.tree_answers.specs.Prelude.{[], All, All-cons, All-head, All-nil, All-tail, among_find, Answer, ap, AreEdgesOf, AreLinkedUnits, ArePulled, cons_option, filter_map, HostViewMap, inl, inr, IsAmong, IsLinkedUnit, IsLoad, IsLoadedUnit, IsPlanReturned, IsReturned, IsUnitWithEdges, LinkedUnit, List, LoadedUnit, LoadMap, map, Name, name_cmp, NameLoad, nat_list_cmp_total, of_fleet, option_and_then, Question, refl, Request, Some, sorted_from, subst, sym, unit_in, unit_part, units_are_their_own_mains, Viewer, without_host, ℕ, ◌∙◌}
 use Rattle.tree_answers.specs.{Alike.{AreAllSame, AreSameAnswers, AreSameLinked, AreSameUnits}, FoundLaws.{edges_of_there, edges_there, mains_found, stands_back, unit_there}, PlanLaws.{plan_there}, SameLoads.{AreSamePairs, IsSameOne}}
 use Rattle.parallel_load.specs.declared.loaded.NameLoad.TheVariants as one
 use Rattle.fleet_answers.specs.declared.questions.Answer.TheVariants as answer
@@ -18,7 +18,7 @@ found_under v extra load l n u among =
     (among_find name_cmp nat_list_cmp_total n (one.Unit u) load.names (sorted_from load.names l.universe.ascending) among)
 
 module _ (v w : HostViewMap) (extra : List Name) (load other : LoadMap) (l : IsLoad v extra load) (k : IsLoad w extra other)
-    (same : AreSamePairs v w load.names other.names) where
+    (same : AreSamePairs v w load.names other.names) (profile : v.profile ≡ w.profile) where
   -- ---- one unit
 
   linked_there : (name : Name) (x : LinkedUnit) → IsLinkedUnit load name x
@@ -130,7 +130,9 @@ module _ (v w : HostViewMap) (extra : List Name) (load other : LoadMap) (l : IsL
   plan_over : (request : Request) (a : Answer) → IsPlanReturned load request a
       → (b : Answer) × IsPlanReturned other (record request { viewer = of_fleet request.viewer.profile }) b × AreSameAnswers v w a b
   plan_over request a returned =
-      let plan = plan_there v w load other same returned.edges request a returned.plan_is in (
+      let one_profile : load.viewer.profile ≡ other.viewer.profile =
+      ap (λ (x : Viewer). x.profile) l.viewer_is ∙ profile ∙ sym (ap (λ (x : Viewer). x.profile) k.viewer_is) in
+      let plan = plan_there v w load other same one_profile returned.edges request a returned.plan_is in (
         plan.0,
         record { edges = returned.edges; edges_are = edges_there v w load other same returned.edges returned.edges_are; plan_is = plan.1 },
         plan.2,

@@ -75,7 +75,7 @@ chosen_for (chosen.Bad cause) x fragment h e = cc (h, e)
 
 -- ---- the unit in the tree
 
-module _ (v w : HostViewMap) (name : Name) (u : LoadedUnit) (is : IsUnit v name u) (alike : ReadsAlike v w u.names)
+module _ (v w : HostViewMap) (profile : v.profile ≡ w.profile) (name : Name) (u : LoadedUnit) (is : IsUnit v name u) (alike : ReadsAlike v w u.names)
     (resolved : resolution w name ≡ resolution_at_fleet (resolution v name)) (named : AreNames w name u.names)
     (shown : (p : PlaceParts) → choice v name ≡ chosen.Fragment p → content_at w (within Fleet p.path) ≡ content_at v p) where
   main_there : main w name ≡ name
@@ -144,7 +144,7 @@ module _ (v w : HostViewMap) (name : Name) (u : LoadedUnit) (is : IsUnit v name 
     items = items_alike v w (fragment ∷ u.dropins) files contents
 
     abbrev on_settings : List UnitNote
-    on_settings = map note.Setting (setting_notes (items_of v (fragment ∷ u.dropins)) u.name h.links)
+    on_settings = map note.Setting (setting_notes v.profile (items_of v (fragment ∷ u.dropins)) u.name h.links)
 
     abbrev made : LoadedUnit
     made = record u { status = status.Loaded moved; dropins = found.places; notes = file_notes w files ++ on_settings }
@@ -157,10 +157,18 @@ module _ (v w : HostViewMap) (name : Name) (u : LoadedUnit) (is : IsUnit v name 
         wanted_are = links_there v w u.names alike Wants h.links.wanted h.links_are.wanted_are;
         required_are = links_there v w u.names alike Requires h.links.required h.links_are.required_are;
       };
-      values_are = h.values_are ∙ ap (λ xs. rows_of (settings_of xs) u.name) (sym items);
-      deps_are = h.deps_are ∙ ap (λ xs. lists_with (settings_of xs) u.name h.links) (sym items);
-      notes_are = ap (λ xs. file_notes w files ++ map note.Setting (setting_notes xs u.name h.links)) (sym items);
-      manual_is = h.manual_is ∙ ap (λ xs. refuses (settings_of xs)) (sym items);
+      values_are =
+          h.values_are ∙ ap (λ xs. rows_of v.profile (settings_of v.profile xs) u.name) (sym items)
+          ∙ ap (λ by. rows_of by (settings_of by (items_of w files)) u.name) profile;
+      deps_are =
+          h.deps_are ∙ ap (λ xs. lists_with v.profile (settings_of v.profile xs) u.name h.links) (sym items)
+          ∙ ap (λ by. lists_with by (settings_of by (items_of w files)) u.name h.links) profile;
+      notes_are =
+          ap (λ xs. file_notes w files ++ map note.Setting (setting_notes v.profile xs u.name h.links)) (sym items)
+          ∙ ap (λ by. file_notes w files ++ map note.Setting (setting_notes by (items_of w files) u.name h.links)) profile;
+      manual_is =
+          h.manual_is ∙ ap (λ xs. refuses (settings_of v.profile xs)) (sym items)
+          ∙ ap (λ by. refuses (settings_of by (items_of w files))) profile;
     }
 
     same_notes : map said (file_notes w files ++ on_settings) ≡ map said u.notes
@@ -208,5 +216,5 @@ pub unit_in_tree : TreesResolveAlike → TreesNameAlike → TreesHaveTheSameFrag
     → ReadsAlike (host_view_of s viewer) (host_view_of t (of_fleet viewer.profile)) unit.names
     → (other : LoadedUnit) × IsUnit (host_view_of t (of_fleet viewer.profile)) name other × AreSameUnits (host_view_of s viewer) (host_view_of t (of_fleet viewer.profile)) unit other
 unit_in_tree resolves names fragments s t viewer shows name good unit is alike =
-    same_unit (host_view_of s viewer) (host_view_of t (of_fleet viewer.profile)) name unit is alike (resolves s t viewer shows name good)
+    same_unit (host_view_of s viewer) (host_view_of t (of_fleet viewer.profile)) refl name unit is alike (resolves s t viewer shows name good)
     ((names s t viewer shows name unit.names).0 is.names_are) (λ p e. fragments s t viewer shows name good p e)

@@ -5,9 +5,10 @@ use Rattle.tree_answers.specs.Prelude.{ap, AreNames, AreUniverse, argument, BadN
 use Rattle.tree_answers.specs.Alike.{AreSameUnits}
 use Rattle.unit_name.specs.declared.names.Shape.{Shape, TheVariants.{Instance, Plain, Template}}
 
--- Unit names resolve alike, have the same other names and are visible alike, and a unit that isn't crossed is the same, but for
--- places.
+-- Both views have one profile, unit names resolve alike, have the same other names and are visible alike, and a unit that
+-- isn't crossed is the same, but for places.
 pub record IsAlike (v w : HostViewMap) : Type 0 where
+  pub profile : v.profile ≡ w.profile
   pub resolved : (n : Name) → IsName n → resolution w n ≡ resolution_at_fleet (resolution v n)
   pub names : (u : Name) (all : List Name) → AreNames v u all ↔ AreNames w u all
   pub shown : (n : Name) → IsShown v n ↔ IsShown w n

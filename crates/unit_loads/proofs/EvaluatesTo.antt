@@ -16,10 +16,10 @@ module _ (s : HostViewMap) (fragment : PlaceParts) (borrowed : List (PathParts �
     dropins_are = subst (λ (ps : List PlaceParts). AreDropIns s names ps) (sym it.dropins) dropins_are;
     links = links;
     links_are = links_are;
-    values_are = it.values ∙ ap (λ xs. rows_of (settings_of xs) unit) items;
-    deps_are = it.deps ∙ ap (λ xs. lists_with (settings_of xs) unit links) items;
+    values_are = it.values ∙ ap (λ xs. rows_of s.profile (settings_of s.profile xs) unit) items;
+    deps_are = it.deps ∙ ap (λ xs. lists_with s.profile (settings_of s.profile xs) unit links) items;
     notes_are =
-        it.notes ∙ ap (λ ns. ns ++ map note.Setting (setting_notes (items_with s fragment borrowed) unit links)) lines
-        ∙ ap (λ xs. file_notes s (fragment ∷ found.dropins) ++ map note.Setting (setting_notes xs unit links)) items;
-    manual_is = it.manual ∙ ap (λ xs. refuses (settings_of xs)) items;
+        it.notes ∙ ap (λ ns. ns ++ map note.Setting (setting_notes s.profile (items_with s fragment borrowed) unit links)) lines
+        ∙ ap (λ xs. file_notes s (fragment ∷ found.dropins) ++ map note.Setting (setting_notes s.profile xs unit links)) items;
+    manual_is = it.manual ∙ ap (λ xs. refuses (settings_of s.profile xs)) items;
   }

@@ -96,8 +96,9 @@ module _ (s t : HostViewMap) (one : AreForOne s t) (names : List Name) (inside :
       by (inl e) = subst (λ (q : PlaceParts). content_at s q ≡ content_at t q) e own
       by (inr d) = drop_in_shown p ((are.exact p).0 d)
 
--- a unit has the same settings in both, where its drop-ins and links are the same, and its files show the same
-module _ (s t : HostViewMap) (unit : LoadedUnit) (fragment : PlaceParts) (drop_ins : (p : PlaceParts) → IsDropInAt s unit.names p ↔ IsDropInAt t unit.names p)
+-- a unit has the same settings in both, which have one profile, where its drop-ins and links are the same, and its files
+-- show the same
+module _ (s t : HostViewMap) (profile : s.profile ≡ t.profile) (unit : LoadedUnit) (fragment : PlaceParts) (drop_ins : (p : PlaceParts) → IsDropInAt s unit.names p ↔ IsDropInAt t unit.names p)
     (links : (folder : Folder) (n : Name) → IsLinked s unit.names folder n ↔ IsLinked t unit.names folder n)
     (files : (p : PlaceParts) → Contains (fragment ∷ unit.dropins) p → content_at s p ≡ content_at t p) where
   linked_too : (folder : Folder) (named : List Name) → AreLinks s unit.names folder named → AreLinks t unit.names folder named
@@ -108,7 +109,8 @@ module _ (s t : HostViewMap) (unit : LoadedUnit) (fragment : PlaceParts) (drop_i
 
   pub settings_too : HasSettings s fragment unit → HasSettings t fragment unit
   settings_too h =
-      let items : items_of s (fragment ∷ unit.dropins) ≡ items_of t (fragment ∷ unit.dropins) = items_same s t (fragment ∷ unit.dropins) files in
+      let there = items_of t (fragment ∷ unit.dropins) in
+      let items : items_of s (fragment ∷ unit.dropins) ≡ there = items_same s t (fragment ∷ unit.dropins) files in
       record {
         dropins_are = record {
           ascending = h.dropins_are.ascending;
@@ -119,20 +121,26 @@ module _ (s t : HostViewMap) (unit : LoadedUnit) (fragment : PlaceParts) (drop_i
           wanted_are = linked_too Wants h.links.wanted h.links_are.wanted_are;
           required_are = linked_too Requires h.links.required h.links_are.required_are;
         };
-        values_are = h.values_are ∙ ap (λ xs. rows_of (settings_of xs) unit.name) items;
-        deps_are = h.deps_are ∙ ap (λ xs. lists_with (settings_of xs) unit.name h.links) items;
+        values_are =
+            h.values_are ∙ ap (λ xs. rows_of s.profile (settings_of s.profile xs) unit.name) items
+            ∙ ap (λ by. rows_of by (settings_of by there) unit.name) profile;
+        deps_are =
+            h.deps_are ∙ ap (λ xs. lists_with s.profile (settings_of s.profile xs) unit.name h.links) items
+            ∙ ap (λ by. lists_with by (settings_of by there) unit.name h.links) profile;
         notes_are =
             h.notes_are
-            ∙ ap (λ ns. ns ++ map note.Setting (setting_notes (items_of s (fragment ∷ unit.dropins)) unit.name h.links)) (notes_same s t (fragment ∷ unit.dropins) files)
-            ∙ ap (λ xs. file_notes t (fragment ∷ unit.dropins) ++ map note.Setting (setting_notes xs unit.name h.links)) items;
-        manual_is = h.manual_is ∙ ap (λ xs. refuses (settings_of xs)) items;
+            ∙ ap (λ ns. ns ++ map note.Setting (setting_notes s.profile (items_of s (fragment ∷ unit.dropins)) unit.name h.links)) (notes_same s t (fragment ∷ unit.dropins) files)
+            ∙ ap (λ xs. file_notes t (fragment ∷ unit.dropins) ++ map note.Setting (setting_notes s.profile xs unit.name h.links)) items
+            ∙ ap (λ by. file_notes t (fragment ∷ unit.dropins) ++ map note.Setting (setting_notes by there unit.name h.links)) profile;
+        manual_is =
+            h.manual_is ∙ ap (λ xs. refuses (settings_of s.profile xs)) items ∙ ap (λ by. refuses (settings_of by there)) profile;
       }
 
 module _ (s t : HostViewMap) (one : AreForOne s t) (unit : LoadedUnit) (inside : AgreeInFolders s t unit.names) where
   settings_same : (fragment : PlaceParts) → content_at s fragment ≡ content_at t fragment → HasSettings s fragment unit
       → HasSettings t fragment unit
   settings_same fragment own h =
-      settings_too s t unit fragment (same_drop_in_at s t one unit.names inside) (same_linked s t one unit.names inside)
+      settings_too s t one.1 unit fragment (same_drop_in_at s t one unit.names inside) (same_linked s t one unit.names inside)
       (files_shown s t one unit.names inside fragment unit.dropins own h.dropins_are) h
 
   -- a unit has the same in both if its fragment is the same and so is what is seen in its folders

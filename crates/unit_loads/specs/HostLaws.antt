@@ -1,7 +1,7 @@
 -- Laws of hosts: one at whose places nothing is visible has the units that there are without a host.
 use Rattle.std.proofs.Common.{◌%◌, ◌==◌, ◌↔◌, ◌∷◌, ◌≡◌}
 use Rattle.unit_loads.specs.Prelude.{ap, Assignment, Choice, Contains, content_at, DepKind, drop_ins_are_the_fleets, EntryMap, false, File, first_or_later, Fleet, fleets_level, fleets_place, Folder, fragments_are_in_view, Host, host_view_of, hosts_without_places_have_these_drop_ins, hosts_without_places_have_these_links, hosts_without_places_resolve_alike, HostViewMap, inl, inr, IsDropInAt, IsLinked, List, main, mains_decide, Name, of_fleet, of_host, PlaceParts, Profile, refl, Resolution, resolution, Scope, ShowsNothing, subst, sym, ℕ, ◌∙◌}
-use Rattle.unit_loads.specs.{declared.units.{Status.{Status, TheVariants.{Bad, Loaded, Masked, NotFound}}, Unit.{Unit as LoadedUnit}}, ElsewhereLaws.{chosen, items_same, settings_too}, NamedUnits.{IsAssigned, IsNamed, IsNamedByLink, IsNamedByWord}, Units.{AreDropIns, HasAllOf, IsStatus, IsUnit}}
+use Rattle.unit_loads.specs.{declared.units.{Status.{Status, TheVariants.{Bad, Loaded, Masked, NotFound}}, Unit.{Unit as LoadedUnit}}, ElsewhereLaws.{chosen, items_same, settings_too}, NamedUnits.{IsAssigned, IsNamed, IsNamedByLink, IsNamedByWord}, Units.{AreDropIns, HasAllOf, IsStatus, IsUnit, items_of}}
 use Rattle.fragment_choice.specs.declared.choices.Choice.TheVariants as choice
 
 -- The same stands for each name in both views, units have the same drop-ins and links, and their fragments and drop-ins show the same.
@@ -63,55 +63,58 @@ module _ (s t : HostViewMap) (same : HaveTheSameFiles s t) where
     exact = λ p. (λ c. (same.drop_ins names p).0 ((are.exact p).0 c), λ d. (are.exact p).1 ((same.drop_ins names p).1 d));
   }
 
-  all_there : (name : Name) (unit : LoadedUnit) (status : Status) → IsStatus (resolution s name).choice status
-      → HasAllOf s unit status → HasAllOf t unit status
-  all_there name unit (Loaded fragment) is h =
-      let there = chosen (resolution s name).choice (Loaded fragment) fragment is refl in
-      settings_too s t unit fragment (same.drop_ins unit.names) (same.links unit.names)
-      (files_show name fragment there unit.names unit.dropins (λ p. (h.dropins_are.exact p).0)) h
-  all_there name unit NotFound is h = h
-  all_there name unit Masked is h = h
-  all_there name unit (Bad cause) is h = h
+  -- a unit is the same by one profile
+  module _ (profile : s.profile ≡ t.profile) where
+    all_there : (name : Name) (unit : LoadedUnit) (status : Status) → IsStatus (resolution s name).choice status
+        → HasAllOf s unit status → HasAllOf t unit status
+    all_there name unit (Loaded fragment) is h =
+        let there = chosen (resolution s name).choice (Loaded fragment) fragment is refl in
+        settings_too s t profile unit fragment (same.drop_ins unit.names) (same.links unit.names)
+        (files_show name fragment there unit.names unit.dropins (λ p. (h.dropins_are.exact p).0)) h
+    all_there name unit NotFound is h = h
+    all_there name unit Masked is h = h
+    all_there name unit (Bad cause) is h = h
 
-  pub unit_there : (name : Name) (unit : LoadedUnit) → IsUnit s name unit → IsUnit t name unit
-  unit_there name unit u = record {
-    main_is = sym (same_mains name) ∙ u.main_is;
-    name_is = u.name_is;
-    names_are = mains_decide s t same_mains name unit.names u.names_are;
-    status_is = subst (λ (r : Resolution). IsStatus r.choice unit.status) (same.resolved name) u.status_is;
-    has = all_there name unit unit.status u.status_is u.has;
-  }
+    pub unit_there : (name : Name) (unit : LoadedUnit) → IsUnit s name unit → IsUnit t name unit
+    unit_there name unit u = record {
+      main_is = sym (same_mains name) ∙ u.main_is;
+      name_is = u.name_is;
+      names_are = mains_decide s t same_mains name unit.names u.names_are;
+      status_is = subst (λ (r : Resolution). IsStatus r.choice unit.status) (same.resolved name) u.status_is;
+      has = all_there name unit unit.status u.status_is u.has;
+    }
 
-  named_by_word : (unit : Name) (dep : DepKind) (v : Name) → IsNamedByWord s unit dep v → IsNamedByWord t unit dep v
-  named_by_word unit dep v n = record {
-    names = n.names;
-    names_are = mains_decide s t same_mains unit n.names n.names_are;
-    fragment = n.fragment;
-    fragment_is = same_choice unit (choice.Fragment n.fragment) n.fragment_is;
-    dropins = n.dropins;
-    dropins_are = drop_ins_there n.names n.dropins n.dropins_are;
-    text = n.text;
-    assigned =
-        subst (λ (items : List Assignment). IsAssigned items dep n.text)
-        (items_same s t (n.fragment ∷ n.dropins)
-        (files_show unit n.fragment n.fragment_is n.names n.dropins (λ p. (n.dropins_are.exact p).0))) n.assigned;
-    named = n.named;
-  }
+    named_by_word : (unit : Name) (dep : DepKind) (v : Name) → IsNamedByWord s unit dep v → IsNamedByWord t unit dep v
+    named_by_word unit dep v n = record {
+      names = n.names;
+      names_are = mains_decide s t same_mains unit n.names n.names_are;
+      fragment = n.fragment;
+      fragment_is = same_choice unit (choice.Fragment n.fragment) n.fragment_is;
+      dropins = n.dropins;
+      dropins_are = drop_ins_there n.names n.dropins n.dropins_are;
+      text = n.text;
+      assigned =
+          subst (λ (by : Profile). IsAssigned by (items_of t (n.fragment ∷ n.dropins)) dep n.text) profile
+          (subst (λ (items : List Assignment). IsAssigned s.profile items dep n.text)
+          (items_same s t (n.fragment ∷ n.dropins)
+          (files_show unit n.fragment n.fragment_is n.names n.dropins (λ p. (n.dropins_are.exact p).0))) n.assigned);
+      named = n.named;
+    }
 
-  named_by_link : (unit : Name) (folder : Folder) (v : Name) → IsNamedByLink s unit folder v → IsNamedByLink t unit folder v
-  named_by_link unit folder v n = record {
-    names = n.names;
-    names_are = mains_decide s t same_mains unit n.names n.names_are;
-    fragment = n.fragment;
-    fragment_is = same_choice unit (choice.Fragment n.fragment) n.fragment_is;
-    link = n.link;
-    linked = (same.links n.names folder n.link).0 n.linked;
-    named = n.named;
-  }
+    named_by_link : (unit : Name) (folder : Folder) (v : Name) → IsNamedByLink s unit folder v → IsNamedByLink t unit folder v
+    named_by_link unit folder v n = record {
+      names = n.names;
+      names_are = mains_decide s t same_mains unit n.names n.names_are;
+      fragment = n.fragment;
+      fragment_is = same_choice unit (choice.Fragment n.fragment) n.fragment_is;
+      link = n.link;
+      linked = (same.links n.names folder n.link).0 n.linked;
+      named = n.named;
+    }
 
-  pub named_there : (unit : Name) (dep : DepKind) (v : Name) → IsNamed s unit dep v → IsNamed t unit dep v
-  named_there unit dep v (inl n) = inl (named_by_word unit dep v n)
-  named_there unit dep v (inr (folder, kind, n)) = inr (folder, kind, named_by_link unit folder v n)
+    pub named_there : (unit : Name) (dep : DepKind) (v : Name) → IsNamed s unit dep v → IsNamed t unit dep v
+    named_there unit dep v (inl n) = inl (named_by_word unit dep v n)
+    named_there unit dep v (inr (folder, kind, n)) = inr (folder, kind, named_by_link unit folder v n)
 
 -- ---- a host without places
 
@@ -156,11 +159,11 @@ module _ (s : EntryMap) (host : List ℕ) (profile : Profile) where
 
     same_units : (name : Name) (unit : LoadedUnit) → IsUnit hosts name unit ↔ IsUnit fleets name unit
     same_units name unit =
-        (unit_there hosts fleets same_files name unit, unit_there fleets hosts (turned hosts fleets same_files) name unit)
+        (unit_there hosts fleets same_files refl name unit, unit_there fleets hosts (turned hosts fleets same_files) refl name unit)
 
     same_named : (unit : Name) (dep : DepKind) (v : Name) → IsNamed hosts unit dep v ↔ IsNamed fleets unit dep v
     same_named unit dep v =
-        (named_there hosts fleets same_files unit dep v, named_there fleets hosts (turned hosts fleets same_files) unit dep v)
+        (named_there hosts fleets same_files refl unit dep v, named_there fleets hosts (turned hosts fleets same_files) refl unit dep v)
 
 pub hosts_without_places_have_these_files : HostsWithoutPlacesHaveTheseFiles
 hosts_without_places_have_these_files s host profile none = same_files s host profile none

@@ -1,13 +1,13 @@
 -- The units that a unit names.
 -- Source: systemd.unit(5), "[Unit] Section Options" and "Description".
 use Rattle.std.proofs.Common.{◌∷◌, ◌≡◌, ◌⊎◌}
-use Rattle.unit_loads.specs.Prelude.{AreNames, Assignment, codes, Contains, DependencyList, DepKind, Folder, for_unit, Fragment, HostViewMap, is_settable, IsLinked, IsTrue, List, Name, named_by, Ok, PlaceParts, Requires, resolution, Some, Wants, word, words_of, ℕ}
+use Rattle.unit_loads.specs.Prelude.{AreNames, Assignment, codes, Contains, DependencyList, DepKind, Folder, for_unit, Fragment, HostViewMap, is_settable, IsLinked, IsTrue, List, Name, named_by, Ok, PlaceParts, Profile, Requires, resolution, Some, Wants, word, words_of, ℕ}
 use Rattle.unit_loads.specs.Units.{AreDropIns, items_of}
 use Rattle.setting_rules.specs.declared.kinds.DepKind.TheVariants as kind
 
--- one of the assignments has the word in a key of `[Unit]` that sets this kind
-pub record IsAssigned (items : List Assignment) (dep : DepKind) (text : List ℕ) : Type 0 where
-  pub settable : IsTrue (is_settable dep)
+-- one of the assignments has the word in a key of `[Unit]` that sets this kind by the profile
+pub record IsAssigned (profile : Profile) (items : List Assignment) (dep : DepKind) (text : List ℕ) : Type 0 where
+  pub settable : IsTrue (is_settable profile dep)
   pub assignment : Assignment
   pub there : Contains items assignment
   pub section_is : assignment.section ≡ codes "Unit"
@@ -23,7 +23,7 @@ pub record IsNamedByWord (s : HostViewMap) (unit : Name) (dep : DepKind) (v : Na
   pub dropins : List PlaceParts
   pub dropins_are : AreDropIns s names dropins
   pub text : List ℕ
-  pub assigned : IsAssigned (items_of s (fragment ∷ dropins)) dep text
+  pub assigned : IsAssigned s.profile (items_of s (fragment ∷ dropins)) dep text
   pub named : named_by unit text ≡ Ok v
 
 -- a link in a folder of this sort of the unit, which is loaded, gives v

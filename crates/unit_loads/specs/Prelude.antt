@@ -4,7 +4,8 @@ pub use Rattle.fragment_choice.specs.{ChoiceLaws.{IsOwnPath, own_paths_count, ow
 pub use Rattle.list_laws.specs.Members.{first_or_later}
 pub use Rattle.load_places.specs.declared.places.Scope.{Scope}
 pub use Rattle.path_maps.specs.HostLaws.{places_decide_views}
+pub use Rattle.profiles.specs.declared.profiles.Profile.TheVariants.{Files, Manager}
 pub use Rattle.section_reader.specs.Sections.{assignments_of, notes_of}
-pub use Rattle.setting_rules.specs.{declared.{dependency_lists.DependencyList.{DependencyList}, keys.SettingKey.{SettingKey}, kinds.DepKind.{DepKind, TheVariants.{After, Before, BindsTo, BoundBy, ConflictedBy, Conflicts, ConsistsOf, OnFailure, OnFailureOf, PartOf, PropagatesReloadTo, ReloadPropagatedFrom, RequiredBy, Requisite, RequisiteOf, WantedBy}}, notes.{SettingNote.{SettingNote}, SettingNoteKind.{SettingNoteKind, TheVariants.{BadName}}}, rows.Row.{Row}, rules.KeyRule.{KeyRule, TheVariants.{Assertion, Condition, Dependency, Ignored, Plain, Switch}}}, Dependencies.{in_byte_order, key_for, named_by, names_by, word_notes, words_for}, KeyLaws.{same_key_is, same_key_itself}, Kinds.{is_settable, kinds, settable, word}, Maps.{same_key, SettingMap, values_at}, OrderLaws.{names_ascend, names_stay}, Prelude.{Assignment, one_ascending_list}, ResetLaws.{keeps_all_values, settings_show_values}, Rows.{escape_notes, rows_of}, Rules.{is_empty, Text}, Settings.{boolean_notes, counted, counts_by, emptied_by, given, gives, key_of, note_on, resets, rule_at, settings_of}, Switches.{refuses}, Words.{for_unit, words_of}}
+pub use Rattle.setting_rules.specs.{declared.{dependency_lists.DependencyList.{DependencyList}, keys.SettingKey.{SettingKey}, kinds.DepKind.{DepKind, TheVariants.{After, Before, BindsTo, BoundBy, ConflictedBy, Conflicts, ConsistsOf, InSlice, OnFailure, OnFailureOf, PartOf, PropagatesReloadTo, ReloadPropagatedFrom, RequiredBy, Requisite, RequisiteOf, SliceOf, TriggeredBy, Triggers, UpheldBy, Upholds, WantedBy}}, notes.{SettingNote.{SettingNote}, SettingNoteKind.{SettingNoteKind, TheVariants.{BadName}}}, rows.Row.{Row}, rules.KeyRule.TheVariants.{Dependency}}, Dependencies.{in_byte_order, key_for, named_by, names_by, word_notes, words_for}, KeyLaws.{same_key_is, same_key_itself}, Kinds.{is_settable, naming_kinds, word}, Maps.{same_key, SettingMap, values_at}, OrderLaws.{names_ascend, names_stay}, Prelude.{Assignment, one_ascending_list}, Rows.{escape_notes, rows_of}, Rules.{is_empty, Text}, Settings.{boolean_notes, counted, counts_by, given, gives, key_of, note_on, rule_at, settings_of}, Switches.{refuses}, Words.{for_unit, words_of}}
 pub use Rattle.std.{proofs.{Common.{[], All, ap, Bool, codes, cond, Err, false, filter, inl, inr, is_none, is_some, IsSome, IsTrue, List, map, None, not, Ok, Option, refl, Result, slice_get, Some, subst, suc, sym, true, zero, ℕ, ◌∙◌}, lemmas.{Bool.{and_from, and_parts, true≢false}, List.Elements.{All-cons, All-nil}, Option.{same_Some}}}, specs.{Cmp.Lexicographic.{nat_list_cmp_total}, List.{cons_option, Contains, filter_map, flat_map, list_any}, Result.{result_ok}}}
 unfoldable pub use Rattle.std.specs.List.Sorted.{IsStrictlySortedBy}

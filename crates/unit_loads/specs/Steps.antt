@@ -35,10 +35,10 @@ with_linked names linked = in_byte_order (names ++ linked)
 -- the effective settings of a fragment in a store, of borrowed drop-ins, and of links, for a unit
 pub record EvaluatesTo (s : HostViewMap) (fragment : PlaceParts) (borrowed : List (PathParts × Entry)) (unit : Name) (links : LinkNames) (found : UnitParts) : Type 0 where
   pub dropins : found.dropins ≡ map (entry_place s) borrowed
-  pub values : found.effective.values ≡ rows_of (settings_of (items_with s fragment borrowed)) unit
-  pub deps : found.effective.deps ≡ lists_with (settings_of (items_with s fragment borrowed)) unit links
-  pub notes : found.effective.notes ≡ (notes_at s fragment ++ borrowed_notes s borrowed) ++ map note.Setting (setting_notes (items_with s fragment borrowed) unit links)
-  pub manual : found.effective.manual ≡ refuses (settings_of (items_with s fragment borrowed))
+  pub values : found.effective.values ≡ rows_of s.profile (settings_of s.profile (items_with s fragment borrowed)) unit
+  pub deps : found.effective.deps ≡ lists_with s.profile (settings_of s.profile (items_with s fragment borrowed)) unit links
+  pub notes : found.effective.notes ≡ (notes_at s fragment ++ borrowed_notes s borrowed) ++ map note.Setting (setting_notes s.profile (items_with s fragment borrowed) unit links)
+  pub manual : found.effective.manual ≡ refuses (settings_of s.profile (items_with s fragment borrowed))
 
 -- the unit with these names and its fragment at this place
 abbrev pub unit_of_parts : Name → List Name → PlaceParts → UnitParts → LoadedUnit

@@ -50,16 +50,16 @@ module _ (s : HostViewMap) (a b : LoadedUnit) (name : a.name ≡ b.name) (names 
       record {
         dropins = dropins;
         values =
-            p.values_are ∙ ap (λ ps. rows_of (settings_in s fragment ps) a.name) dropins
-            ∙ ap (rows_of (settings_in s fragment b.dropins)) name ∙ sym q.values_are;
+            p.values_are ∙ ap (λ ps. rows_of s.profile (settings_in s fragment ps) a.name) dropins
+            ∙ ap (rows_of s.profile (settings_in s fragment b.dropins)) name ∙ sym q.values_are;
         deps =
-            p.deps_are ∙ ap (λ ps. lists_with (settings_in s fragment ps) a.name p.links) dropins
-            ∙ ap (λ n. lists_with (settings_in s fragment b.dropins) n p.links) name
-            ∙ ap (λ l. lists_with (settings_in s fragment b.dropins) b.name l) links ∙ sym q.deps_are;
+            p.deps_are ∙ ap (λ ps. lists_with s.profile (settings_in s fragment ps) a.name p.links) dropins
+            ∙ ap (λ n. lists_with s.profile (settings_in s fragment b.dropins) n p.links) name
+            ∙ ap (λ l. lists_with s.profile (settings_in s fragment b.dropins) b.name l) links ∙ sym q.deps_are;
         notes =
-            p.notes_are ∙ ap (λ ps. file_notes s (fragment ∷ ps) ++ map note.Setting (setting_notes (items_of s (fragment ∷ ps)) a.name p.links)) dropins
-            ∙ ap (λ n. file_notes s (fragment ∷ b.dropins) ++ map note.Setting (setting_notes (items_of s (fragment ∷ b.dropins)) n p.links)) name
-            ∙ ap (λ l. file_notes s (fragment ∷ b.dropins) ++ map note.Setting (setting_notes (items_of s (fragment ∷ b.dropins)) b.name l)) links
+            p.notes_are ∙ ap (λ ps. file_notes s (fragment ∷ ps) ++ map note.Setting (setting_notes s.profile (items_of s (fragment ∷ ps)) a.name p.links)) dropins
+            ∙ ap (λ n. file_notes s (fragment ∷ b.dropins) ++ map note.Setting (setting_notes s.profile (items_of s (fragment ∷ b.dropins)) n p.links)) name
+            ∙ ap (λ l. file_notes s (fragment ∷ b.dropins) ++ map note.Setting (setting_notes s.profile (items_of s (fragment ∷ b.dropins)) b.name l)) links
             ∙ sym q.notes_are;
         manual = p.manual_is ∙ ap (λ ps. refuses (settings_in s fragment ps)) dropins ∙ sym q.manual_is;
       }

@@ -1,7 +1,7 @@
 -- One loaded unit: the effective settings of its files and its links.
 -- Source: systemd.unit(5), "Description" and "Unit File Load Path"; the order of the notes is this project's own.
 use Rattle.std.proofs.Common.{◌++◌, ◌↔◌, ◌∷◌, ◌≡◌}
-use Rattle.unit_loads.specs.Prelude.{[], AreNames, Assignment, assignments_of, BadName, boolean_notes, Choice, Contains, Content, content_at, DependencyList, DepKind, escape_notes, false, File, file_name, filter, filter_map, flat_map, Folder, for_unit, Gone, HostViewMap, in_byte_order, is_none, IsDropInAt, IsLinked, IsStrictlySortedBy, key_for, Link, List, main, map, Name, name_cmp, names_by, None, note_on, notes_of, Option, PlaceParts, refuses, Requires, resolution, rows_of, settable, SettingMap, SettingNote, settings_of, Some, Wants, word_notes, words_for, ℕ}
+use Rattle.unit_loads.specs.Prelude.{[], AreNames, Assignment, assignments_of, BadName, boolean_notes, Choice, Contains, Content, content_at, DependencyList, DepKind, escape_notes, false, File, file_name, filter, filter_map, flat_map, Folder, for_unit, Gone, HostViewMap, in_byte_order, is_none, IsDropInAt, IsLinked, IsStrictlySortedBy, key_for, Link, List, main, map, Name, name_cmp, names_by, naming_kinds, None, note_on, notes_of, Option, PlaceParts, Profile, refuses, Requires, resolution, rows_of, SettingMap, SettingNote, settings_of, Some, Wants, word_notes, words_for, ℕ}
 use Rattle.unit_loads.specs.declared.{links.LinkNames.{LinkNames}, units.{Status.{Status, TheVariants.{Bad, Loaded, Masked, NotFound}}, Unit.{Unit as LoadedUnit}, UnitNote.{UnitNote}}}
 use Rattle.setting_rules.specs.declared.kinds.DepKind.TheVariants as kind
 use Rattle.fragment_choice.specs.declared.choices.Choice.TheVariants as choice
@@ -66,24 +66,24 @@ link_notes unit dep links = map (λ _. note_on (key_for dep) BadName) (filter (�
 -- ---- dependencies and notes
 
 -- the names that a unit's words and links give for a kind
-abbrev pub list_with : SettingMap → Name → LinkNames → DepKind → DependencyList
-list_with entries unit links dep = record { kind = dep; names = in_byte_order (names_by unit (words_for entries dep) ++ linked_by unit (links_for links dep)) }
+abbrev pub list_with : Profile → SettingMap → Name → LinkNames → DepKind → DependencyList
+list_with profile entries unit links dep = record { kind = dep; names = in_byte_order (names_by unit (words_for profile entries dep) ++ linked_by unit (links_for links dep)) }
 
--- A list for each kind that a unit file may set, in the order of the kinds.
-abbrev pub lists_with : SettingMap → Name → LinkNames → List DependencyList
-lists_with entries unit links = map (list_with entries unit links) settable
+-- A list for each kind by which a unit may name another, in the order of the kinds.
+abbrev pub lists_with : Profile → SettingMap → Name → LinkNames → List DependencyList
+lists_with profile entries unit links = map (list_with profile entries unit links) naming_kinds
 
 -- the same with no names
 abbrev pub no_names : List DependencyList
-no_names = map (λ dep. record { kind = dep; names = [] }) settable
+no_names = map (λ dep. record { kind = dep; names = [] }) naming_kinds
 
 -- the notes on words and then on links
-abbrev pub dependency_notes : SettingMap → Name → LinkNames → List SettingNote
-dependency_notes entries unit links = word_notes entries unit ++ link_notes unit kind.Wants links.wanted ++ link_notes unit kind.Requires links.required
+abbrev pub dependency_notes : Profile → SettingMap → Name → LinkNames → List SettingNote
+dependency_notes profile entries unit links = word_notes profile entries unit ++ link_notes unit kind.Wants links.wanted ++ link_notes unit kind.Requires links.required
 
 -- the notes on settings: on booleans, on values that can't be expanded, on dependencies
-abbrev pub setting_notes : List Assignment → Name → LinkNames → List SettingNote
-setting_notes items unit links = boolean_notes items ++ escape_notes (settings_of items) unit ++ dependency_notes (settings_of items) unit links
+abbrev pub setting_notes : Profile → List Assignment → Name → LinkNames → List SettingNote
+setting_notes profile items unit links = boolean_notes profile items ++ escape_notes profile (settings_of profile items) unit ++ dependency_notes profile (settings_of profile items) unit links
 
 -- ---- the unit
 
@@ -97,16 +97,16 @@ IsStatus (choice.Bad cause) status = status ≡ Bad cause
 
 -- the settings of a unit with this fragment and these drop-ins
 abbrev pub settings_in : HostViewMap → PlaceParts → List PlaceParts → SettingMap
-settings_in s fragment dropins = settings_of (items_of s (fragment ∷ dropins))
+settings_in s fragment dropins = settings_of s.profile (items_of s (fragment ∷ dropins))
 
 -- the unit has the effective settings of its files and links, with its fragment at this place
 pub record HasSettings (s : HostViewMap) (fragment : PlaceParts) (unit : LoadedUnit) : Type 0 where
   pub dropins_are : AreDropIns s unit.names unit.dropins
   pub links : LinkNames
   pub links_are : AreLinkNames s unit.names links
-  pub values_are : unit.values ≡ rows_of (settings_in s fragment unit.dropins) unit.name
-  pub deps_are : unit.deps ≡ lists_with (settings_in s fragment unit.dropins) unit.name links
-  pub notes_are : unit.notes ≡ file_notes s (fragment ∷ unit.dropins) ++ map note.Setting (setting_notes (items_of s (fragment ∷ unit.dropins)) unit.name links)
+  pub values_are : unit.values ≡ rows_of s.profile (settings_in s fragment unit.dropins) unit.name
+  pub deps_are : unit.deps ≡ lists_with s.profile (settings_in s fragment unit.dropins) unit.name links
+  pub notes_are : unit.notes ≡ file_notes s (fragment ∷ unit.dropins) ++ map note.Setting (setting_notes s.profile (items_of s (fragment ∷ unit.dropins)) unit.name links)
   pub manual_is : unit.manual ≡ refuses (settings_in s fragment unit.dropins)
 
 -- the unit has neither drop-ins nor settings, and names no other

@@ -8,6 +8,7 @@ use crate::files::UnitText;
 use crate::links::LinkNames;
 use crate::units::UnitNote;
 use plain_values::Items;
+use profiles::Profile;
 use section_reader::Assignment;
 use setting_rules::{
     DependencyList, Row, SettingNote, Settings, apply, refuses_manual_start, values,
@@ -21,7 +22,7 @@ use unit_name::UnitName;
 pub(crate) struct EffectiveSettings {
     /// The values of keys that set no dependencies.
     pub values: Items<Row>,
-    /// The names that words and links give, for each kind that a unit file may set.
+    /// The names that words and links give, for each kind by which a unit may name another.
     pub deps: Items<DependencyList>,
     /// What is wrong in files, with settings, and with links.
     pub notes: Items<UnitNote>,
@@ -30,21 +31,22 @@ pub(crate) struct EffectiveSettings {
 }
 
 impl EffectiveSettings {
-    /// Evaluates the text and the link names of the unit with a name. Fails only if memory runs out.
+    /// Evaluates by a profile the text and the link names of the unit with a name. Fails only if memory runs out.
     pub fn of(
         alloc: Global,
+        profile: Profile,
         unit: &UnitName,
         text: UnitText,
         links: LinkNames,
     ) -> Result<EffectiveSettings, AllocError>
-        ensures values { IfOk result (λ it. it.values ≡ rows_of (settings_of text.items) unit.now) }
-        ensures deps { IfOk result (λ it. it.deps ≡ lists_with (settings_of text.items) unit.now links) }
+        ensures values { IfOk result (λ it. it.values ≡ rows_of profile (settings_of profile text.items) unit.now) }
+        ensures deps { IfOk result (λ it. it.deps ≡ lists_with profile (settings_of profile text.items) unit.now links) }
         ensures notes { IfOk result (λ it. it.notes
-            ≡ text.notes ++ map UnitNote.Setting (setting_notes text.items unit.now links)) }
-        ensures manual { IfOk result (λ it. it.manual ≡ refuses (settings_of text.items)) }
+            ≡ text.notes ++ map UnitNote.Setting (setting_notes profile text.items unit.now links)) }
+        ensures manual { IfOk result (λ it. it.manual ≡ refuses (settings_of profile text.items)) }
     {
         let UnitText { items, mut notes } = text;
-        let outcome = Outcome::of(alloc, items.as_slice(), unit, links)?;
+        let outcome = Outcome::of(alloc, profile, items.as_slice(), unit, links)?;
         add_setting_notes(&mut notes, outcome.notes)?;
         Ok(EffectiveSettings {
             values: outcome.values,
@@ -65,19 +67,20 @@ struct Outcome {
 }
 
 impl Outcome {
-    // Evaluates assignments and links for a unit.
+    // Evaluates assignments and links for a unit by a profile.
     fn of(
         alloc: Global,
+        profile: Profile,
         items: &[Assignment],
         unit: &UnitName,
         links: LinkNames,
     ) -> Result<Outcome, AllocError>
-        ensures values { IfOk result (λ it. it.values ≡ rows_of (settings_of items.now) unit.now) }
-        ensures deps { IfOk result (λ it. it.deps ≡ lists_with (settings_of items.now) unit.now links) }
-        ensures notes { IfOk result (λ it. it.notes ≡ setting_notes items.now unit.now links) }
-        ensures manual { IfOk result (λ it. it.manual ≡ refuses (settings_of items.now)) }
+        ensures values { IfOk result (λ it. it.values ≡ rows_of profile (settings_of profile items.now) unit.now) }
+        ensures deps { IfOk result (λ it. it.deps ≡ lists_with profile (settings_of profile items.now) unit.now links) }
+        ensures notes { IfOk result (λ it. it.notes ≡ setting_notes profile items.now unit.now links) }
+        ensures manual { IfOk result (λ it. it.manual ≡ refuses (settings_of profile items.now)) }
     {
-        let mut settings = apply(alloc, items)?;
+        let mut settings = apply(alloc, profile, items)?;
         let notes = mem::replace(&mut settings.notes, Items::new(alloc));
         Outcome::of_settings(alloc, &settings, notes, unit, links)
     }
@@ -90,10 +93,11 @@ impl Outcome {
         unit: &UnitName,
         links: LinkNames,
     ) -> Result<Outcome, AllocError>
-        ensures values { IfOk result (λ it. it.values ≡ rows_of settings.now.map unit.now) }
-        ensures deps { IfOk result (λ it. it.deps ≡ lists_with settings.now.map unit.now links) }
+        ensures values { IfOk result (λ it. it.values ≡ rows_of settings.now.profile settings.now.map unit.now) }
+        ensures deps { IfOk result (λ it. it.deps ≡ lists_with settings.now.profile settings.now.map unit.now links) }
         ensures notes { IfOk result (λ it. it.notes
-            ≡ noted ++ escape_notes settings.now.map unit.now ++ dependency_notes settings.now.map unit.now links) }
+            ≡ noted ++ escape_notes settings.now.profile settings.now.map unit.now
+            ++ dependency_notes settings.now.profile settings.now.map unit.now links) }
         ensures manual { IfOk result (λ it. it.manual ≡ refuses settings.now.map) }
     {
         let mut notes = noted;

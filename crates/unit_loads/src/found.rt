@@ -22,8 +22,8 @@ pub(crate) struct UnitParts {
 }
 
 impl UnitParts {
-    /// Loads the drop-ins and settings of the unit with these names and its fragment at this place. Its folders are
-    /// listed once, for drop-ins and for links. Fails only if memory runs out.
+    /// Loads the drop-ins and settings of the unit with these names and its fragment at this place, by the profile of
+    /// the view. Its folders are listed once, for drop-ins and for links. Fails only if memory runs out.
     pub fn of(
         alloc: Global,
         view: &HostView,
@@ -69,7 +69,7 @@ impl UnitParts {
         ensures found { IfOk result (EvaluatesTo view.now fragment.now dropins.now name.now links) }
     {
         let text = UnitText::of(alloc, view, fragment, dropins)?;
-        let effective = EffectiveSettings::of(alloc, name, text, links)?;
+        let effective = EffectiveSettings::of(alloc, view.profile(), name, text, links)?;
         let dropins = places_of(alloc, view, dropins)?;
         Ok(UnitParts {
             dropins: Items::from_vec(dropins),

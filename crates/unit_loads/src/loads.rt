@@ -15,7 +15,7 @@ use unit_name::UnitName;
 
 /// Returns the unit with a main name, in the store of an index. Its dependencies are the names that its words and links
 /// give, which aren't resolved to main names yet (systemd.unit(5)). A template gives a unit too, as if it had no
-/// instance, but no load asks for one.
+/// instance, but no load asks for one. Its files are evaluated by the profile of the index's view.
 ///
 /// Its folders are listed once, for drop-ins and for links, and the entries that count are borrowed from the store.
 /// Besides the look-ups for its names and in these folders it is linear in the bytes of its files and of their
@@ -110,12 +110,12 @@ fn unloaded(
     })
 }
 
-// An empty list of names for each kind that a unit file may set.
+// An empty list of names for each kind by which a unit may name another.
 fn lists_without_names(alloc: Global) -> Result<Items<DependencyList>, AllocError>
     ensures lists { IfOk result (λ lists. lists ≡ no_names) }
 {
     let mut lists = Items::new(alloc);
-    for kind in DepKind::settable() {
+    for kind in DepKind::naming() {
         lists.push(DependencyList {
             kind: *kind,
             names: Items::new(alloc),

@@ -84,8 +84,8 @@ pub struct Unit {
     pub dropins: Items<Place>,
     /// The values of keys that set no dependencies, in the order of the keys.
     pub values: Items<Row>,
-    /// For each kind that a unit file may set, in the order of the kinds, the names that words and links give, in byte
-    /// order.
+    /// For each kind by which a unit may name another, in the order of the kinds, the names that words and links give,
+    /// in byte order.
     pub deps: Items<DependencyList>,
     /// What is wrong with lines, file by file; then with booleans, with other values, with words, and with links.
     pub notes: Items<UnitNote>,

@@ -1,10 +1,12 @@
-//! Calls on settings: the texts of a unit's files, and the unit's name if a call takes one.
+//! Calls on settings: the texts of a unit's files, and the unit's name if a call takes one. They are evaluated by files
+//! alone; after the word `manager` as a manager does.
 //!
 //! A value is written as `SECTION.KEY=VALUE`, a key with its values as `SECTION.KEY=` and these, a list of dependencies
 //! as its kind and `:` and the names, and a note as its code and `SECTION.KEY`.
 use crate::edits::append_names;
 use crate::sections::read_word;
 use plain_values::{Bytes, Items};
+use profiles::Profile;
 use section_reader::Assignment;
 use setting_rules::{
     DepKind, Dependencies, SettingNote, Settings, Values, apply, dependencies, for_unit,
@@ -17,20 +19,33 @@ use worked_lines::{Answer, LineFault, Words, match_word};
 pub fn answer(words: &mut Words, out: &mut Answer) -> Result<(), LineFault> {
     let call = words.word()?;
     match_word!(call;
+        b"manager" => answer_by(Profile::Manager, words.word()?, words, out),
+        _ => answer_by(Profile::Files, call, words, out),
+    )
+}
+
+// The answer to a call by a profile.
+fn answer_by(
+    profile: Profile,
+    call: &[u8],
+    words: &mut Words,
+    out: &mut Answer,
+) -> Result<(), LineFault> {
+    match_word!(call;
         b"kinds" => {
             append_kinds(out);
             Ok(())
         },
         b"key" => {
-            append_kind_of(out, &words.text()?);
+            append_kind_of(out, profile, &words.text()?);
             Ok(())
         },
         b"for" => returned_name(words, out),
         b"apply" | b"manual" => {
-            of_files(call, &settings(words)?, out);
+            of_files(call, &settings(profile, words)?, out);
             Ok(())
         },
-        _ => returned(call, words, out),
+        _ => returned(profile, call, words, out),
     )
 }
 
@@ -43,9 +58,14 @@ fn of_files(call: &[u8], settings: &Settings, out: &mut Answer) {
 }
 
 // The answer to a call on a unit and its files.
-fn returned(call: &[u8], words: &mut Words, out: &mut Answer) -> Result<(), LineFault> {
+fn returned(
+    profile: Profile,
+    call: &[u8],
+    words: &mut Words,
+    out: &mut Answer,
+) -> Result<(), LineFault> {
     let unit = words.name()?;
-    of_unit(call, &unit, &settings(words)?, out)
+    of_unit(call, &unit, &settings(profile, words)?, out)
 }
 
 // The answer to a call on a unit and the effective settings of its files.
@@ -76,10 +96,10 @@ fn assignments(words: &mut Words) -> Result<Items<Assignment>, LineFault> {
     Ok(all)
 }
 
-// The effective settings of the files that a list of words spells.
-fn settings(words: &mut Words) -> Result<Settings, LineFault> {
+// The effective settings by a profile of the files that a list of words spells.
+fn settings(profile: Profile, words: &mut Words) -> Result<Settings, LineFault> {
     let assignments = assignments(words)?;
-    Ok(apply(words.alloc, assignments.as_slice())?)
+    Ok(apply(words.alloc, profile, assignments.as_slice())?)
 }
 
 // Writes a key of a section, after a space unless nothing is written yet.
@@ -150,9 +170,9 @@ fn append_kinds(out: &mut Answer) {
     }
 }
 
-// Writes the kind that a key sets.
-fn append_kind_of(out: &mut Answer, key: &[u8]) {
-    match DepKind::of_key(key) {
+// Writes the kind that a key sets by a profile.
+fn append_kind_of(out: &mut Answer, profile: Profile, key: &[u8]) {
+    match DepKind::of_key(profile, key) {
         Some(kind) => out.write(kind.word().as_bytes()),
         None => out.write(b"none"),
     }

@@ -9,6 +9,6 @@ pub loop-place-preserved : goal.loop-place-preserved
 unfolding rows_of escape_notes
 loop-place-preserved c =
     let unit = c.args.unit.now in (
-      keys_more (rows_at unit) c.args.settings.now.map c.loop-place.place c.entry.result.0.now c.entry.result.1.now c.loop-place.values.rows c.add_key.new.self.rows c.entry.ensures.entry c.loop-place.invariant.0 c.in_ok-add_key.ensures.rows,
-      keys_more (escape_notes_at unit) c.args.settings.now.map c.loop-place.place c.entry.result.0.now c.entry.result.1.now c.loop-place.values.notes c.add_key.new.self.notes c.entry.ensures.entry c.loop-place.invariant.1 c.in_ok-add_key.ensures.notes,
+      keys_more c.args.settings.now.profile (rows_at unit) c.args.settings.now.map c.loop-place.place c.entry.result.0.now c.entry.result.1.now c.loop-place.values.rows c.add_key.new.self.rows c.entry.ensures.entry c.loop-place.invariant.0 c.in_ok-add_key.ensures.rows,
+      keys_more c.args.settings.now.profile (escape_notes_at unit) c.args.settings.now.map c.loop-place.place c.entry.result.0.now c.entry.result.1.now c.loop-place.values.notes c.add_key.new.self.notes c.entry.ensures.entry c.loop-place.invariant.1 c.in_ok-add_key.ensures.notes,
     )

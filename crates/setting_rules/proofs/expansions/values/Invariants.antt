@@ -4,4 +4,4 @@ use Rattle.setting_rules.proofs.expansions.values.Given as goal
 
 abbrev pub invariant-loop-place : goal.invariant-loop-place
 invariant-loop-place l =
-    (l.values.rows ≡ rows_of (take l.place l.settings.map) l.unit) × (l.values.notes ≡ escape_notes (take l.place l.settings.map) l.unit)
+    (l.values.rows ≡ rows_of l.settings.profile (take l.place l.settings.map) l.unit) × (l.values.notes ≡ escape_notes l.settings.profile (take l.place l.settings.map) l.unit)

@@ -6,4 +6,4 @@ use Rattle.setting_rules.proofs.settings.apply.Given as goal
 abbrev pub invariant-loop-index : goal.invariant-loop-index
 invariant-loop-index l =
     let so_far = take l.index l.assignments in
-    (l.settings.map ≡ pairs (kept l.starts.conditions l.starts.assertions so_far) (keys_of so_far)) × (l.settings.notes ≡ boolean_notes so_far)
+    (l.settings.map ≡ pairs (kept l.profile l.starts.conditions l.starts.assertions so_far) (keys_of l.profile so_far)) × (l.settings.notes ≡ boolean_notes l.profile so_far) × (l.settings.profile ≡ l.profile)

@@ -1,6 +1,6 @@
 use Rattle.std.proofs.Common.{◌<◌, ◌↔◌, ◌∷◌, ◌≡◌}
-use Rattle.start_plan.proofs.Prelude.{[], After, ap, AreAdjacencyOf, AreBitsBy, AreSuccessorsOf, Conflicts, count_of, false, is_loaded, is_manual, IsAmong, IsIndexFor, IsKnown, IsMember, length, List, LoadMap, main_of, MatchOption, Name, name_at, needing, neighbors, neighbors-start, opposite_is, Option, refl, Requisite, subst, successors-start, successors_from, sym, transposed_from, tying, unit_in, Vec, Wants, ℕ, ◌∙◌}
-use Rattle.start_plan.proofs.{BitSets.{bits_named}, Casing.{edge_successors, main_is, opposite_successors, running_known, running_named}}
+use Rattle.start_plan.proofs.Prelude.{[], After, ap, AreAdjacencyOf, AreBitsBy, AreSuccessorsOf, Conflicts, count_of, false, is_loaded, is_manual, IsAmong, IsIndexFor, IsKnown, IsMember, length, List, LoadMap, main_of, MatchOption, Name, name_at, needing, neighbors, neighbors-start, opposite_is, Option, refl, Requisite, subst, successors-start, successors_from, sym, transposed_from, tying, unit_in, weak, ℕ, ◌∙◌}
+use Rattle.start_plan.proofs.{BitSets.{bits_named, none_named}, Casing.{edge_successors, main_is, opposite_successors, running_known, running_named}}
 use Rattle.start_plan.proofs.cases.case_of.Goals as goal
 
 pub returns-clause-case : goal.returns-clause-case
@@ -14,17 +14,19 @@ returns-clause-case c =
     let target : name_at load i ≡ main_of load request.target = n.index_is.named ∙ sym (main_is load request.target n.main n.stands) in
     let L : LoadMap → Type 0 = λ m. AreBitsBy m is_loaded c.in_ok-status.status.loaded.items in
     let R : LoadMap → Type 0 = λ m. AreBitsBy m is_manual c.in_ok-status.status.manual.items in
-    let refuses = subst R c.loaded.ensures.load c.in_ok-status.ensures.manual in
+    let refuses = subst R c.loaded-loaded.ensures.load c.in_ok-status.ensures.manual in
     let N : List Name → Type 0 = λ ns. (j : ℕ) → IsMember c.in_ok-running.running.items j ↔ ((m : Name) × IsAmong m ns × IsIndexFor load m j) in
     record {
       below = n.index_is.below;
+      profile = ap (λ v. v.profile) c.viewer.ensures.viewer ∙ ap (λ m. m.viewer.profile) c.loaded-loaded.ensures.load;
       target = target;
       refuses = ap (λ u. is_manual (unit_in load u)) (sym target) ∙ sym (refuses.each i false n.index_is.below);
-      loaded = bits_named load is_loaded refl c.in_ok-status.status.loaded.items (subst L c.loaded.ensures.load c.in_ok-status.ensures.loaded);
+      loaded = bits_named load is_loaded refl c.in_ok-status.status.loaded.items (subst L c.loaded-loaded.ensures.load c.in_ok-status.ensures.loaded);
       running = running_named load request.running (running_known load request c.requires.names c.requires.whole) c.in_ok-running.running.items
           (subst N c.as_slice.ensures.elements c.in_ok-running.ensures.bits);
+      perpetual = none_named load _ c.in_ok-perpetual.perpetual.items c.in_ok-perpetual.ensures.none;
       needs = edge_successors load edges needing (successors_from c.in_ok-needing.needing.successors) c.in_ok-needing.ensures.successors;
-      wants = edge_successors load edges (Wants ∷ []) (successors_from c.in_ok-asked.asked.wants) c.in_ok-asked.ensures.wants;
+      wants = edge_successors load edges weak (successors_from c.in_ok-asked.asked.wants) c.in_ok-asked.ensures.wants;
       requisites = edge_successors load edges (Requisite ∷ []) (successors_from c.in_ok-asked.asked.requisites) c.in_ok-asked.ensures.requisites;
       conflicts = edge_successors load edges (Conflicts ∷ []) (neighbors c.adjacency.result.now) c.adjacency.ensures.successors;
       predecessors = edge_successors load edges (After ∷ []) (neighbors c.adjacency-3.result.now) c.adjacency-3.ensures.successors;
@@ -40,19 +42,20 @@ invariant_of-result c =
     let index = subst M c.unwrap-target.ensures c.index.ensures.index in
     let L : LoadMap → Type 0 = λ m. AreBitsBy m is_loaded c.in_ok-status.status.loaded.items in
     let R : LoadMap → Type 0 = λ m. AreBitsBy m is_manual c.in_ok-status.status.manual.items in
-    let n : length c.in_ok-status.status.loaded.items ≡ count_of load = (subst L c.loaded.ensures.load c.in_ok-status.ensures.loaded).units in
-    let refuses : length c.in_ok-status.status.manual.items ≡ count_of load = (subst R c.loaded.ensures.load c.in_ok-status.ensures.manual).units in
+    let n : length c.in_ok-status.status.loaded.items ≡ count_of load = (subst L c.loaded-loaded.ensures.load c.in_ok-status.ensures.loaded).units in
+    let refuses : length c.in_ok-status.status.manual.items ≡ count_of load = (subst R c.loaded-loaded.ensures.load c.in_ok-status.ensures.manual).units in
     let T : ℕ → Type 0 = λ k. c.unwrap-target.result < k in
     let S : List (List (List ℕ)) → ℕ → Type 0 = λ successors k. AreSuccessorsOf k successors in
     let W : List (List ℕ) → ℕ → Type 0 = λ adjacency k. AreAdjacencyOf k adjacency in
-    let inverses = c.loaded.ensures.inverses in
-    let order = c.loaded.ensures.order in
+    let inverses = c.loaded-loaded.ensures.inverses in
+    let order = c.loaded-loaded.ensures.order in
     let needs = c.in_ok-needing.ensures in
     let ties = c.in_ok-tying.ensures in
     record {
       valid_target = subst T (sym n) index.index_is.below;
       valid_refuses = refuses ∙ sym n;
       valid_running = c.in_ok-running.ensures.units ∙ sym n;
+      valid_perpetual = c.in_ok-perpetual.ensures.units ∙ ap length c.names.ensures.names ∙ ap count_of c.loaded-loaded.ensures.load ∙ sym n;
       valid_needs = subst (S c.in_ok-needing.needing.successors) (sym n) needs.within;
       valid_needed_by = subst (S c.in_ok-needing.needing.inverses) (sym n) needs.inverses_within;
       valid_wants = subst (S c.in_ok-asked.asked.wants) (sym n) c.in_ok-asked.ensures.wants_within;

@@ -16,7 +16,7 @@ returns-in-Err c =
       all = tt;
       refusal = record {
         stands = rw c.from_vec.ensures.elements (cycle_same (IsMember starting) (Starts nat_cmp (case_of case)) (Precedes case.predecessors.now) same c.in-Err.cycle.items here);
-        clear = c.requires;
+        clear = c.requires.clear;
       };
     }
 
@@ -36,7 +36,7 @@ returns c =
     let none_here = subst (λ m. (u : ℕ) → ¬ IsStuck (IsMember m) (Precedes case.predecessors.now) u) c.deref-3.ensures.value none in
     record {
       plan = record {
-        clear = clear_7 case c.requires (λ u s. none_here u (stuck_back (IsMember starting) (Starts nat_cmp (case_of case)) (Precedes case.predecessors.now) same u s));
+        clear = clear_7 case c.requires.clear (λ u s. none_here u (stuck_back (IsMember starting) (Starts nat_cmp (case_of case)) (Precedes case.predecessors.now) same u s));
         stopped = c.in_ok-stops-in-Ok.ensures;
         started = start_list_same (IsMember starting) (Starts nat_cmp (case_of case)) (Precedes case.predecessors.now) same c.in-Ok.starts.items list_here;
       };

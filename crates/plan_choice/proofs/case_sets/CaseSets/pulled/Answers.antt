@@ -1,24 +1,13 @@
-use Rattle.std.proofs.Common.{◌++◌, ◌<◌, ◌↔◌, ◌∷◌, ◌≡◌}
-use Rattle.plan_choice.proofs.Prelude.{[], All, ap, AreSuccessorsOf, Bool, count_of, IfOk, IndexedCase, IsMember, IsReached, LeadsInside, length, List, Listed, subst, sym, within-both, ℕ, ◌∙◌}
-use Rattle.plan_choice.proofs.{ChoiceLemmas.{bits_are, pulled_is}, Fitting.{one_place, successors_fit}}
+use Rattle.std.proofs.Common.{◌∷◌}
+use Rattle.plan_choice.proofs.Prelude.{[], AreBitsOf, case_of, count_of, IfOk, IndexedCase, IsGoing, IsGood, IsPulled, subst, sym}
+use Rattle.plan_choice.proofs.ChoiceLemmas.{bits_are, pulled_is}
 use Rattle.plan_choice.proofs.case_sets.CaseSets.pulled.Goals as goal
-
-pub reached_inside-requires : goal.reached_inside-requires
-reached_inside-requires c =
-    let case = c.args.self.now in
-    let units : length c.deref.result.now ≡ count_of case = ap (λ l. length l) c.deref.ensures.value ∙ c.in_ok-good.ensures.units in
-    let P : List (List (List ℕ)) → Type 0 = λ ks. AreSuccessorsOf (length c.deref.result.now) ks in
-    let Q : ℕ → Type 0 = λ n. All (λ v. v < n) (case.target ∷ []) in
-    record {
-      successors = subst P (sym c.requires.asks) (successors_fit _ (count_of case) (case.needs ++ case.wants) (within-both (count_of case) case.needs case.wants case.valid_needs case.valid_wants) units);
-      sources = subst (λ (adjacency : IndexedCase). All (λ v. v < length c.deref.result.now) (adjacency.target ∷ [])) (sym c.self.view_is) (subst Q (sym units) (one_place (count_of case) case.target case.valid_target));
-    }
 
 pub returns : goal.returns
 returns c =
-    let case = c.args.self.now in
-    let units : length c.deref.result.now ≡ count_of case = ap (λ l. length l) c.deref.ensures.value ∙ c.in_ok-good.ensures.units in
-    let P : List Bool → List (List (List ℕ)) → Type 0 = λ m ks. IfOk c.reached_inside.result (λ bits. (v : ℕ) → IsMember bits.items v ↔ IsReached (Listed (case.target ∷ [])) (LeadsInside m ks) v) in
-    let there = subst (λ (adjacency : IndexedCase). IfOk c.reached_inside.result (λ bits. (v : ℕ) → IsMember bits.items v ↔ IsReached (Listed (adjacency.target ∷ [])) (LeadsInside c.deref.result.now c.args.asks.now) v)) c.self.view_is c.reached_inside.ensures.reached in
-    let reached = subst (λ m. P m (case.needs ++ case.wants)) c.deref.ensures.value (subst (P c.deref.result.now) c.requires.asks there) in
-    bits_are _ _ _ _ units (pulled_is case c.requires.clear c.in_ok-good.good.items c.in_ok-good.ensures) c.reached_inside.result c.reached_inside.ensures.units reached
+    let case = c.self.inside.case.now in
+    let good = subst (λ (adjacency : IndexedCase). AreBitsOf (count_of adjacency) (IsGood (case_of adjacency)) c.deref.result.now) (sym c.self.view_is) (subst (AreBitsOf (count_of c.args.self.now) (IsGood (case_of c.args.self.now))) (sym c.deref.ensures.value) c.in_ok-good.ensures) in
+    let going = subst (AreBitsOf (count_of case) (IsGoing (count_of case) (case_of case) (case.target ∷ []))) (sym c.deref-2.ensures.value) c.self.invariant.at_going in
+    let here : IfOk c.reached_on.result (λ bits. AreBitsOf (count_of case) (IsPulled (case_of case)) bits.items) =
+    bits_are _ _ _ _ going.units (pulled_is case c.deref.result.now c.deref-2.result.now good going) c.reached_on.result c.reached_on.ensures.units c.reached_on.ensures.reached in
+    subst (λ (adjacency : IndexedCase). IfOk c.reached_on.result (λ bits. AreBitsOf (count_of adjacency) (IsPulled (case_of adjacency)) bits.items)) c.self.view_is here

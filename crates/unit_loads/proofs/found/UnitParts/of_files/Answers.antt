@@ -1,23 +1,32 @@
 use Rattle.std.proofs.Common.{◌++◌}
-use Rattle.unit_loads.proofs.Prelude.{ap, items_with, lists_with, map, refuses, rows_of, setting_notes, settings_of, ◌∙◌}
+use Rattle.unit_loads.proofs.Prelude.{ap, borrowed_notes, items_with, lists_with, map, notes_at, refuses, rows_of, setting_notes, settings_of, ◌∙◌}
 use Rattle.unit_loads.specs.declared.units.UnitNote.TheVariants as note
 use Rattle.unit_loads.proofs.found.UnitParts.of_files.Goals as goal
 
 pub returns : goal.returns
 returns c =
+    let profile = c.profile.result in
+    let by = c.profile.ensures.profile in
     let name = c.args.name.now in
     let links = c.args.links in
     let text = c.in_ok-text.ensures in
     let effective = c.in_ok-effective.ensures in
     let items = items_with c.args.view.now c.args.fragment.now c.args.dropins.now in
+    let lines = c.in_ok-text.text.notes in
     record {
       found = record {
         dropins = c.from_vec.ensures.elements ∙ c.in_ok-dropins.ensures.places;
-        values = effective.values ∙ ap (λ xs. rows_of (settings_of xs) name) text.items;
-        deps = effective.deps ∙ ap (λ xs. lists_with (settings_of xs) name links) text.items;
+        values =
+            effective.values ∙ ap (λ xs. rows_of profile (settings_of profile xs) name) text.items
+            ∙ ap (λ p. rows_of p (settings_of p items) name) by;
+        deps =
+            effective.deps ∙ ap (λ xs. lists_with profile (settings_of profile xs) name links) text.items
+            ∙ ap (λ p. lists_with p (settings_of p items) name links) by;
         notes =
-            effective.notes ∙ ap (λ xs. c.in_ok-text.text.notes ++ map note.Setting (setting_notes xs name links)) text.items
-            ∙ ap (λ ns. ns ++ map note.Setting (setting_notes items name links)) text.notes;
-        manual = effective.manual ∙ ap (λ xs. refuses (settings_of xs)) text.items;
+            effective.notes ∙ ap (λ xs. lines ++ map note.Setting (setting_notes profile xs name links)) text.items
+            ∙ ap (λ ns. ns ++ map note.Setting (setting_notes profile items name links)) text.notes
+            ∙ ap (λ p. (notes_at c.args.view.now c.args.fragment.now ++ borrowed_notes c.args.view.now c.args.dropins.now) ++ map note.Setting (setting_notes p items name links)) by;
+        manual =
+            effective.manual ∙ ap (λ xs. refuses (settings_of profile xs)) text.items ∙ ap (λ p. refuses (settings_of p items)) by;
       };
     }

@@ -1,5 +1,5 @@
 use Rattle.setting_rules.{proofs.Prelude.{has_bytes, is_white, map_from_collect, rules, tests, YieldsList-at, YieldsList-from_filter, YieldsList-from_slice_split}, specs.Words.{words_of}}
-use Rattle.setting_rules.proofs.words.words.Goals as goal
+use Rattle.setting_rules.proofs.word_lists.words.Goals as goal
 
 pub returns : goal.returns
 unfolding words_of

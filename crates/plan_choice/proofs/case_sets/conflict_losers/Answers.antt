@@ -1,7 +1,7 @@
 use Rattle.std.proofs.Common.{◌<◌, ◌↔◌, ◌≡◌}
-use Rattle.plan_choice.proofs.Prelude.{ap, arith, Bool, case_of, count_of, false, Global, IsAmong, IsLoser, IsMember, IsMember-none, IsMember-within, IsTrue, length, List, neighbors_of, SetsBits, subst, sym, true, Vec, ℕ, ◌∙◌}
-use Rattle.plan_choice.proofs.{case_sets.losers.Goals.{else-lost, else-lost-via-else-lost, else-lost-via-then-lost+else-is_extra, then-lost+then-is_extra+in_ok-push}, ChoiceLemmas.{bits_of_neighbors, clean_again, loser_is, loser_was}, Fitting.{neighbors_fits, untrue}, WeakDependencyLemmas.{listed_more, listed_still}}
-use Rattle.plan_choice.proofs.case_sets.losers.Goals as goal
+use Rattle.plan_choice.proofs.Prelude.{ap, arith, Bool, count_of, false, Global, IsAmong, IsMember, IsMember-none, IsMember-within, IsTrue, length, List, neighbors_of, SetsBits, subst, sym, true, Vec, ℕ, ◌∙◌}
+use Rattle.plan_choice.proofs.{case_sets.conflict_losers.Goals.{else-lost, else-lost-via-else-lost, else-lost-via-then-lost+else-is_extra, then-lost+then-is_extra+in_ok-push}, ChoiceLemmas.{bits_of_neighbors, clean_again, loser_is, loser_was, LosesConflict}, Fitting.{neighbors_fits, untrue}, WeakDependencyLemmas.{listed_more, listed_still}}
+use Rattle.plan_choice.proofs.case_sets.conflict_losers.Goals as goal
 
 pub loop-unit-init : goal.loop-unit-init
 loop-unit-init c = record {
@@ -42,21 +42,21 @@ loop-unit-preserved c =
       clean = clean_again c.loop-unit.named.items c.set_bits.new.bits.items c.set_bits-in-loop-unit.new.bits.items (neighbors_of c.args.case.now.conflicts.now c.loop-unit.unit) c.loop-unit.invariant.clean set cleared;
       listed = elim c.if-lost.branch [
         | then-lost+then-is_extra+in_ok-push w ↦
-            listed_more (IsLoser (case_of c.args.case.now)) _ _ _ c.loop-unit.invariant.listed
+            listed_more (LosesConflict c.args.case.now) _ _ _ c.loop-unit.invariant.listed
             (loser_is c.args.case.now c.args.extra.now c.set_bits.new.bits.items c.loop-unit.unit c.requires sets w.if-is_extra.true (lost.0 w.if-lost.true))
             (ap (λ (v : Vec ℕ Global). v.items) w.units-is ∙ w.in_ok-push.ensures.items)
         | else-lost w ↦ elim w.else-lost.branch [
           | else-lost-via-then-lost+else-is_extra v ↦
-              listed_still (IsLoser (case_of c.args.case.now)) _ _ _ c.loop-unit.invariant.listed (λ l. untrue _ v.if-is_extra.false (was l).0) (ap (λ (v : Vec ℕ Global). v.items) w.units-is)
+              listed_still (LosesConflict c.args.case.now) _ _ _ c.loop-unit.invariant.listed (λ l. untrue _ v.if-is_extra.false (was l).0) (ap (λ (v : Vec ℕ Global). v.items) w.units-is)
           | else-lost-via-else-lost v ↦
-              listed_still (IsLoser (case_of c.args.case.now)) _ _ _ c.loop-unit.invariant.listed (λ l. untrue _ v.if-lost.false (lost.1 (was l).1)) (ap (λ (v : Vec ℕ Global). v.items) w.units-is)
+              listed_still (LosesConflict c.args.case.now) _ _ _ c.loop-unit.invariant.listed (λ l. untrue _ v.if-lost.false (lost.1 (was l).1)) (ap (λ (v : Vec ℕ Global). v.items) w.units-is)
         ]
       ];
     }
 
 pub returns : goal.returns
 returns c =
-    let all : (v : ℕ) → IsAmong v c.loop-unit.units.items ↔ IsLoser (case_of c.args.case.now) v = λ v. (
+    let all : (v : ℕ) → IsAmong v c.loop-unit.units.items ↔ LosesConflict c.args.case.now v = λ v. (
       λ h. ((c.loop-unit.invariant.listed v).0 h).1,
       λ l. (let lt = IsMember-within c.args.extra.now v ((c.requires.sets v).1 l.1.extra) in (c.loop-unit.invariant.listed v).1 (omega (arith, lt), l)),
     ) in

@@ -7,7 +7,7 @@ use std::alloc::{AllocError, Global};
 
 /// Returns the words of a value, split at whitespace. They borrow the value's bytes.
 #[tactic(auto, unfolding(crate::specs::Words::words_of))]
-pub(crate) fn words(alloc: Global, value: &[u8]) -> Result<Vec<&[u8]>, AllocError>
+pub fn words(alloc: Global, value: &[u8]) -> Result<Vec<&[u8]>, AllocError>
     ensures words { IfOk result (λ words. map (λ word. word.now) words.items ≡ words_of value.now) }
 {
     value
