@@ -17,6 +17,7 @@ mod choices;
 mod contents;
 mod drop_ins;
 mod edits;
+mod implied;
 mod join_maps;
 mod joins;
 mod names;
@@ -46,6 +47,7 @@ fn answer(words: &mut Words, out: &mut Answer) -> Result<(), LineFault> {
         b"name" => names::answer(words, out),
         b"section" => sections::answer(words, out),
         b"setting" => settings::answer(words, out),
+        b"implied" => implied::answer(words, out),
         b"script" => script_lines::answer(words, out),
         b"version" => joins::answer(words, out),
         b"map" => join_maps::answer(words, out),

@@ -1,0 +1,4 @@
+pub mod Prelude
+mod Growth
+mod Texts
+mod Values

@@ -1,0 +1,9 @@
+pub mod Prelude
+pub mod Facts
+pub mod BuiltIn
+pub mod Paths
+pub mod Roles
+pub mod Sources
+pub mod Tables
+pub mod Implied
+pub mod ImpliedLaws
