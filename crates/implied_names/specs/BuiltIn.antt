@@ -4,9 +4,12 @@ use Rattle.std.proofs.Common.{◌&&◌, ◌==◌, ◌||◌, ◌∷◌}
 use Rattle.implied_names.specs.Prelude.{[], Bool, bytes_eq, codes, Device, false, Instance, is_empty, Kind, kind, List, list_any, Mount, Name, not, Option, Plain, shape, Shape, Slice, slice_split, Some, stem, Template, true, ℕ}
 use Rattle.implied_names.specs.Facts.{is_one_of}
 
--- these units are always there, always run and never stop
+-- the units that are always there, always run and never stop
+abbrev pub perpetual_units : List Name
+perpetual_units = codes "-.slice" ∷ codes "system.slice" ∷ codes "-.mount" ∷ []
+
 abbrev pub is_perpetual : Name → Bool
-is_perpetual unit = is_one_of (codes "-.slice" ∷ codes "system.slice" ∷ codes "-.mount" ∷ []) (Some unit)
+is_perpetual unit = is_one_of perpetual_units (Some unit)
 
 abbrev pub is_dash : ℕ → Bool
 is_dash b = b == 45

@@ -1,9 +1,9 @@
 -- What units imply, in concrete words.
 -- Source: systemd.service(5), "Default Dependencies"; systemd.timer(5), systemd.path(5), systemd.socket(5).
-use Rattle.std.proofs.Common.{◌++◌, ◌||◌, ◌∷◌, ◌≡◌}
-use Rattle.implied_names.specs.Prelude.{[], After, ap, append-nil, Before, codes, cond, cons_option, Conflicts, DepKind, false, filter, filter_map, flat_map, inl, inr, IsAmong, IsAmong-append_left, IsAmong-append_right, kind, List, Name, refl, Requires, Service, Some, subst, sym, Text, Triggers, true, ◌∙◌}
-use Rattle.implied_names.specs.{BuiltIn.{is_slice}, declared.{roles.Role.{Role}, sources.Source.{Source}, tables.Ways.{Ways}}, Facts.{Facts, last_of, values_of}, Implied.{by_kinds, default_names, given_by, has_defaults, implied_names}, Roles.{has_role, is_path_unit, is_service, is_socket, is_target, is_timer}, Sources.{activated, named, names_from, names_unit, or_sister, served_service}, Tables.{default_table, implied_table, kinds_of}}
-use Rattle.unit_name.specs.Names.{is_name_byte, kind_of, name_of}
+use Rattle.std.proofs.Common.{if◌then◌else◌, ◌++◌, ◌||◌, ◌∷◌, ◌≡◌, ◌⊎◌}
+use Rattle.implied_names.specs.Prelude.{[], After, AllByRecursion, ap, append-nil, argument, Before, BindsTo, Bool, codes, cond, cons_option, Conflicts, DepKind, false, filter, filter_map, flat_map, for_unit, inl, inr, InSlice, Instance, is_name, IsAmong, IsAmong-append_cases, IsAmong-append_left, IsAmong-append_right, IsName, kind, List, Name, named_at, naming_kinds, None, Option, Plain, refl, Requires, same_Some, Service, shape, Shape, Some, subst, sym, Template, Text, TriggeredBy, Triggers, true, Wants, ◌∙◌}
+use Rattle.implied_names.specs.{BuiltIn.{is_slice, perpetual_units}, declared.{roles.Role.{Role}, sources.Source.{Source}, tables.Ways.{Ways}}, Facts.{Facts, last_of, values_of}, Implied.{by_kinds, default_names, given_by, has_defaults, implied_names}, Roles.{has_role, is_path_unit, is_service, is_socket, is_target, is_timer}, Sources.{activated, named, names_from, names_unit, or_sister, served_service, texts_from}, Tables.{default_table, implied_table, kinds_of}}
+use Rattle.unit_name.specs.{NameLaws.{instance_has_parts}, Names.{is_name_byte, kind_of, name_of}}
 use Rattle.implied_names.specs.declared.roles.Role.TheVariants as role
 use Rattle.implied_names.specs.declared.sources.Source.TheVariants as source
 use Rattle.implied_names.specs.declared.tables.Ways.TheVariants as by
@@ -36,6 +36,18 @@ ActivatorsComeFirst = (f : Facts) (name : Name) → has_role f role.Activator �
 abbrev pub SetServicesAreTriggered : Type 0
 SetServicesAreTriggered = (f : Facts) (text : Text) (name : Name) → has_role f role.LastingSocket ≡ true → last_of (filter (names_unit Service) (values_of f (codes "Service"))) ≡ Some text
     → named f.unit text ≡ Some name → Implies f Before name × Implies f Triggers name
+
+-- A unit implies others only by kinds by which a unit may name another.
+abbrev pub ImpliedAreNaming : Type 0
+ImpliedAreNaming = (f : Facts) (dep : DepKind) (name : Name) → Implies f dep name → IsAmong dep naming_kinds
+
+-- What it implies are unit names.
+abbrev pub ImpliedAreNames : Type 0
+ImpliedAreNames = (f : Facts) (dep : DepKind) (name : Name) → Implies f dep name → IsName name
+
+-- So are the perpetual units.
+abbrev pub PerpetualUnitsAreNames : Type 0
+PerpetualUnitsAreNames = (unit : Name) → IsAmong unit perpetual_units → IsName unit
 
 -- ---- members of the tables
 
@@ -121,3 +133,140 @@ set_services_are_triggered f text name of_role set is = (gives Before (inl refl)
     gives : (dep : DepKind) → IsAmong dep (kinds_of by.BeforeTriggers) → Implies f dep name
     gives dep there = by_table f (role.LastingSocket, by.BeforeTriggers, source.ServedService) dep name (inr (inr (inr (inr (inr (inr (inr (inr (inr (inl refl))))))))))
         (entry_gives f role.LastingSocket by.BeforeTriggers source.ServedService dep name of_role there (one_name f (served_service f) name (ap (named f.unit) served ∙ is)))
+
+-- ---- the kinds of implied names
+
+-- a unit may name another by each of these kinds
+abbrev AreNaming : List DepKind → Type 0
+AreNaming kinds = AllByRecursion (λ kind. IsAmong kind naming_kinds) kinds
+
+one_of : (kinds : List DepKind) (dep : DepKind) → AreNaming kinds → IsAmong dep kinds → IsAmong dep naming_kinds
+one_of [] dep a h = absurd h
+one_of (k ∷ kinds) dep a (inl e) = subst (λ (d : DepKind). IsAmong d naming_kinds) e a.0
+one_of (k ∷ kinds) dep a (inr h) = one_of kinds dep a.1 h
+
+before : IsAmong Before naming_kinds
+before = inl refl
+
+after : IsAmong After naming_kinds
+after = inr (inl refl)
+
+wants : IsAmong Wants naming_kinds
+wants = inr (inr (inl refl))
+
+requires : IsAmong Requires naming_kinds
+requires = inr (inr (inr (inl refl)))
+
+binds_to : IsAmong BindsTo naming_kinds
+binds_to = inr (inr (inr (inr (inr (inl refl)))))
+
+conflicts : IsAmong Conflicts naming_kinds
+conflicts = inr (inr (inr (inr (inr (inr (inr (inl refl)))))))
+
+triggers : IsAmong Triggers naming_kinds
+triggers = inr (inr (inr (inr (inr (inr (inr (inr (inr (inr (inr (inr (inl refl))))))))))))
+
+triggered_by : IsAmong TriggeredBy naming_kinds
+triggered_by = inr (inr (inr (inr (inr (inr (inr (inr (inr (inr (inr (inr (inr (inl refl)))))))))))))
+
+in_slice : IsAmong InSlice naming_kinds
+in_slice = inr (inr (inr (inr (inr (inr (inr (inr (inr (inr (inr (inr (inr (inr (inl refl))))))))))))))
+
+ways_are_naming : (way : Ways) → AreNaming (kinds_of way)
+ways_are_naming by.After = (after, tt)
+ways_are_naming by.Before = (before, tt)
+ways_are_naming by.Requires = (requires, tt)
+ways_are_naming by.BindsTo = (binds_to, tt)
+ways_are_naming by.RequiresAfter = (requires, (after, tt))
+ways_are_naming by.RequiresAfterInSlice = (requires, (after, (in_slice, tt)))
+ways_are_naming by.AfterWants = (after, (wants, tt))
+ways_are_naming by.WantsAfterTriggeredBy = (wants, (after, (triggered_by, tt)))
+ways_are_naming by.BeforeTriggers = (before, (triggers, tt))
+ways_are_naming by.AfterBindsTo = (after, (binds_to, tt))
+ways_are_naming by.BeforeWants = (before, (wants, tt))
+ways_are_naming by.BeforeConflicts = (before, (conflicts, tt))
+
+-- ---- what a text names is a unit's name
+
+meant_name : (x : Shape) (unit text name : Name) → IsName text → named_at x unit text ≡ Some name → IsName name
+meant_name Plain unit text name good e = subst IsName (same_Some _ _ e) good
+meant_name Template unit text name good e = (instance_has_parts text (argument unit) name good e).2.name
+meant_name Instance unit text name good e = subst IsName (same_Some _ _ e) good
+
+named_name : (unit text name : Name) (b : Bool) → is_name text ≡ b → (if b then for_unit unit text else None) ≡ Some name → IsName name
+named_name unit text name true good e = meant_name (shape text) unit text name good e
+named_name unit text name false bad e = cc (e)
+
+named_are : (unit : Name) (texts : List Text) (name : Name) → IsAmong name (filter_map (named unit) texts) → IsName name
+named_are unit [] name h = absurd h
+named_are unit (t ∷ texts) name h = which (named_are unit texts name) (named unit t) refl h
+  where
+    which : (IsAmong name (filter_map (named unit) texts) → IsName name) → (o : Option Name) → named unit t ≡ o
+        → IsAmong name (cons_option o (filter_map (named unit) texts)) → IsName name
+    which more None e h = more h
+    which more (Some x) e (inl same) = subst IsName same (named_name unit t x (is_name t) refl e)
+    which more (Some x) e (inr h) = more h
+
+-- ---- members of what the tables give
+
+-- a member of what is made of the members of a list
+record HasSource {X Y : Type 0} (g : X → List Y) (xs : List X) (y : Y) : Type 0 where
+  source : X
+  there : IsAmong source xs
+  makes : IsAmong y (g source)
+
+among_flat : {X Y : Type 0} (g : X → List Y) (xs : List X) (y : Y) → IsAmong y (flat_map g xs) → HasSource g xs y
+among_flat g [] y h = absurd h
+among_flat g (x ∷ xs) y h = which (among_flat g xs y) (IsAmong-append_cases y (g x) (flat_map g xs) h)
+  where
+    which : (IsAmong y (flat_map g xs) → HasSource g xs y) → IsAmong y (g x) ⊎ IsAmong y (flat_map g xs) → HasSource g (x ∷ xs) y
+    which more (inl a) = record { source = x; there = inl refl; makes = a }
+    which more (inr b) = let rest = more b in record { source = rest.source; there = inr rest.there; makes = rest.makes }
+
+among_kinds : (kinds : List DepKind) (name : Name) (dep : DepKind) (v : Name) → IsAmong {X = DepKind × Name} (dep, v) (by_kinds kinds name) → IsAmong dep kinds × (name ≡ v)
+among_kinds [] name dep v h = absurd h
+among_kinds (k ∷ kinds) name dep v (inl e) = (inl (ap (λ (p : DepKind × Name). p.0) e), ap (λ (p : DepKind × Name). p.1) e)
+among_kinds (k ∷ kinds) name dep v (inr h) = let rest = among_kinds kinds name dep v h in (inr rest.0, rest.1)
+
+module _ (f : Facts) (dep : DepKind) (v : Name) where
+  -- by a kind by which a unit may name another, a unit's name
+  abbrev IsFit : Type 0
+  IsFit = IsAmong dep naming_kinds × IsName v
+
+  given_fit : (entry : Role × Ways × Source) → IsAmong {X = DepKind × Name} (dep, v) (given_by f entry) → IsFit
+  given_fit entry h = which (has_role f entry.0) h
+    where
+      which : (b : Bool) → IsAmong {X = DepKind × Name} (dep, v) (if b then flat_map (by_kinds (kinds_of entry.1)) (names_from f entry.2) else []) → IsFit
+      which true h =
+          let from = among_flat (by_kinds (kinds_of entry.1)) (names_from f entry.2) (dep, v) h in
+          let kind = among_kinds (kinds_of entry.1) from.source dep v from.makes in
+          (one_of (kinds_of entry.1) dep (ways_are_naming entry.1) kind.0, subst IsName kind.1 (named_are f.unit (texts_from f entry.2) from.source from.there))
+      which false h = absurd h
+
+  tables_fit : (table : List (Role × Ways × Source)) → IsAmong {X = DepKind × Name} (dep, v) (flat_map (given_by f) table) → IsFit
+  tables_fit table h = let from = among_flat (given_by f) table (dep, v) h in given_fit from.source from.makes
+
+  defaults_fit : (b : Bool) → IsAmong {X = DepKind × Name} (dep, v) (if b then flat_map (given_by f) default_table else []) → IsFit
+  defaults_fit true h = tables_fit default_table h
+  defaults_fit false h = absurd h
+
+  implied_fit : IsAmong {X = DepKind × Name} (dep, v) (implied_names f) → IsFit
+  unfolding implied_names
+  implied_fit h = which (IsAmong-append_cases {X = DepKind × Name} (dep, v) (flat_map (given_by f) implied_table) (default_names f) h)
+    where
+      which : IsAmong {X = DepKind × Name} (dep, v) (flat_map (given_by f) implied_table) ⊎ IsAmong {X = DepKind × Name} (dep, v) (default_names f) → IsFit
+      which (inl a) = tables_fit implied_table a
+      which (inr b) = defaults_fit (has_defaults f) b
+
+pub implied_are_naming : ImpliedAreNaming
+implied_are_naming f dep v h = (implied_fit f dep v h).0
+
+pub implied_are_names : ImpliedAreNames
+implied_are_names f dep v h = (implied_fit f dep v h).1
+
+pub perpetual_units_are_names : PerpetualUnitsAreNames
+unfolding name_of kind_of is_name_byte
+perpetual_units_are_names unit (inl e) = subst IsName e refl
+perpetual_units_are_names unit (inr (inl e)) = subst IsName e refl
+perpetual_units_are_names unit (inr (inr (inl e))) = subst IsName e refl
+perpetual_units_are_names unit (inr (inr (inr h))) = absurd h

@@ -6,4 +6,5 @@ pub mod Roles
 pub mod Sources
 pub mod Tables
 pub mod Implied
+pub mod Additions
 pub mod ImpliedLaws

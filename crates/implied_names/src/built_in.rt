@@ -1,7 +1,7 @@
 //! Units that a manager has without a file.
 ghost use Rattle.std.specs.{List.{list_any, slice_split}, Prelude.{IfOk, map, ◌≡◌}};
 ghost use Rattle.unit_name.specs.Names.{is_empty};
-ghost use Rattle.implied_names.specs.BuiltIn.{is_built_in, is_dash, is_perpetual, is_way};
+ghost use Rattle.implied_names.specs.BuiltIn.{is_built_in, is_dash, is_perpetual, is_way, perpetual_units};
 
 use crate::facts::is_among;
 use crate::paths::before_last;
@@ -13,6 +13,27 @@ pub fn is_perpetual(unit: &UnitName) -> bool
     ensures test { result ≡ is_perpetual unit.now }
 {
     is_among(unit.bytes(), &[b"-.slice", b"system.slice", b"-.mount"])
+}
+
+/// Returns the units that are always there, always run and never stop (systemd.special(7)). Fails only if memory runs out.
+pub fn perpetual_units(alloc: Global) -> Result<Vec<UnitName>, AllocError>
+    ensures units { IfOk result (λ units. units.items ≡ perpetual_units) }
+{
+    let mut units = Vec::new(alloc);
+    units.push(parsed(alloc, b"-.slice")?)?;
+    units.push(parsed(alloc, b"system.slice")?)?;
+    units.push(parsed(alloc, b"-.mount")?)?;
+    Ok(units)
+}
+
+// Returns a text that is a unit name as one. Fails for a name only if memory runs out.
+fn parsed(alloc: Global, text: &[u8]) -> Result<UnitName, AllocError>
+    ensures name { IfOk result (λ name. name ≡ text.now) }
+{
+    match UnitName::parse(alloc, text) {
+        Ok(name) => Ok(name),
+        Err(_) => Err(AllocError),
+    }
 }
 
 /// Returns whether a unit is loaded although no file is found for it: a device, the root mount, or a slice whose name is a

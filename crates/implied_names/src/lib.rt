@@ -11,9 +11,11 @@
 //! - `roles`, `processes`, `mount_roles`: which roles a unit has.
 //! - `sources`: which names a role gives; `tables`: by which kinds.
 //! - `needed_paths`: the paths that a unit needs.
-//! - `implied`: `Implied`, all that a unit implies. `built_in`: units without a file. `laws`: laws of implied names.
+//! - `implied`: `Implied`, all that a unit implies. `additions`: `Additions`, which a manager makes of it, and files don't.
+//! - `built_in`: units without a file. `laws`: laws of implied names.
 #![tactic(auto)]
 
+mod additions;
 mod built_in;
 mod facts;
 mod implied;
@@ -29,6 +31,7 @@ mod sources;
 mod tables;
 mod unit_facts;
 
-pub use built_in::{is_built_in, is_perpetual};
+pub use additions::Additions;
+pub use built_in::{is_built_in, is_perpetual, perpetual_units};
 pub use implied::Implied;
 pub use laws::implied_laws;

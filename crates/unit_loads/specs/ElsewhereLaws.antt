@@ -1,7 +1,7 @@
 -- What is shown elsewhere affects no unit.
 use Rattle.std.proofs.Common.{◌++◌, ◌↔◌, ◌∷◌, ◌≡◌, ◌⊎◌}
-use Rattle.unit_loads.specs.Prelude.{[], ap, AreForOne, assignments_of, At, Candidate, Choice, choices_decide, Contains, Content, content_at, content_viewed, dirs_by, dirs_with, drop_in_paths_are_files, DropIns, ending, File, first_or_later, first_there, Folder, folders, folders_decide, folders_decide_over, fragments_are_in_view, HostViewMap, inl, inr, IsAmong, IsAmong-append_left, IsAmong-append_right, IsDropIn, IsDropInAt, IsLinked, IsOwnFile, IsTaken, later_there, Links, List, main, mains_decide, map, Name, name_dirs, notes_of, OfName, OfType, own_paths_count, Owner, PathParts, PlaceParts, refl, refuses, Requires, Resolution, resolution, rows_of, same_place, same_Some, Search, settings_of, slice_get, Some, subst, suc, sym, type_dirs, viewed_at, viewed_place, Wants, zero, ℕ, ◌∙◌}
-use Rattle.unit_loads.specs.{declared.units.{Status.{Status, TheVariants.{Bad, Loaded, Masked, NotFound}}, Unit.{Unit as LoadedUnit}}, Elsewhere.{IsNear, unit_folders}, Units.{AreDropIns, AreLinks, file_bytes, file_notes, HasAllOf, HasSettings, IsStatus, IsUnit, items_of, lists_with, setting_notes}}
+use Rattle.unit_loads.specs.Prelude.{[], ap, AreForOne, assignments_of, At, Bool, Candidate, Choice, choices_decide, Contains, Content, content_at, content_viewed, dirs_by, dirs_with, drop_in_paths_are_files, DropIns, ending, false, File, first_or_later, first_there, Folder, folders, folders_decide, folders_decide_over, fragments_are_in_view, HostViewMap, inl, inr, IsAmong, IsAmong-append_left, IsAmong-append_right, IsDropIn, IsDropInAt, IsLinked, IsOwnFile, IsTaken, later_there, Links, List, main, mains_decide, map, Name, name_dirs, None, notes_of, OfName, OfType, Option, own_paths_count, Owner, PathParts, PlaceParts, Profile, refl, refuses, Requires, Resolution, resolution, rows_of, same_place, same_Some, Search, settings_of, slice_get, Some, subst, suc, sym, true, type_dirs, viewed_at, viewed_place, Wants, zero, ℕ, ◌∙◌, has_defaults_by, mounts_by, with_implied}
+use Rattle.unit_loads.specs.{WithoutFiles.{is_loaded_without_file}, declared.units.{Status.{Status, TheVariants.{Bad, BuiltIn, Loaded, Masked, NotFound}}, Unit.{Unit as LoadedUnit}}, Elsewhere.{IsNear, unit_folders}, Units.{AreDropIns, AreLinks, file_bytes, file_notes, files_with, fragment_by, HasAllOf, HasSettings, IsChoicesStatus, IsStatus, IsStatusBy, IsUnit, items_of, lists_with, setting_notes}}
 use Rattle.fragment_choice.specs.declared.choices.Choice.TheVariants as choice
 use Rattle.unit_loads.specs.declared.units.UnitNote.TheVariants as note
 
@@ -28,6 +28,10 @@ module _ (s t : HostViewMap) where
   notes_same (p ∷ ps) same =
       ap (λ o. map (note.File p) (notes_of (file_bytes o)) ++ file_notes s ps) (same p (first_there p ps))
       ∙ ap (λ xs. map (note.File p) (notes_of (file_bytes (content_at t p))) ++ xs) (notes_same ps (λ q c. same q (later_there p q ps c)))
+
+-- both show the same at the place of a fragment, if there is one
+abbrev pub ShowTheSame : HostViewMap → HostViewMap → Option PlaceParts → Type 0
+ShowTheSame s t fragment = (p : PlaceParts) → fragment ≡ Some p → content_at s p ≡ content_at t p
 
 -- both show the same in the folders of a unit with these names
 abbrev pub AgreeInFolders : HostViewMap → HostViewMap → List Name → Type 0
@@ -88,19 +92,20 @@ module _ (s t : HostViewMap) (one : AreForOne s t) (names : List Name) (inside :
       ∙ ap (content_at t) is
 
   -- the files of the unit show the same if its fragment does
-  files_shown : (fragment : PlaceParts) (dropins : List PlaceParts) → content_at s fragment ≡ content_at t fragment
-      → AreDropIns s names dropins → (p : PlaceParts) → Contains (fragment ∷ dropins) p → content_at s p ≡ content_at t p
-  files_shown fragment dropins own are p c = by (first_or_later fragment p dropins c)
+  files_shown : (fragment : Option PlaceParts) (dropins : List PlaceParts) → ShowTheSame s t fragment
+      → AreDropIns s names dropins → (p : PlaceParts) → Contains (files_with fragment dropins) p → content_at s p ≡ content_at t p
+  files_shown None dropins own are p c = drop_in_shown p ((are.exact p).0 c)
+  files_shown (Some fragment) dropins own are p c = by (first_or_later fragment p dropins c)
     where
       by : (fragment ≡ p) ⊎ Contains dropins p → content_at s p ≡ content_at t p
-      by (inl e) = subst (λ (q : PlaceParts). content_at s q ≡ content_at t q) e own
+      by (inl e) = own p (ap Some e)
       by (inr d) = drop_in_shown p ((are.exact p).0 d)
 
 -- a unit has the same settings in both, which have one profile, where its drop-ins and links are the same, and its files
 -- show the same
-module _ (s t : HostViewMap) (profile : s.profile ≡ t.profile) (unit : LoadedUnit) (fragment : PlaceParts) (drop_ins : (p : PlaceParts) → IsDropInAt s unit.names p ↔ IsDropInAt t unit.names p)
+module _ (s t : HostViewMap) (profile : s.profile ≡ t.profile) (unit : LoadedUnit) (fragment : Option PlaceParts) (drop_ins : (p : PlaceParts) → IsDropInAt s unit.names p ↔ IsDropInAt t unit.names p)
     (links : (folder : Folder) (n : Name) → IsLinked s unit.names folder n ↔ IsLinked t unit.names folder n)
-    (files : (p : PlaceParts) → Contains (fragment ∷ unit.dropins) p → content_at s p ≡ content_at t p) where
+    (files : (p : PlaceParts) → Contains (files_with fragment unit.dropins) p → content_at s p ≡ content_at t p) where
   linked_too : (folder : Folder) (named : List Name) → AreLinks s unit.names folder named → AreLinks t unit.names folder named
   linked_too folder named are = record {
     ascending = are.ascending;
@@ -109,8 +114,9 @@ module _ (s t : HostViewMap) (profile : s.profile ≡ t.profile) (unit : LoadedU
 
   pub settings_too : HasSettings s fragment unit → HasSettings t fragment unit
   settings_too h =
-      let there = items_of t (fragment ∷ unit.dropins) in
-      let items : items_of s (fragment ∷ unit.dropins) ≡ there = items_same s t (fragment ∷ unit.dropins) files in
+      let all = files_with fragment unit.dropins in
+      let there = items_of t all in
+      let items : items_of s all ≡ there = items_same s t all files in
       record {
         dropins_are = record {
           ascending = h.dropins_are.ascending;
@@ -125,40 +131,48 @@ module _ (s t : HostViewMap) (profile : s.profile ≡ t.profile) (unit : LoadedU
             h.values_are ∙ ap (λ xs. rows_of s.profile (settings_of s.profile xs) unit.name) items
             ∙ ap (λ by. rows_of by (settings_of by there) unit.name) profile;
         deps_are =
-            h.deps_are ∙ ap (λ xs. lists_with s.profile (settings_of s.profile xs) unit.name h.links) items
-            ∙ ap (λ by. lists_with by (settings_of by there) unit.name h.links) profile;
+            h.deps_are ∙ ap (λ xs. with_implied s.profile unit.name unit.values (lists_with s.profile (settings_of s.profile xs) unit.name h.links)) items
+            ∙ ap (λ by. with_implied by unit.name unit.values (lists_with by (settings_of by there) unit.name h.links)) profile;
         notes_are =
             h.notes_are
-            ∙ ap (λ ns. ns ++ map note.Setting (setting_notes s.profile (items_of s (fragment ∷ unit.dropins)) unit.name h.links)) (notes_same s t (fragment ∷ unit.dropins) files)
-            ∙ ap (λ xs. file_notes t (fragment ∷ unit.dropins) ++ map note.Setting (setting_notes s.profile xs unit.name h.links)) items
-            ∙ ap (λ by. file_notes t (fragment ∷ unit.dropins) ++ map note.Setting (setting_notes by there unit.name h.links)) profile;
+            ∙ ap (λ ns. ns ++ map note.Setting (setting_notes s.profile (items_of s all) unit.name h.links)) (notes_same s t all files)
+            ∙ ap (λ xs. file_notes t all ++ map note.Setting (setting_notes s.profile xs unit.name h.links)) items
+            ∙ ap (λ by. file_notes t all ++ map note.Setting (setting_notes by there unit.name h.links)) profile;
         manual_is =
             h.manual_is ∙ ap (λ xs. refuses (settings_of s.profile xs)) items ∙ ap (λ by. refuses (settings_of by there)) profile;
+        defaults_are = h.defaults_are ∙ ap (λ by. has_defaults_by by unit.name unit.values) profile;
+        mounts_are = h.mounts_are ∙ ap (λ by. mounts_by by unit.name unit.values) profile;
       }
 
 module _ (s t : HostViewMap) (one : AreForOne s t) (unit : LoadedUnit) (inside : AgreeInFolders s t unit.names) where
-  settings_same : (fragment : PlaceParts) → content_at s fragment ≡ content_at t fragment → HasSettings s fragment unit
-      → HasSettings t fragment unit
+  settings_same : (fragment : Option PlaceParts) → ShowTheSame s t fragment → HasSettings s fragment unit → HasSettings t fragment unit
   settings_same fragment own h =
       settings_too s t one.1 unit fragment (same_drop_in_at s t one unit.names inside) (same_linked s t one unit.names inside)
       (files_shown s t one unit.names inside fragment unit.dropins own h.dropins_are) h
 
   -- a unit has the same in both if its fragment is the same and so is what is seen in its folders
-  pub all_same : (status : Status) → ((fragment : PlaceParts) → status ≡ Loaded fragment → content_at s fragment ≡ content_at t fragment)
-      → HasAllOf s unit status → HasAllOf t unit status
-  all_same (Loaded fragment) own h = settings_same fragment (own fragment refl) h
+  pub all_same : (status : Status) → ShowTheSame s t (fragment_by status) → HasAllOf s unit status → HasAllOf t unit status
+  all_same (Loaded fragment) own h = settings_same (Some fragment) own h
+  all_same BuiltIn own h = settings_same None own h
   all_same NotFound own h = h
   all_same Masked own h = h
   all_same (Bad cause) own h = h
 
 -- the status of a unit with its fragment at a place comes from the choice of that place
-pub chosen : (c : Choice) (status : Status) (fragment : PlaceParts) → IsStatus c status → status ≡ Loaded fragment
-    → c ≡ choice.Fragment fragment
-chosen choice.NotFound status fragment h e = cc (h, e)
-chosen choice.Masked status fragment h e = cc (h, e)
-chosen (choice.Fragment place) status fragment h e = cc (h, e)
-chosen (choice.Alias other) status fragment h e = absurd h
-chosen (choice.Bad cause) status fragment h e = cc (h, e)
+pub chosen : (profile : Profile) (unit : Name) (c : Choice) (status : Status) (fragment : PlaceParts) → IsStatus profile unit c status
+    → fragment_by status ≡ Some fragment → c ≡ choice.Fragment fragment
+chosen profile unit c status fragment h e = by (is_loaded_without_file profile unit c) h
+  where
+    of_choice : (c : Choice) → IsChoicesStatus c status → c ≡ choice.Fragment fragment
+    of_choice choice.NotFound h = cc (sym (ap fragment_by h) ∙ e)
+    of_choice choice.Masked h = cc (sym (ap fragment_by h) ∙ e)
+    of_choice (choice.Fragment place) h = ap choice.Fragment (same_Some _ _ (sym (ap fragment_by h) ∙ e))
+    of_choice (choice.Alias other) h = absurd h
+    of_choice (choice.Bad cause) h = cc (sym (ap fragment_by h) ∙ e)
+
+    by : (without_file : Bool) → IsStatusBy without_file c status → c ≡ choice.Fragment fragment
+    by true h = cc (sym (ap fragment_by h) ∙ e)
+    by false h = of_choice c h
 
 -- a file at a path of one component is the same, where near paths show the same
 own_file_shown : (s t : HostViewMap) → AreForOne s t → (names : List Name) → ((p : PathParts) → IsNear names p → viewed_at s p ≡ viewed_at t p)
@@ -174,10 +188,12 @@ near_paths_decide s t one name unit near u =
       main_is = sym (mains name) ∙ u.main_is;
       name_is = u.name_is;
       names_are = mains_decide s t mains name unit.names u.names_are;
-      status_is = subst (λ (r : Resolution). IsStatus r.choice unit.status) (resolved name) u.status_is;
+      status_is =
+          subst (λ (by : Profile). IsStatus by name (resolution t name).choice unit.status) one.1
+          (subst (λ (r : Resolution). IsStatus s.profile name r.choice unit.status) (resolved name) u.status_is);
       has =
           all_same s t one unit (λ p h. near p (inr h)) unit.status
           (λ fragment e. own_file_shown s t one unit.names near fragment
-          (fragments_are_in_view s name fragment (chosen (resolution s name).choice unit.status fragment u.status_is e)))
+          (fragments_are_in_view s name fragment (chosen s.profile name (resolution s name).choice unit.status fragment u.status_is e)))
           u.has;
     }

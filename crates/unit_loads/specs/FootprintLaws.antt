@@ -1,6 +1,6 @@
 -- If names are aliases of the same units, what is seen in a unit's footprint determines the unit.
 use Rattle.std.proofs.Common.{◌++◌, ◌∷◌, ◌≡◌, ◌⊎◌}
-use Rattle.unit_loads.specs.Prelude.{ap, AreForOne, content_at, EntryMap, File, fragments_are_own, host_view_of, HostViewMap, inl, inr, is_some, IsAmong, IsAmong-append_left, IsAmong-append_right, IsOwnFileOf, IsOwnPath, leads_and_choice_decide, leads_decide_mains, List, listed, main, mains_decide, Name, None, Option, own_paths_decide, PathParts, PlaceParts, places_decide_views, refl, Resolution, resolution, SameLeads, Some, subst, sym, template_of, Viewer, with_template, ℕ, ◌∙◌}
+use Rattle.unit_loads.specs.Prelude.{ap, AreForOne, content_at, EntryMap, File, fragments_are_own, host_view_of, HostViewMap, inl, inr, is_some, IsAmong, IsAmong-append_left, IsAmong-append_right, IsOwnFileOf, IsOwnPath, leads_and_choice_decide, leads_decide_mains, List, listed, main, mains_decide, Name, None, Option, own_paths_decide, PathParts, PlaceParts, places_decide_views, Profile, refl, Resolution, resolution, SameLeads, Some, subst, sym, template_of, Viewer, with_template, ℕ, ◌∙◌}
 use Rattle.unit_loads.specs.{declared.units.Unit.{Unit as LoadedUnit}, Elsewhere.{unit_folders}, ElsewhereLaws.{all_same, chosen, same_content}, Footprints.{AgreeIn, footprint, StartsIn, StartsIn.{alone, within}, StoresAgreeIn}, Units.{IsStatus, IsUnit}}
 
 -- Views for one host with the same aliases that show the same in a unit's footprint have the same unit.
@@ -48,13 +48,15 @@ footprints_decide s t one name unit leads agree u =
       main_is = sym (mains name) ∙ u.main_is;
       name_is = u.name_is;
       names_are = mains_decide s t mains name unit.names u.names_are;
-      status_is = subst (λ (r : Resolution). IsStatus r.choice unit.status) resolved u.status_is;
+      status_is =
+          subst (λ (by : Profile). IsStatus by name (resolution t name).choice unit.status) one.1
+          (subst (λ (r : Resolution). IsStatus s.profile name r.choice unit.status) resolved u.status_is);
       has =
           all_same s t one unit
           (λ p h. agree p (within (IsAmong-append_right p.folder (with_template name) (unit_folders unit.names) h)))
           unit.status
           (λ fragment e. file_shown s t one name unit.names agree fragment
-          (fragments_are_own s name fragment u.main_is (chosen (resolution s name).choice unit.status fragment u.status_is e)))
+          (fragments_are_own s name fragment u.main_is (chosen s.profile name (resolution s name).choice unit.status fragment u.status_is e)))
           u.has;
     }
 

@@ -1,7 +1,7 @@
 -- Laws of hosts: one at whose places nothing is visible has the units that there are without a host.
-use Rattle.std.proofs.Common.{◌%◌, ◌==◌, ◌↔◌, ◌∷◌, ◌≡◌}
-use Rattle.unit_loads.specs.Prelude.{ap, Assignment, Choice, Contains, content_at, DepKind, drop_ins_are_the_fleets, EntryMap, false, File, first_or_later, Fleet, fleets_level, fleets_place, Folder, fragments_are_in_view, Host, host_view_of, hosts_without_places_have_these_drop_ins, hosts_without_places_have_these_links, hosts_without_places_resolve_alike, HostViewMap, inl, inr, IsDropInAt, IsLinked, List, main, mains_decide, Name, of_fleet, of_host, PlaceParts, Profile, refl, Resolution, resolution, Scope, ShowsNothing, subst, sym, ℕ, ◌∙◌}
-use Rattle.unit_loads.specs.{declared.units.{Status.{Status, TheVariants.{Bad, Loaded, Masked, NotFound}}, Unit.{Unit as LoadedUnit}}, ElsewhereLaws.{chosen, items_same, settings_too}, NamedUnits.{IsAssigned, IsNamed, IsNamedByLink, IsNamedByWord}, Units.{AreDropIns, HasAllOf, IsStatus, IsUnit, items_of}}
+use Rattle.std.proofs.Common.{◌%◌, ◌==◌, ◌↔◌, ◌∷◌, ◌≡◌, ◌⊎◌}
+use Rattle.unit_loads.specs.Prelude.{ap, Assignment, Contains, content_at, DepKind, drop_ins_are_the_fleets, EntryMap, false, File, first_or_later, Fleet, fleets_level, fleets_place, Folder, fragments_are_in_view, Host, host_view_of, hosts_without_places_have_these_drop_ins, hosts_without_places_have_these_links, hosts_without_places_resolve_alike, HostViewMap, implied_names, inl, inr, IsDropInAt, IsLinked, List, main, mains_decide, Name, None, of_fleet, of_host, Option, PlaceParts, Profile, refl, Resolution, resolution, rows_of, Scope, settings_of, ShowsNothing, Some, subst, sym, ℕ, ◌∙◌, facts_of}
+use Rattle.unit_loads.specs.{declared.units.{Status.{Status, TheVariants.{Bad, BuiltIn, Loaded, Masked, NotFound}}, Unit.{Unit as LoadedUnit}}, ElsewhereLaws.{chosen, items_same, settings_too}, NamedUnits.{Counts, IsAssigned, IsImplied, IsLoadedFrom, IsNamed, IsNamedByLink, IsNamedByWord, kind_of}, Units.{AreDropIns, files_with, HasAllOf, HasSettings, IsStatus, IsUnit, items_of}}
 use Rattle.fragment_choice.specs.declared.choices.Choice.TheVariants as choice
 
 -- The same stands for each name in both views, units have the same drop-ins and links, and their fragments and drop-ins show the same.
@@ -45,15 +45,13 @@ module _ (s t : HostViewMap) (same : HaveTheSameFiles s t) where
   pub same_mains : (n : Name) → main s n ≡ main t n
   same_mains n = ap (λ (r : Resolution). r.main) (same.resolved n)
 
-  same_choice : (n : Name) (c : Choice) → (resolution s n).choice ≡ c → (resolution t n).choice ≡ c
-  same_choice n c e = ap (λ (r : Resolution). r.choice) (sym (same.resolved n)) ∙ e
-
-  -- the files of a unit show the same
-  pub files_show : (n : Name) (fragment : PlaceParts) → (resolution s n).choice ≡ choice.Fragment fragment
+  -- the files of a unit with a name and these drop-ins show the same
+  pub files_show : (n : Name) (fragment : Option PlaceParts) → ((place : PlaceParts) → fragment ≡ Some place → (resolution s n).choice ≡ choice.Fragment place)
       → (names : List Name) (dropins : List PlaceParts) → ((p : PlaceParts) → Contains dropins p → IsDropInAt s names p)
-      → (p : PlaceParts) → Contains (fragment ∷ dropins) p → content_at s p ≡ content_at t p
-  files_show n fragment e names dropins are p c = elim (first_or_later fragment p dropins c) [
-    | inl f ↦ subst (λ (q : PlaceParts). content_at s q ≡ content_at t q) f (same.fragments_show n fragment e)
+      → (p : PlaceParts) → Contains (files_with fragment dropins) p → content_at s p ≡ content_at t p
+  files_show n None chosen_there names dropins are p c = same.drop_ins_show names p (are p c)
+  files_show n (Some fragment) chosen_there names dropins are p c = elim (first_or_later fragment p dropins c) [
+    | inl f ↦ same.fragments_show n p (chosen_there p (ap Some f))
     | inr d ↦ same.drop_ins_show names p (are p d)
   ]
 
@@ -65,12 +63,24 @@ module _ (s t : HostViewMap) (same : HaveTheSameFiles s t) where
 
   -- a unit is the same by one profile
   module _ (profile : s.profile ≡ t.profile) where
-    all_there : (name : Name) (unit : LoadedUnit) (status : Status) → IsStatus (resolution s name).choice status
+    status_there : (n : Name) (status : Status) → IsStatus s.profile n (resolution s n).choice status → IsStatus t.profile n (resolution t n).choice status
+    status_there n status is =
+        subst (λ (by : Profile). IsStatus by n (resolution t n).choice status) profile
+        (subst (λ (r : Resolution). IsStatus s.profile n r.choice status) (same.resolved n) is)
+
+    settings_there : (name : Name) (unit : LoadedUnit) (fragment : Option PlaceParts)
+        → ((place : PlaceParts) → fragment ≡ Some place → (resolution s name).choice ≡ choice.Fragment place)
+        → HasSettings s fragment unit → HasSettings t fragment unit
+    settings_there name unit fragment chosen_there h =
+        settings_too s t profile unit fragment (same.drop_ins unit.names) (same.links unit.names)
+        (files_show name fragment chosen_there unit.names unit.dropins (λ p. (h.dropins_are.exact p).0)) h
+
+    all_there : (name : Name) (unit : LoadedUnit) (status : Status) → IsStatus s.profile name (resolution s name).choice status
         → HasAllOf s unit status → HasAllOf t unit status
     all_there name unit (Loaded fragment) is h =
-        let there = chosen (resolution s name).choice (Loaded fragment) fragment is refl in
-        settings_too s t profile unit fragment (same.drop_ins unit.names) (same.links unit.names)
-        (files_show name fragment there unit.names unit.dropins (λ p. (h.dropins_are.exact p).0)) h
+        settings_there name unit (Some fragment) (λ place e. chosen s.profile name (resolution s name).choice (Loaded fragment) place is e) h
+    all_there name unit BuiltIn is h =
+        settings_there name unit None (λ place e. chosen s.profile name (resolution s name).choice BuiltIn place is e) h
     all_there name unit NotFound is h = h
     all_there name unit Masked is h = h
     all_there name unit (Bad cause) is h = h
@@ -80,24 +90,38 @@ module _ (s t : HostViewMap) (same : HaveTheSameFiles s t) where
       main_is = sym (same_mains name) ∙ u.main_is;
       name_is = u.name_is;
       names_are = mains_decide s t same_mains name unit.names u.names_are;
-      status_is = subst (λ (r : Resolution). IsStatus r.choice unit.status) (same.resolved name) u.status_is;
+      status_is = status_there name unit.status u.status_is;
       has = all_there name unit unit.status u.status_is u.has;
     }
+
+    loaded_there : (n : Name) (fragment : Option PlaceParts) → IsLoadedFrom s n fragment → IsLoadedFrom t n fragment
+    loaded_there n fragment h = record {
+      status = h.status;
+      status_is = status_there n h.status h.status_is;
+      loaded = h.loaded;
+      fragment_is = h.fragment_is;
+    }
+
+    -- a unit with a fragment and drop-ins has the same assignments
+    items_there : (n : Name) (fragment : Option PlaceParts) → IsLoadedFrom s n fragment → (names : List Name) (dropins : List PlaceParts)
+        → AreDropIns s names dropins → items_of s (files_with fragment dropins) ≡ items_of t (files_with fragment dropins)
+    items_there n fragment h names dropins are =
+        items_same s t (files_with fragment dropins)
+        (files_show n fragment (λ place e. chosen s.profile n (resolution s n).choice h.status place h.status_is (h.fragment_is ∙ e)) names dropins (λ p. (are.exact p).0))
 
     named_by_word : (unit : Name) (dep : DepKind) (v : Name) → IsNamedByWord s unit dep v → IsNamedByWord t unit dep v
     named_by_word unit dep v n = record {
       names = n.names;
       names_are = mains_decide s t same_mains unit n.names n.names_are;
       fragment = n.fragment;
-      fragment_is = same_choice unit (choice.Fragment n.fragment) n.fragment_is;
+      loaded = loaded_there unit n.fragment n.loaded;
       dropins = n.dropins;
       dropins_are = drop_ins_there n.names n.dropins n.dropins_are;
       text = n.text;
       assigned =
-          subst (λ (by : Profile). IsAssigned by (items_of t (n.fragment ∷ n.dropins)) dep n.text) profile
+          subst (λ (by : Profile). IsAssigned by (items_of t (files_with n.fragment n.dropins)) dep n.text) profile
           (subst (λ (items : List Assignment). IsAssigned s.profile items dep n.text)
-          (items_same s t (n.fragment ∷ n.dropins)
-          (files_show unit n.fragment n.fragment_is n.names n.dropins (λ p. (n.dropins_are.exact p).0))) n.assigned);
+          (items_there unit n.fragment n.loaded n.names n.dropins n.dropins_are) n.assigned);
       named = n.named;
     }
 
@@ -106,15 +130,35 @@ module _ (s t : HostViewMap) (same : HaveTheSameFiles s t) where
       names = n.names;
       names_are = mains_decide s t same_mains unit n.names n.names_are;
       fragment = n.fragment;
-      fragment_is = same_choice unit (choice.Fragment n.fragment) n.fragment_is;
+      loaded = loaded_there unit n.fragment n.loaded;
       link = n.link;
       linked = (same.links n.names folder n.link).0 n.linked;
       named = n.named;
     }
 
+    implied_there : (unit : Name) (dep : DepKind) (v : Name) → IsImplied s unit dep v → IsImplied t unit dep v
+    implied_there unit dep v n = record {
+      by_manager = sym profile ∙ n.by_manager;
+      names = n.names;
+      names_are = mains_decide s t same_mains unit n.names n.names_are;
+      fragment = n.fragment;
+      loaded = loaded_there unit n.fragment n.loaded;
+      dropins = n.dropins;
+      dropins_are = drop_ins_there n.names n.dropins n.dropins_are;
+      implied =
+          subst (λ (by : Profile). Contains {X = DepKind × Name} (implied_names (facts_of unit (rows_of by (settings_of by (items_of t (files_with n.fragment n.dropins))) unit))) (dep, v)) profile
+          (subst (λ (items : List Assignment). Contains {X = DepKind × Name} (implied_names (facts_of unit (rows_of s.profile (settings_of s.profile items) unit))) (dep, v))
+          (items_there unit n.fragment n.loaded n.names n.dropins n.dropins_are) n.implied);
+    }
+
     pub named_there : (unit : Name) (dep : DepKind) (v : Name) → IsNamed s unit dep v → IsNamed t unit dep v
-    named_there unit dep v (inl n) = inl (named_by_word unit dep v n)
-    named_there unit dep v (inr (folder, kind, n)) = inr (folder, kind, named_by_link unit folder v n)
+    named_there unit dep v (counts, way) = (subst (λ (by : Profile). Counts by dep v) profile counts, by way)
+      where
+        by : IsNamedByWord s unit dep v ⊎ ((folder : Folder) × (kind_of folder ≡ dep) × IsNamedByLink s unit folder v) ⊎ IsImplied s unit dep v
+            → IsNamedByWord t unit dep v ⊎ ((folder : Folder) × (kind_of folder ≡ dep) × IsNamedByLink t unit folder v) ⊎ IsImplied t unit dep v
+        by (inl n) = inl (named_by_word unit dep v n)
+        by (inr (inl (folder, kind, n))) = inr (inl (folder, kind, named_by_link unit folder v n))
+        by (inr (inr n)) = inr (inr (implied_there unit dep v n))
 
 -- ---- a host without places
 

@@ -1,4 +1,5 @@
 pub mod Prelude
+pub mod AdditionLaws
 pub mod AssignedLaws
 pub mod Elsewhere
 pub mod ElsewhereLaws
@@ -12,3 +13,4 @@ pub mod Steps
 pub mod TypeLaws
 pub mod UnitLaws
 pub mod Units
+pub mod WithoutFiles

@@ -1,8 +1,8 @@
 -- How files and links are put together: words for private clauses.
 -- Source: this project's own.
 use Rattle.std.proofs.Common.{◌++◌, ◌↔◌, ◌≡◌}
-use Rattle.unit_loads.specs.Prelude.{[], Assignment, assignments_of, Contains, Entry, entry_place, flat_map, Folder, HostViewMap, in_byte_order, IsLinkedOf, IsStrictlySortedBy, List, map, Name, name_cmp, notes_of, PathParts, PlaceParts, refuses, Requires, rows_of, settings_of, shown, Wants}
-use Rattle.unit_loads.specs.{declared.{found.UnitParts.{UnitParts}, links.LinkNames.{LinkNames}, units.{Status.TheVariants.{Loaded}, Unit.{Unit as LoadedUnit}, UnitNote.{UnitNote}}}, Units.{bytes_at, file_bytes, lists_with, notes_at, setting_notes}}
+use Rattle.unit_loads.specs.Prelude.{[], Assignment, assignments_of, Contains, Entry, entry_place, flat_map, Folder, HostViewMap, in_byte_order, IsLinkedOf, IsStrictlySortedBy, List, map, Name, name_cmp, notes_of, Option, PathParts, PlaceParts, refuses, Requires, rows_of, settings_of, shown, Wants, has_defaults_by, mounts_by, with_implied}
+use Rattle.unit_loads.specs.{declared.{found.UnitParts.{UnitParts}, links.LinkNames.{LinkNames}, units.{Status.{Status}, Unit.{Unit as LoadedUnit}, UnitNote.{UnitNote}}}, Units.{file_bytes, file_notes, files_with, items_of, lists_with, setting_notes}}
 use Rattle.unit_loads.specs.declared.units.UnitNote.TheVariants as note
 
 -- the assignments of borrowed files, file by file
@@ -14,8 +14,8 @@ abbrev pub borrowed_notes : HostViewMap → List (PathParts × Entry) → List U
 borrowed_notes s ps = flat_map (λ p. map (note.File (entry_place s p)) (notes_of (file_bytes (shown p.1)))) ps
 
 -- the assignments of a fragment in a store, and of borrowed drop-ins
-abbrev pub items_with : HostViewMap → PlaceParts → List (PathParts × Entry) → List Assignment
-items_with s fragment borrowed = assignments_of (bytes_at s fragment) ++ borrowed_items borrowed
+abbrev pub items_with : HostViewMap → Option PlaceParts → List (PathParts × Entry) → List Assignment
+items_with s fragment borrowed = items_of s (files_with fragment []) ++ borrowed_items borrowed
 
 -- the link folders of this sort in a list of folders give these names, in byte order
 pub record AreLinksFrom (s : HostViewMap) (folders : List Name) (folder : Folder) (links : List Name) : Type 0 where
@@ -33,22 +33,26 @@ with_linked names [] = names
 with_linked names linked = in_byte_order (names ++ linked)
 
 -- the effective settings of a fragment in a store, of borrowed drop-ins, and of links, for a unit
-pub record EvaluatesTo (s : HostViewMap) (fragment : PlaceParts) (borrowed : List (PathParts × Entry)) (unit : Name) (links : LinkNames) (found : UnitParts) : Type 0 where
+pub record EvaluatesTo (s : HostViewMap) (fragment : Option PlaceParts) (borrowed : List (PathParts × Entry)) (unit : Name) (links : LinkNames) (found : UnitParts) : Type 0 where
   pub dropins : found.dropins ≡ map (entry_place s) borrowed
   pub values : found.effective.values ≡ rows_of s.profile (settings_of s.profile (items_with s fragment borrowed)) unit
-  pub deps : found.effective.deps ≡ lists_with s.profile (settings_of s.profile (items_with s fragment borrowed)) unit links
-  pub notes : found.effective.notes ≡ (notes_at s fragment ++ borrowed_notes s borrowed) ++ map note.Setting (setting_notes s.profile (items_with s fragment borrowed) unit links)
+  pub deps : found.effective.deps ≡ with_implied s.profile unit found.effective.values (lists_with s.profile (settings_of s.profile (items_with s fragment borrowed)) unit links)
+  pub notes : found.effective.notes ≡ (file_notes s (files_with fragment []) ++ borrowed_notes s borrowed) ++ map note.Setting (setting_notes s.profile (items_with s fragment borrowed) unit links)
   pub manual : found.effective.manual ≡ refuses (settings_of s.profile (items_with s fragment borrowed))
+  pub defaults : found.effective.has_defaults ≡ has_defaults_by s.profile unit found.effective.values
+  pub mounts : found.effective.mounts ≡ mounts_by s.profile unit found.effective.values
 
--- the unit with these names and its fragment at this place
-abbrev pub unit_of_parts : Name → List Name → PlaceParts → UnitParts → LoadedUnit
-unit_of_parts name names fragment found = record {
+-- the unit with these names and this status
+abbrev pub unit_of_parts : Name → List Name → Status → UnitParts → LoadedUnit
+unit_of_parts name names status found = record {
   name = name;
   names = names;
-  status = Loaded fragment;
+  status = status;
   dropins = found.dropins;
   values = found.effective.values;
   deps = found.effective.deps;
   notes = found.effective.notes;
   manual = found.effective.manual;
+  has_defaults = found.effective.has_defaults;
+  mounts = found.effective.mounts;
 }

@@ -1,8 +1,8 @@
--- One loaded unit: the effective settings of its files and its links.
+-- One loaded unit: the effective settings of its files and its links, and what a manager adds.
 -- Source: systemd.unit(5), "Description" and "Unit File Load Path"; the order of the notes is this project's own.
 use Rattle.std.proofs.Common.{◌++◌, ◌↔◌, ◌∷◌, ◌≡◌}
-use Rattle.unit_loads.specs.Prelude.{[], AreNames, Assignment, assignments_of, BadName, boolean_notes, Choice, Contains, Content, content_at, DependencyList, DepKind, escape_notes, false, File, file_name, filter, filter_map, flat_map, Folder, for_unit, Gone, HostViewMap, in_byte_order, is_none, IsDropInAt, IsLinked, IsStrictlySortedBy, key_for, Link, List, main, map, Name, name_cmp, names_by, naming_kinds, None, note_on, notes_of, Option, PlaceParts, Profile, refuses, Requires, resolution, rows_of, SettingMap, SettingNote, settings_of, Some, Wants, word_notes, words_for, ℕ}
-use Rattle.unit_loads.specs.declared.{links.LinkNames.{LinkNames}, units.{Status.{Status, TheVariants.{Bad, Loaded, Masked, NotFound}}, Unit.{Unit as LoadedUnit}, UnitNote.{UnitNote}}}
+use Rattle.unit_loads.specs.Prelude.{[], AreNames, Assignment, assignments_of, BadName, Bool, boolean_notes, Choice, Contains, Content, content_at, DependencyList, DepKind, escape_notes, false, File, file_name, filter, filter_map, flat_map, Folder, for_unit, Gone, HostViewMap, in_byte_order, is_none, IsDropInAt, IsLinked, IsStrictlySortedBy, key_for, Link, List, main, map, Name, name_cmp, names_by, naming_kinds, None, note_on, notes_of, Option, PlaceParts, Profile, refuses, Requires, resolution, rows_of, SettingMap, SettingNote, settings_of, Some, true, Wants, word_notes, words_for, ℕ, has_defaults_by, mounts_by, with_implied}
+use Rattle.unit_loads.specs.{WithoutFiles.{is_loaded_without_file}, declared.{links.LinkNames.{LinkNames}, units.{Status.{Status, TheVariants.{Bad, BuiltIn, Loaded, Masked, NotFound}}, Unit.{Unit as LoadedUnit}, UnitNote.{UnitNote}}}}
 use Rattle.setting_rules.specs.declared.kinds.DepKind.TheVariants as kind
 use Rattle.fragment_choice.specs.declared.choices.Choice.TheVariants as choice
 use Rattle.unit_loads.specs.declared.units.UnitNote.TheVariants as note
@@ -87,27 +87,58 @@ setting_notes profile items unit links = boolean_notes profile items ++ escape_n
 
 -- ---- the unit
 
--- the unit's status is that of the name's choice
-abbrev pub IsStatus : Choice → Status → Type 0
-IsStatus choice.NotFound status = status ≡ NotFound
-IsStatus choice.Masked status = status ≡ Masked
-IsStatus (choice.Fragment place) status = status ≡ Loaded place
-IsStatus (choice.Alias other) status = ⊥
-IsStatus (choice.Bad cause) status = status ≡ Bad cause
+-- the status is that of a name's choice
+abbrev pub IsChoicesStatus : Choice → Status → Type 0
+IsChoicesStatus choice.NotFound status = status ≡ NotFound
+IsChoicesStatus choice.Masked status = status ≡ Masked
+IsChoicesStatus (choice.Fragment place) status = status ≡ Loaded place
+IsChoicesStatus (choice.Alias other) status = ⊥
+IsChoicesStatus (choice.Bad cause) status = status ≡ Bad cause
 
--- the settings of a unit with this fragment and these drop-ins
-abbrev pub settings_in : HostViewMap → PlaceParts → List PlaceParts → SettingMap
-settings_in s fragment dropins = settings_of s.profile (items_of s (fragment ∷ dropins))
+abbrev pub IsStatusBy : Bool → Choice → Status → Type 0
+IsStatusBy true choice status = status ≡ BuiltIn
+IsStatusBy false choice status = IsChoicesStatus choice status
 
--- the unit has the effective settings of its files and links, with its fragment at this place
-pub record HasSettings (s : HostViewMap) (fragment : PlaceParts) (unit : LoadedUnit) : Type 0 where
+-- The unit's status is that of its name's choice, but where a manager loads it without a file.
+abbrev pub IsStatus : Profile → Name → Choice → Status → Type 0
+IsStatus profile unit choice status = IsStatusBy (is_loaded_without_file profile unit choice) choice status
+
+-- by this status a unit is loaded, from a file or without one
+abbrev pub is_loaded_by : Status → Bool
+is_loaded_by (Loaded place) = true
+is_loaded_by BuiltIn = true
+is_loaded_by NotFound = false
+is_loaded_by Masked = false
+is_loaded_by (Bad cause) = false
+
+-- the place of the fragment of a unit with this status
+abbrev pub fragment_by : Status → Option PlaceParts
+fragment_by (Loaded place) = Some place
+fragment_by BuiltIn = None
+fragment_by NotFound = None
+fragment_by Masked = None
+fragment_by (Bad cause) = None
+
+-- the files of a unit with this fragment, or none, and these drop-ins
+abbrev pub files_with : Option PlaceParts → List PlaceParts → List PlaceParts
+files_with None dropins = dropins
+files_with (Some fragment) dropins = fragment ∷ dropins
+
+-- the settings of a unit with this fragment, or none, and these drop-ins
+abbrev pub settings_in : HostViewMap → Option PlaceParts → List PlaceParts → SettingMap
+settings_in s fragment dropins = settings_of s.profile (items_of s (files_with fragment dropins))
+
+-- the unit has the effective settings of its files and links, with its fragment, or none
+pub record HasSettings (s : HostViewMap) (fragment : Option PlaceParts) (unit : LoadedUnit) : Type 0 where
   pub dropins_are : AreDropIns s unit.names unit.dropins
   pub links : LinkNames
   pub links_are : AreLinkNames s unit.names links
   pub values_are : unit.values ≡ rows_of s.profile (settings_in s fragment unit.dropins) unit.name
-  pub deps_are : unit.deps ≡ lists_with s.profile (settings_in s fragment unit.dropins) unit.name links
-  pub notes_are : unit.notes ≡ file_notes s (fragment ∷ unit.dropins) ++ map note.Setting (setting_notes s.profile (items_of s (fragment ∷ unit.dropins)) unit.name links)
+  pub deps_are : unit.deps ≡ with_implied s.profile unit.name unit.values (lists_with s.profile (settings_in s fragment unit.dropins) unit.name links)
+  pub notes_are : unit.notes ≡ file_notes s (files_with fragment unit.dropins) ++ map note.Setting (setting_notes s.profile (items_of s (files_with fragment unit.dropins)) unit.name links)
   pub manual_is : unit.manual ≡ refuses (settings_in s fragment unit.dropins)
+  pub defaults_are : unit.has_defaults ≡ has_defaults_by s.profile unit.name unit.values
+  pub mounts_are : unit.mounts ≡ mounts_by s.profile unit.name unit.values
 
 -- the unit has neither drop-ins nor settings, and names no other
 pub record HasNothing (unit : LoadedUnit) : Type 0 where
@@ -116,10 +147,13 @@ pub record HasNothing (unit : LoadedUnit) : Type 0 where
   pub no_deps : unit.deps ≡ no_names
   pub no_notes : unit.notes ≡ []
   pub not_manual : unit.manual ≡ false
+  pub no_defaults : unit.has_defaults ≡ false
+  pub no_mounts : unit.mounts ≡ []
 
 -- the unit has everything that its status requires
 abbrev pub HasAllOf : HostViewMap → LoadedUnit → Status → Type 0
-HasAllOf s unit (Loaded fragment) = HasSettings s fragment unit
+HasAllOf s unit (Loaded fragment) = HasSettings s (Some fragment) unit
+HasAllOf s unit BuiltIn = HasSettings s None unit
 HasAllOf s unit NotFound = HasNothing unit
 HasAllOf s unit Masked = HasNothing unit
 HasAllOf s unit (Bad cause) = HasNothing unit
@@ -129,5 +163,5 @@ pub record IsUnit (s : HostViewMap) (name : Name) (unit : LoadedUnit) : Type 0 w
   pub main_is : main s name ≡ name
   pub name_is : unit.name ≡ name
   pub names_are : AreNames s name unit.names
-  pub status_is : IsStatus (resolution s name).choice unit.status
+  pub status_is : IsStatus s.profile name (resolution s name).choice unit.status
   pub has : HasAllOf s unit unit.status

@@ -1,12 +1,14 @@
 //! The effective settings of a unit's files and links.
 ghost use Rattle.std.specs.Prelude.{◌≡◌, ◌++◌, IfOk, OnOk, map};
 ghost use Rattle.setting_rules.specs.{Rows.{escape_notes, rows_of}, Settings.{settings_of}, Switches.{refuses}};
+ghost use Rattle.implied_names.specs.Additions.{has_defaults_by, mounts_by, with_implied};
 ghost use Rattle.unit_loads.specs.Units.{dependency_notes, lists_with, setting_notes};
 
 use crate::dependencies::named_units;
 use crate::files::UnitText;
 use crate::links::LinkNames;
 use crate::units::UnitNote;
+use implied_names::Additions;
 use plain_values::Items;
 use profiles::Profile;
 use section_reader::Assignment;
@@ -17,17 +19,21 @@ use std::alloc::{AllocError, Global};
 use std::mem;
 use unit_name::UnitName;
 
-/// The effective settings of a unit's files and links.
+/// The effective settings of a unit's files and links, with what a manager adds.
 #[derive(Drop)]
 pub(crate) struct EffectiveSettings {
     /// The values of keys that set no dependencies.
     pub values: Items<Row>,
-    /// The names that words and links give, for each kind by which a unit may name another.
+    /// The names that words and links give, and those that a manager adds, for each kind by which a unit may name another.
     pub deps: Items<DependencyList>,
     /// What is wrong in files, with settings, and with links.
     pub notes: Items<UnitNote>,
     /// Whether the unit refuses to be started by hand.
     pub manual: bool,
+    /// Whether it has default dependencies; by files none has.
+    pub has_defaults: bool,
+    /// The mounts of its paths; by files none.
+    pub mounts: Items<UnitName>,
 }
 
 impl EffectiveSettings {
@@ -40,19 +46,28 @@ impl EffectiveSettings {
         links: LinkNames,
     ) -> Result<EffectiveSettings, AllocError>
         ensures values { IfOk result (λ it. it.values ≡ rows_of profile (settings_of profile text.items) unit.now) }
-        ensures deps { IfOk result (λ it. it.deps ≡ lists_with profile (settings_of profile text.items) unit.now links) }
+        ensures deps { IfOk result (λ it. it.deps ≡ with_implied profile unit.now it.values (lists_with profile (settings_of profile text.items) unit.now links)) }
         ensures notes { IfOk result (λ it. it.notes
             ≡ text.notes ++ map UnitNote.Setting (setting_notes profile text.items unit.now links)) }
         ensures manual { IfOk result (λ it. it.manual ≡ refuses (settings_of profile text.items)) }
+        ensures defaults { IfOk result (λ it. it.has_defaults ≡ has_defaults_by profile unit.now it.values) }
+        ensures mounts { IfOk result (λ it. it.mounts ≡ mounts_by profile unit.now it.values) }
     {
         let UnitText { items, mut notes } = text;
-        let outcome = Outcome::of(alloc, profile, items.as_slice(), unit, links)?;
-        add_setting_notes(&mut notes, outcome.notes)?;
+        let mut outcome = Outcome::of(alloc, profile, items.as_slice(), unit, links)?;
+        add_setting_notes(
+            &mut notes,
+            mem::replace(&mut outcome.notes, Items::new(alloc)),
+        )?;
+        let rows = outcome.values.as_slice();
+        let additions = Additions::make(alloc, profile, unit, rows, &mut outcome.deps)?;
         Ok(EffectiveSettings {
             values: outcome.values,
             deps: outcome.deps,
             notes,
             manual: outcome.manual,
+            has_defaults: additions.has_defaults,
+            mounts: additions.mounts,
         })
     }
 }

@@ -1,7 +1,7 @@
 //! The files of a unit.
 ghost use Rattle.std.specs.{Prelude.{◌≡◌, ◌++◌, ◌∷◌, [], IfOk, OnOk, map}, Option.{option_copied}};
 ghost use Rattle.section_reader.specs.Sections.{assignments_of, notes_of};
-ghost use Rattle.unit_loads.specs.{Steps.{borrowed_items, borrowed_notes}, Units.{bytes_at, file_bytes, notes_at}};
+ghost use Rattle.unit_loads.specs.{Steps.{borrowed_items, borrowed_notes, items_with}, Units.{file_bytes, file_notes, files_with, items_of}};
 
 use crate::units::UnitNote;
 use plain_values::Items;
@@ -29,22 +29,37 @@ impl UnitText {
         }
     }
 
-    /// Reads a unit's files: its fragment, and then its drop-ins. Linear in their bytes, and a search in the store for
-    /// the fragment. Fails only if memory runs out.
+    /// Reads a unit's files: its fragment, if it has one, and then its drop-ins. Linear in their bytes, and a search in
+    /// the store for the fragment. Fails only if memory runs out.
     pub fn of(
         alloc: Global,
         view: &HostView,
-        fragment: &Place,
+        fragment: Option<&Place>,
         dropins: &[HostViewEntry],
     ) -> Result<UnitText, AllocError>
-        ensures items { IfOk result (λ text. text.items
-            ≡ assignments_of (bytes_at view.now fragment.now) ++ borrowed_items dropins.now) }
-        ensures notes { IfOk result (λ text. text.notes ≡ notes_at view.now fragment.now ++ borrowed_notes view.now dropins.now) }
+        ensures items { IfOk result (λ text. text.items ≡ items_with view.now (option_copied fragment.entry) dropins.now) }
+        ensures notes { IfOk result (λ text. text.notes
+            ≡ file_notes view.now (files_with (option_copied fragment.entry) []) ++ borrowed_notes view.now dropins.now) }
     {
-        let mut text = UnitText::new(alloc);
-        text.add_file(alloc, fragment, bytes_of(view.visible(fragment)))?;
+        let mut text = UnitText::of_fragment(alloc, view, fragment)?;
         for placed in dropins {
             text.add_drop_in(alloc, view, placed)?;
+        }
+        Ok(text)
+    }
+
+    // Reads a fragment, if there is one.
+    fn of_fragment(
+        alloc: Global,
+        view: &HostView,
+        fragment: Option<&Place>,
+    ) -> Result<UnitText, AllocError>
+        ensures items { IfOk result (λ text. text.items ≡ items_of view.now (files_with (option_copied fragment.entry) [])) }
+        ensures notes { IfOk result (λ text. text.notes ≡ file_notes view.now (files_with (option_copied fragment.entry) [])) }
+    {
+        let mut text = UnitText::new(alloc);
+        if let Some(place) = fragment {
+            text.add_file(alloc, place, bytes_of(view.visible(place)))?;
         }
         Ok(text)
     }

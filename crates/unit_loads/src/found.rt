@@ -1,5 +1,5 @@
 //! What a loaded unit has besides its names.
-ghost use Rattle.std.specs.Prelude.{◌≡◌, IfOk};
+ghost use Rattle.std.specs.{Option.{option_copied}, Prelude.{◌≡◌, IfOk}};
 ghost use Rattle.unit_loads.specs.{Steps.{EvaluatesTo, unit_of_parts}, Units.{HasSettings}};
 
 use crate::effective::EffectiveSettings;
@@ -12,7 +12,7 @@ use replica_store::{HostView, HostViewEntry, Place};
 use std::alloc::{AllocError, Global};
 use unit_name::UnitName;
 
-/// The drop-ins of a loaded unit, and the effective settings of its files and links.
+/// The drop-ins of a loaded unit, and the effective settings of its files and links, with what a manager adds.
 #[derive(Drop)]
 pub(crate) struct UnitParts {
     /// The drop-ins, in the order of their file names.
@@ -22,17 +22,17 @@ pub(crate) struct UnitParts {
 }
 
 impl UnitParts {
-    /// Loads the drop-ins and settings of the unit with these names and its fragment at this place, by the profile of
+    /// Loads the drop-ins and settings of the unit with these names and this fragment, if it has one, by the profile of
     /// the view. Its folders are listed once, for drop-ins and for links. Fails only if memory runs out.
     pub fn of(
         alloc: Global,
         view: &HostView,
         name: &UnitName,
         names: &[UnitName],
-        fragment: &Place,
+        fragment: Option<&Place>,
     ) -> Result<UnitParts, AllocError>
-        ensures settings { IfOk result (λ found. HasSettings view.now fragment.now
-            (unit_of_parts name.now names.now fragment.now found)) }
+        ensures settings { IfOk result (λ found. (status : Status) → HasSettings view.now (option_copied fragment.entry)
+            (unit_of_parts name.now names.now status found)) }
     {
         let folders = UnitFolders::of(alloc, names)?;
         let dropins = folders.drop_ins(alloc, view)?;
@@ -40,20 +40,22 @@ impl UnitParts {
         Self::of_files(alloc, view, name, fragment, &dropins, links)
     }
 
-    /// Returns the unit with these names, its fragment at this place, and these drop-ins and settings.
-    pub fn into_unit(self, name: UnitName, names: Vec<UnitName>, fragment: Place) -> Unit
-        ensures unit { result ≡ unit_of_parts name names.items fragment self }
+    /// Returns the unit with these names, this status, and these drop-ins and settings.
+    pub fn into_unit(self, name: UnitName, names: Vec<UnitName>, status: Status) -> Unit
+        ensures unit { result ≡ unit_of_parts name names.items status self }
     {
         let UnitParts { dropins, effective } = self;
         Unit {
             name,
             names: Items::from_vec(names),
-            status: Status::Loaded(fragment),
+            status,
             dropins,
             values: effective.values,
             deps: effective.deps,
             notes: effective.notes,
             manual: effective.manual,
+            has_defaults: effective.has_defaults,
+            mounts: effective.mounts,
         }
     }
 
@@ -62,11 +64,11 @@ impl UnitParts {
         alloc: Global,
         view: &HostView,
         name: &UnitName,
-        fragment: &Place,
+        fragment: Option<&Place>,
         dropins: &[HostViewEntry],
         links: LinkNames,
     ) -> Result<UnitParts, AllocError>
-        ensures found { IfOk result (EvaluatesTo view.now fragment.now dropins.now name.now links) }
+        ensures found { IfOk result (EvaluatesTo view.now (option_copied fragment.entry) dropins.now name.now links) }
     {
         let text = UnitText::of(alloc, view, fragment, dropins)?;
         let effective = EffectiveSettings::of(alloc, view.profile(), name, text, links)?;

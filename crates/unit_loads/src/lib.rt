@@ -7,7 +7,7 @@
 //!
 //! - `units`: the types `Unit`, `Status` and `UnitNote`.
 //! - `loads`: `load_unit` and its variants.
-//! - `found`, `files`, `links`, `dependencies`, `settled`: how a unit's files and links are read.
+//! - `found`, `files`, `links`, `dependencies`, `effective`: how a unit's files and links are read.
 //! - `laws`: laws of units.
 #![tactic(auto)]
 

@@ -1,13 +1,15 @@
 //! A unit of a store.
 ghost use Rattle.std.specs.{Prelude.{◌≡◌, IfOk}};
 ghost use Rattle.path_maps.specs.HostViews.{host_view_of};
-ghost use Rattle.fragment_choice.specs.{Resolutions.{main, resolution}, UnitNames.{AreNames}};
-ghost use Rattle.unit_loads.specs.Units.{HasNothing, IsUnit, no_names};
+ghost use Rattle.fragment_choice.specs.{Resolutions.{IsEnd, main, resolution}, UnitNames.{AreNames}};
+ghost use Rattle.unit_loads.specs.{WithoutFiles.{is_loaded_without_file}, Units.{fragment_by, HasNothing, IsStatus, IsUnit, no_names}};
 
 use crate::found::UnitParts;
 use crate::units::{Status, Unit};
 use fragment_choice::{AliasIndex, Choice, Resolution};
+use implied_names::{is_built_in, is_perpetual};
 use plain_values::Items;
+use profiles::Profile;
 use replica_store::{HostView, Store, Viewer};
 use setting_rules::{DepKind, DependencyList};
 use std::alloc::{AllocError, Global};
@@ -73,19 +75,53 @@ pub fn load_named(
     ensures unit { IfOk result (IsUnit view.now resolved.main) }
 {
     let Resolution { main, choice } = resolved;
-    match choice {
-        Choice::Fragment(place) => {
-            let found = UnitParts::of(alloc, view, &main, &names, &place)?;
-            Ok(found.into_unit(main, names, place))
-        }
-        Choice::NotFound => unloaded(alloc, main, names, Status::NotFound),
-        Choice::Masked => unloaded(alloc, main, names, Status::Masked),
-        Choice::Bad(cause) => unloaded(alloc, main, names, Status::Bad(cause)),
-        Choice::Alias(_) => unreachable!(),
+    let status = status_of(alloc, view.profile(), &main, choice)?;
+    if !status.is_loaded() {
+        return unloaded(alloc, main, names, status);
+    }
+    let found = UnitParts::of(alloc, view, &main, &names, status.fragment())?;
+    Ok(found.into_unit(main, names, status))
+}
+
+// The status of a unit whose name has this choice, which is no alias.
+fn status_of(
+    alloc: Global,
+    profile: Profile,
+    unit: &UnitName,
+    choice: Choice,
+) -> Result<Status, AllocError>
+    requires chosen { IsEnd choice }
+    ensures status { IfOk result (IsStatus profile unit.now choice) }
+{
+    if stands_without_file(alloc, profile, unit, &choice)? {
+        return Ok(Status::BuiltIn);
+    }
+    Ok(match choice {
+        Choice::Fragment(place) => Status::Loaded(place),
+        Choice::NotFound => Status::NotFound,
+        Choice::Masked => Status::Masked,
+        Choice::Bad(cause) => Status::Bad(cause),
+        Choice::Alias(_other) => unreachable!(),
+    })
+}
+
+// Whether a unit is loaded without a file after this choice of its name.
+fn stands_without_file(
+    alloc: Global,
+    profile: Profile,
+    unit: &UnitName,
+    choice: &Choice,
+) -> Result<bool, AllocError>
+    ensures test { IfOk result (λ test. test ≡ is_loaded_without_file profile unit.now choice.now) }
+{
+    match (profile, choice) {
+        (Profile::Manager, Choice::NotFound) => is_built_in(alloc, unit),
+        (Profile::Manager, Choice::Masked) => Ok(is_perpetual(unit)),
+        _ => Ok(false),
     }
 }
 
-// A unit with these names and no fragment.
+// A unit with these names that isn't loaded.
 fn unloaded(
     alloc: Global,
     name: UnitName,
@@ -107,6 +143,8 @@ fn unloaded(
         deps,
         notes: Items::new(alloc),
         manual: false,
+        has_defaults: false,
+        mounts: Items::new(alloc),
     })
 }
 

@@ -1,5 +1,6 @@
 //! A loaded unit.
-ghost use Rattle.std.specs.Prelude.{◌≡◌, IfOk};
+ghost use Rattle.std.specs.{Option.{option_copied}, Prelude.{◌≡◌, IfOk}};
+ghost use Rattle.unit_loads.specs.Units.{fragment_by, is_loaded_by};
 
 use fragment_choice::Cause;
 use plain_values::{Items, TryClone};
@@ -14,6 +15,8 @@ use unit_name::UnitName;
 pub enum Status {
     /// The file at this place, which is the unit's fragment.
     Loaded(Place),
+    /// No file, but a manager has the unit nevertheless: a device, a slice, or the root mount.
+    BuiltIn,
     /// Nothing.
     NotFound,
     /// An empty file or a link to `/dev/null`.
@@ -26,6 +29,7 @@ impl Drop for Status {
     fn drop(self) {
         match self {
             Status::Loaded(_) => (),
+            Status::BuiltIn => (),
             Status::NotFound => (),
             Status::Masked => (),
             Status::Bad(_) => (),
@@ -37,10 +41,34 @@ impl TryClone for Status {
     fn try_clone(&self) -> Result<Status, AllocError> {
         Ok(match self {
             Status::Loaded(place) => Status::Loaded(place.try_clone()?),
+            Status::BuiltIn => Status::BuiltIn,
             Status::NotFound => Status::NotFound,
             Status::Masked => Status::Masked,
             Status::Bad(cause) => Status::Bad(*cause),
         })
+    }
+}
+
+impl Status {
+    /// Returns whether the unit is loaded, from a file or without one.
+    pub fn is_loaded(&self) -> bool
+        ensures test { result ≡ is_loaded_by self.now }
+    {
+        match self {
+            Status::Loaded(_) => true,
+            Status::BuiltIn => true,
+            _ => false,
+        }
+    }
+
+    /// Returns the place of the unit's fragment, if it has one.
+    pub fn fragment(&self) -> Option<&Place>
+        ensures fragment { option_copied result ≡ fragment_by self.now }
+    {
+        match self {
+            Status::Loaded(place) => Some(place),
+            _ => None,
+        }
     }
 }
 
@@ -85,12 +113,16 @@ pub struct Unit {
     /// The values of keys that set no dependencies, in the order of the keys.
     pub values: Items<Row>,
     /// For each kind by which a unit may name another, in the order of the kinds, the names that words and links give,
-    /// in byte order.
+    /// and those that a manager adds, in byte order.
     pub deps: Items<DependencyList>,
     /// What is wrong with lines, file by file; then with booleans, with other values, with words, and with links.
     pub notes: Items<UnitNote>,
     /// Whether it refuses to be started by hand.
     pub manual: bool,
+    /// Whether it has default dependencies; by files none has.
+    pub has_defaults: bool,
+    /// The mounts that it comes after where they are units, in byte order; by files none.
+    pub mounts: Items<UnitName>,
 }
 
 impl Drop for Unit {
@@ -104,6 +136,8 @@ impl Drop for Unit {
             deps: _,
             notes: _,
             manual: _,
+            has_defaults: _,
+            mounts: _,
         } = self;
     }
 }
@@ -113,7 +147,7 @@ impl TryClone for Unit {
     fn try_clone(&self) -> Result<Unit, AllocError> {
         let (name, names, status) = self.identity()?;
         let (dropins, values) = self.contents()?;
-        let (deps, notes) = self.findings()?;
+        let (deps, notes, mounts) = self.findings()?;
         Ok(Unit {
             name,
             names,
@@ -123,6 +157,8 @@ impl TryClone for Unit {
             deps,
             notes,
             manual: self.manual,
+            has_defaults: self.has_defaults,
+            mounts,
         })
     }
 }
@@ -144,10 +180,13 @@ impl Unit {
         Ok((dropins, self.values.try_clone()?))
     }
 
-    fn findings(&self) -> Result<(Items<DependencyList>, Items<UnitNote>), AllocError>
-        ensures copies { IfOk result (λ copies. copies ≡ (self.now.deps, self.now.notes)) }
+    fn findings(
+        &self,
+    ) -> Result<(Items<DependencyList>, Items<UnitNote>, Items<UnitName>), AllocError>
+        ensures copies { IfOk result (λ copies. copies ≡ (self.now.deps, self.now.notes, self.now.mounts)) }
     {
         let deps = self.deps.try_clone()?;
-        Ok((deps, self.notes.try_clone()?))
+        let notes = self.notes.try_clone()?;
+        Ok((deps, notes, self.mounts.try_clone()?))
     }
 }
