@@ -293,7 +293,7 @@ module _ (load : LoadMap) (now : EntryMap) (touched : List PlaceParts) (b : IsBe
     universe_again =
         let names : names_of olds ≡ keys_of load.names = sym (loads_keys olds) ∙ sym (ap (λ (ps : List (Name × NameLoad)). keys_of ps) rows.names_are) in
         subst (AreUniverse t load.extra) keys_again
-        (same_names_keep_the_universe s t load.extra (keys_of load.names) (same_leads load now touched b keep)
+        (same_names_keep_the_universe s t load.extra (keys_of load.names) refl (same_leads load now touched b keep)
         (words_keep_visible_names s t (same_words load now touched b keep))
         (λ n r own. keeps olds news olds_alone again n own (let P : List Name → Type 0 = λ ks. IsAmong n ks in subst P (sym names) ((b.load_is.universe.members n).1 r)))
         b.load_is.universe)

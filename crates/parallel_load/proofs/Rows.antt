@@ -1,6 +1,6 @@
 -- The names at which something is visible, level by level, and those of them that are sources.
 use Rattle.std.proofs.Common.{if◌then◌else◌, ◌&&◌, ◌++◌, ◌+◌, ◌<◌, ◌↔◌, ◌∷◌, ◌≡◌, ◌≢◌, ◌≤◌, ◌⊎◌}
-use Rattle.parallel_load.proofs.Prelude.{[], among_filter, among_filter_map, among_find, among_map, and_from, and_parts, ap, AreSourcesBy, arith, Bool, bytes_eq, Entry, eq-eqb, eqb-true, false, filter, filter_among, filter_map, filter_map_among, find_among, HostViewMap, inl, inr, Instance, is_in, is_name, is_some, is_template, IsAmong, IsAmong-append_cases, IsAmong-append_left, IsAmong-append_right, IsName, IsShown, IsSome, IsSource, IsTrue, IsVisibleName, keys_of, List, map_among, Name, NamedWords, None, none-some, not, Option, option_and_then, own_path, path_cmp, path_cmp-IsAntisymmetric, path_cmp_total, PathParts, Plain, refl, same_Some, shape, shown, shown_name, shown_names, Some, subst, suc, sym, T, Target, Template, true, UnitShape, view, viewed_at, whole_name, zero, ℕ, ◌∙◌}
+use Rattle.parallel_load.proofs.Prelude.{[], among_filter, among_filter_map, among_find, among_map, and_from, and_parts, ap, AreSourcesBy, arith, asked_by, Bool, bytes_eq, Entry, eq-eqb, eqb-true, false, filter, filter_among, filter_map, filter_map_among, find_among, HostViewMap, inl, inr, Instance, is_in, is_name, is_some, is_template, IsAmong, IsAmong-append_cases, IsAmong-append_left, IsAmong-append_right, IsName, IsShown, IsSome, IsSource, IsTrue, IsVisibleName, keys_of, List, map_among, Name, NamedWords, None, none-some, not, Option, option_and_then, own_path, path_cmp, path_cmp-IsAntisymmetric, path_cmp_total, PathParts, Plain, Profile, refl, same_Some, shape, shown, shown_name, shown_names, Some, subst, suc, sym, T, Target, Template, true, UnitShape, view, viewed_at, whole_name, zero, ℕ, ◌∙◌}
 use Rattle.std.specs.FinMap as finmap
 
 -- ---- what is visible of names
@@ -143,9 +143,9 @@ abbrev named_in : NamedWords → List Name
 named_in words = filter_map (λ (p : Name × List Target). whole_name p.0) words
 
 -- the names that are asked for and those in the list of link targets are the sources
-pub sources_are : (words : NamedWords) (extra names : List Name) → names ≡ extra ++ filter_map (λ (p : Name × List Target). whole_name p.0) words → AreSourcesBy words extra names
-sources_are words extra names e s are n = (
-  λ h. there (IsAmong-append_cases n extra (named_in words) (subst (λ (ns : List Name). IsAmong n ns) e h)),
+pub sources_are : (profile : Profile) (words : NamedWords) (extra names : List Name) → names ≡ asked_by profile extra ++ filter_map (λ (p : Name × List Target). whole_name p.0) words → AreSourcesBy profile words extra names
+sources_are profile words extra names e s same are n = (
+  λ h. there (IsAmong-append_cases n (asked_by profile extra) (named_in words) (subst (λ (ns : List Name). IsAmong n ns) e h)),
   λ h. subst (λ (ns : List Name). IsAmong n ns) (sym e) (back h),
 )
   where
@@ -162,10 +162,10 @@ sources_are words extra names e s are n = (
         filter_map_among (λ (p : Name × List Target). whole_name p.0) words r.source n r.there
         (ap whole_name r.makes ∙ to_if (is_name n && not (is_template (shape n))) n (and_from _ _ v.2.name (template_not (shape n) v.2.whole)))
 
-    there : IsAmong n extra ⊎ IsAmong n (named_in words) → IsSource s extra n
-    there (inl a) = inl a
+    there : IsAmong n (asked_by profile extra) ⊎ IsAmong n (named_in words) → IsSource s extra n
+    there (inl a) = inl (subst (λ (by : Profile). IsAmong n (asked_by by extra)) (sym same) a)
     there (inr b) = inr (visible b)
 
-    back : IsSource s extra n → IsAmong n (extra ++ (named_in words))
-    back (inl a) = IsAmong-append_left n extra (named_in words) a
-    back (inr v) = IsAmong-append_right n extra (named_in words) (listed v)
+    back : IsSource s extra n → IsAmong n (asked_by profile extra ++ (named_in words))
+    back (inl a) = IsAmong-append_left n (asked_by profile extra) (named_in words) (subst (λ (by : Profile). IsAmong n (asked_by by extra)) same a)
+    back (inr v) = IsAmong-append_right n (asked_by profile extra) (named_in words) (listed v)

@@ -185,8 +185,8 @@ still_all affected names names' named named' i now e f l h =
     subst P e (subst Q f (record { keys_are = h.0 ∙ ap (λ (ps : List (Name × NameLoad)). keys_of ps) (take_all i names l); each = h.1 }))
 
 -- the sources of what is asked for, if the cached link targets are those of the view
-pub same_sources : (v : HostViewMap) (words kept : NamedWords) (asked extra sources : List Name) → kept ≡ words → asked ≡ extra → AreOwnLinkTargets v words → AreSourcesBy kept asked sources
+pub same_sources : (v : HostViewMap) (words kept : NamedWords) (asked extra sources : List Name) → kept ≡ words → asked ≡ extra → AreOwnLinkTargets v words → AreSourcesBy v.profile kept asked sources
     → (n : Name) → IsAmong n sources ↔ IsSource v extra n
 same_sources v words kept asked extra sources e f own h =
     let P : List Name → Type 0 = λ ns. (n : Name) → IsAmong n sources ↔ IsSource v ns n in
-    subst P f (h v (subst (AreOwnLinkTargets v) (sym e) own))
+    subst P f (h v refl (subst (AreOwnLinkTargets v) (sym e) own))

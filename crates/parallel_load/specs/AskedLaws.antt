@@ -1,7 +1,7 @@
 -- Names that are asked for count only where nothing is visible: lists with the same sources give the same load.
 -- Source: this project's own.
-use Rattle.std.proofs.Common.{◌↔◌}
-use Rattle.parallel_load.specs.{Loads.{IsLoad, LoadMap}, Prelude.{HostViewMap, inl, inr, IsAmong, List, Name, name_cmp, refl, same_closure, same_reached}, Universe.{AreUniverse, IsSource, IsTooLarge, LeadsTo}}
+use Rattle.std.proofs.Common.{◌↔◌, ◌≡◌, ◌⊎◌}
+use Rattle.parallel_load.specs.{Loads.{IsLoad, LoadMap}, Prelude.{Files, HostViewMap, inl, inr, IsAmong, IsAmong-append_cases, IsAmong-append_left, List, Manager, Name, name_cmp, perpetual_units, Profile, refl, same_closure, same_reached, subst, sym}, Universe.{AreUniverse, asked_by, IsSource, IsTooLarge, LeadsTo}}
 
 -- each of these names is visible, or is one of the others
 abbrev pub AreSources : HostViewMap → List Name → List Name → Type 0
@@ -21,16 +21,28 @@ SourcesMakeTheLoad =
 abbrev pub SourcesMakeTheSize : Type 0
 SourcesMakeTheSize = (s : HostViewMap) (a b : List Name) → AreSources s a b → AreSources s b a → IsTooLarge s a → IsTooLarge s b
 
+-- what a load for some names asks for, a load for others has, if these names are its sources
+asked_too : (s : HostViewMap) (a b : List Name) → AreSources s b a → (n : Name) → IsAmong n (asked_by s.profile a) → IsSource s b n
+asked_too s a b sources n h = by s.profile refl h
+  where
+    by : (profile : Profile) → s.profile ≡ profile → IsAmong n (asked_by profile a) → IsSource s b n
+    by Files e h = sources n h
+    by Manager e h = of_manager (IsAmong-append_cases n perpetual_units a h)
+      where
+        of_manager : IsAmong n perpetual_units ⊎ IsAmong n a → IsSource s b n
+        of_manager (inl p) = inl (subst (λ (by : Profile). IsAmong n (asked_by by b)) (sym e) (IsAmong-append_left n perpetual_units b p))
+        of_manager (inr q) = sources n q
+
 module _ (s : HostViewMap) (a b : List Name) (there : AreSources s a b) (back : AreSources s b a) where
   same_sources : (n : Name) → IsSource s a n ↔ IsSource s b n
   same_sources n = (to, from)
     where
       to : IsSource s a n → IsSource s b n
-      to (inl h) = back n h
+      to (inl h) = asked_too s a b back n h
       to (inr v) = inr v
 
       from : IsSource s b n → IsSource s a n
-      from (inl h) = there n h
+      from (inl h) = asked_too s b a there n h
       from (inr v) = inr v
 
   same_steps : (n m : Name) → LeadsTo s n m ↔ LeadsTo s n m

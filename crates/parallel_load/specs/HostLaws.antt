@@ -12,10 +12,10 @@ UnitsStay s t = (n : Name) (unit : LoadedUnit) → IsUnit s n unit → IsUnit t 
 abbrev pub loaded_for : Viewer → LoadMap → LoadMap
 loaded_for viewer load = record load { viewer = viewer }
 
--- Views with equal alias words and the same units have the same load, but for the host.
+-- Views by one profile with equal alias words and the same units have the same load, but for the host.
 abbrev pub SameUnitsMakeTheLoad : Type 0
 SameUnitsMakeTheLoad =
-    (s t : HostViewMap) (extra : List Name) (load : LoadMap) → SameWords s t → UnitsStay s t → IsLoad s extra load
+    (s t : HostViewMap) (extra : List Name) (load : LoadMap) → s.profile ≡ t.profile → SameWords s t → UnitsStay s t → IsLoad s extra load
     → IsLoad t extra (loaded_for (viewer_of t) load)
 
 -- A host at whose places nothing is visible loads what is loaded without one.
@@ -32,7 +32,7 @@ HostsWithoutPlacesAreAsLarge =
 
 -- ---- the same units make the load
 
-module _ (s t : HostViewMap) (words : SameWords s t) (unit_stays : UnitsStay s t) where
+module _ (s t : HostViewMap) (profile : s.profile ≡ t.profile) (words : SameWords s t) (unit_stays : UnitsStay s t) where
   leads : SameLeads s t
   leads = link_targets_decide s t words
 
@@ -77,7 +77,7 @@ module _ (s t : HostViewMap) (words : SameWords s t) (unit_stays : UnitsStay s t
 
     universe_stays : AreUniverse t extra (keys_of load.names)
     universe_stays =
-        same_names_keep_the_universe s t extra (keys_of load.names) leads (words_keep_visible_names s t words) keeps l.universe
+        same_names_keep_the_universe s t extra (keys_of load.names) profile leads (words_keep_visible_names s t words) keeps l.universe
 
     load_stays : IsLoad t extra (loaded_for (viewer_of t) load)
     load_stays =
@@ -93,7 +93,7 @@ module _ (s t : HostViewMap) (words : SameWords s t) (unit_stays : UnitsStay s t
         }
 
 pub same_units_make_the_load : SameUnitsMakeTheLoad
-same_units_make_the_load s t extra load words units l = load_stays s t words units extra load l
+same_units_make_the_load s t extra load profile words units l = load_stays s t profile words units extra load l
 
 -- ---- a host without places
 
@@ -113,9 +113,9 @@ module _ (s : EntryMap) (host : List ℕ) (profile : Profile) (none : ShowsNothi
   loads_alike : (extra : List Name) (load : LoadMap)
       → IsLoad hosts extra (loaded_for (of_host host profile) load) ↔ IsLoad fleets extra (loaded_for (of_fleet profile) load)
   loads_alike extra load = (
-    same_units_make_the_load hosts fleets extra (loaded_for (of_host host profile) load) own_link_targets
+    same_units_make_the_load hosts fleets extra (loaded_for (of_host host profile) load) refl own_link_targets
         (λ n unit. (hosts_without_places_have_these_units s host profile none n unit).0),
-    same_units_make_the_load fleets hosts extra (loaded_for (of_fleet profile) load) fleets_words
+    same_units_make_the_load fleets hosts extra (loaded_for (of_fleet profile) load) refl fleets_words
         (λ n unit. (hosts_without_places_have_these_units s host profile none n unit).1),
   )
 

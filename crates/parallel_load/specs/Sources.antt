@@ -1,7 +1,7 @@
 -- The visible names of a store, and those of them that are loaded: definitions for private clauses.
 -- Source: this project's own.
-use Rattle.std.proofs.Common.{if◌then◌else◌, ◌&&◌, ◌↔◌}
-use Rattle.parallel_load.specs.Prelude.{[], Bool, Entry, false, filter, filter_map, HostViewMap, Instance, is_in, is_name, is_some, IsAmong, List, Name, NamedWords, None, not, Option, PathParts, Plain, shape, shown, Some, Template, true, UnitShape, view, ℕ}
+use Rattle.std.proofs.Common.{if◌then◌else◌, ◌&&◌, ◌↔◌, ◌≡◌}
+use Rattle.parallel_load.specs.Prelude.{[], Bool, Entry, false, filter, filter_map, HostViewMap, Instance, is_in, is_name, is_some, IsAmong, List, Name, NamedWords, None, not, Option, PathParts, Plain, Profile, shape, shown, Some, Template, true, UnitShape, view, ℕ}
 use Rattle.parallel_load.specs.{OwnLinkTargets.{AreOwnLinkTargets}, Universe.{IsSource}}
 use Rattle.std.specs.FinMap as finmap
 
@@ -22,6 +22,6 @@ is_template Instance = false
 abbrev pub whole_name : Name → Option Name
 whole_name n = if is_name n && not (is_template (shape n)) then Some n else None
 
--- These are the sources, with these names asked for, of each view that has these link targets.
-abbrev pub AreSourcesBy : NamedWords → List Name → List Name → Type 0
-AreSourcesBy words extra names = (s : HostViewMap) → AreOwnLinkTargets s words → (n : Name) → IsAmong n names ↔ IsSource s extra n
+-- These are the sources, with these names asked for, of each view by this profile that has these link targets.
+abbrev pub AreSourcesBy : Profile → NamedWords → List Name → List Name → Type 0
+AreSourcesBy profile words extra names = (s : HostViewMap) → s.profile ≡ profile → AreOwnLinkTargets s words → (n : Name) → IsAmong n names ↔ IsSource s extra n

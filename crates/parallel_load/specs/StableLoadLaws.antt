@@ -2,8 +2,8 @@
 -- unit loses a name but a source.
 -- Source: this project's own.
 use Rattle.std.proofs.Common.{◌↔◌, ◌∷◌, ◌≡◌, ◌⊎◌}
-use Rattle.parallel_load.specs.Prelude.{[], ap, closure_stays, DependencyList, DepKind, filter, HostViewMap, in_byte_order, inl, inr, is_same, IsListed, IsReached, IsUnit, leads_decide_mains, link_targets_show, List, lists_have_what_is_named, LoadedUnit, main, map, Name, name_cmp, not, reached_closed, refl, same_closure, SameLeads, SameWords, sym, ◌∙◌}
-use Rattle.parallel_load.specs.{Loads.{by_mains, list_by_mains}, Universe.{AreUniverse, IsInUniverse, IsSource, IsVisibleName, LeadsTo, Names}}
+use Rattle.parallel_load.specs.Prelude.{[], ap, closure_stays, DependencyList, DepKind, filter, HostViewMap, in_byte_order, inl, inr, is_same, IsAmong, IsListed, IsReached, IsUnit, leads_decide_mains, link_targets_show, List, lists_have_what_is_named, LoadedUnit, main, map, Name, name_cmp, not, Profile, reached_closed, refl, same_closure, SameLeads, SameWords, subst, sym, ◌∙◌}
+use Rattle.parallel_load.specs.{Loads.{by_mains, list_by_mains}, Universe.{AreUniverse, asked_by, IsInUniverse, IsSource, IsVisibleName, LeadsTo, Names}}
 
 -- something is visible at the same names
 abbrev pub SameVisibleNames : HostViewMap → HostViewMap → Type 0
@@ -35,16 +35,16 @@ pub record KeepsItsNames (s t : HostViewMap) (n : Name) : Type 0 where
   pub is_after : IsUnit t n after
   pub same : (m : Name) → NamesIn before m ↔ NamesIn after m
 
--- if aliases and visible names are the same, and each unit of the universe names nothing outside it, the universe stays
+-- by one profile, if aliases and visible names are the same, and each unit of the universe names nothing outside it, the universe stays
 abbrev pub UniverseStays : Type 0
 UniverseStays =
-    (s t : HostViewMap) (extra names : List Name) → SameLeads s t → SameVisibleNames s t
+    (s t : HostViewMap) (extra names : List Name) → s.profile ≡ t.profile → SameLeads s t → SameVisibleNames s t
     → ((n : Name) → IsInUniverse s extra n → main s n ≡ n → NamesWithin s t extra n) → AreUniverse s extra names → AreUniverse t extra names
 
 -- in particular if each unit of the universe names the same
 abbrev pub SameNamesKeepTheUniverse : Type 0
 SameNamesKeepTheUniverse =
-    (s t : HostViewMap) (extra names : List Name) → SameLeads s t → SameVisibleNames s t
+    (s t : HostViewMap) (extra names : List Name) → s.profile ≡ t.profile → SameLeads s t → SameVisibleNames s t
     → ((n : Name) → IsInUniverse s extra n → main s n ≡ n → KeepsItsNames s t n) → AreUniverse s extra names → AreUniverse t extra names
 
 pub words_keep_visible_names : WordsKeepVisibleNames
@@ -84,15 +84,15 @@ module _ (s t : HostViewMap) (leads : SameLeads s t) where
     within n m r (inl e) = (reached_closed (IsSource s extra) (LeadsTo s)).stepped n m r (inl (mains n ∙ e))
     within n m r (inr h) = let k = keeps n r (mains n ∙ h.own) in k.known m (listed_there t n m k.after k.is_after h)
 
-  same_sources : (extra : List Name) → SameVisibleNames s t → (n : Name) → IsSource s extra n ↔ IsSource t extra n
-  same_sources extra same n = (there, back)
+  pub same_sources : s.profile ≡ t.profile → (extra : List Name) → SameVisibleNames s t → (n : Name) → IsSource s extra n ↔ IsSource t extra n
+  same_sources profile extra same n = (there, back)
     where
       there : IsSource s extra n → IsSource t extra n
-      there (inl a) = inl a
+      there (inl a) = inl (subst (λ (by : Profile). IsAmong n (asked_by by extra)) profile a)
       there (inr v) = inr ((same n).0 v)
 
       back : IsSource t extra n → IsSource s extra n
-      back (inl a) = inl a
+      back (inl a) = inl (subst (λ (by : Profile). IsAmong n (asked_by by extra)) (sym profile) a)
       back (inr v) = inr ((same n).1 v)
 
   -- ---- units by main names
@@ -120,15 +120,15 @@ module _ (s t : HostViewMap) (leads : SameLeads s t) where
   by_mains_same unit = ap (λ ls. let r : LoadedUnit = record unit { deps = ls } in r) (lists_same unit.name unit.deps)
 
 pub universe_stays : UniverseStays
-universe_stays s t extra names leads visible keeps all =
-    same_closure (IsSource s extra) (IsSource t extra) (LeadsTo t) (LeadsTo t) (same_sources s t leads extra visible)
+universe_stays s t extra names profile leads visible keeps all =
+    same_closure (IsSource s extra) (IsSource t extra) (LeadsTo t) (LeadsTo t) (same_sources s t leads profile extra visible)
     (λ n m. (λ h. h, λ h. h)) name_cmp names
     (closure_stays (IsSource s extra) (LeadsTo s) (LeadsTo t)
     (record { stay = stays s t leads extra keeps; within = within s t leads extra keeps }) name_cmp names all)
 
 pub same_names_keep_the_universe : SameNamesKeepTheUniverse
-same_names_keep_the_universe s t extra names leads visible keeps all =
-    universe_stays s t extra names leads visible (λ n r own. by n r (keeps n r own)) all
+same_names_keep_the_universe s t extra names profile leads visible keeps all =
+    universe_stays s t extra names profile leads visible (λ n r own. by n r (keeps n r own)) all
   where
     by : (n : Name) → IsInUniverse s extra n → KeepsItsNames s t n → NamesWithin s t extra n
     by n r k = record {

@@ -1,8 +1,8 @@
 -- The universe of a store: all names that a manager must know, with those that are asked for.
 -- Source: systemd.unit(5), "Description" and "[Unit] Section Options"; that all names of the load path are loaded, and
 -- the limit, are this project's own.
-use Rattle.std.proofs.Common.{◌≡◌, ◌≢◌, ◌⊎◌}
-use Rattle.parallel_load.specs.Prelude.{DepKind, HasOver, HostViewMap, IsAmong, IsClosure, IsLevel, IsName, IsNamed, IsReached, IsSome, List, main, Name, name_cmp, own_path, shape, Template, viewed_at, ℕ}
+use Rattle.std.proofs.Common.{◌++◌, ◌≡◌, ◌≢◌, ◌⊎◌}
+use Rattle.parallel_load.specs.Prelude.{DepKind, Files, HasOver, HostViewMap, IsAmong, IsClosure, IsLevel, IsName, IsNamed, IsReached, IsSome, List, main, Manager, Name, name_cmp, own_path, perpetual_units, Profile, shape, Template, viewed_at, ℕ}
 
 -- a unit name, no template, at which something is visible at this level
 pub record IsVisibleAt (s : HostViewMap) (level : ℕ) (n : Name) : Type 0 where
@@ -14,9 +14,14 @@ pub record IsVisibleAt (s : HostViewMap) (level : ℕ) (n : Name) : Type 0 where
 abbrev pub IsVisibleName : HostViewMap → Name → Type 0
 IsVisibleName s n = (level : ℕ) × IsLevel level × IsVisibleAt s level n
 
+-- The names that are asked for: for a manager also the perpetual units, which are always there.
+abbrev pub asked_by : Profile → List Name → List Name
+asked_by Files extra = extra
+asked_by Manager extra = perpetual_units ++ extra
+
 -- a name that is asked for, or one at which something is visible
 abbrev pub IsSource : HostViewMap → List Name → Name → Type 0
-IsSource s extra n = IsAmong n extra ⊎ IsVisibleName s n
+IsSource s extra n = IsAmong n (asked_by s.profile extra) ⊎ IsVisibleName s n
 
 -- the unit of this main name names the other, by some kind
 pub record Names (s : HostViewMap) (unit name : Name) : Type 0 where

@@ -24,8 +24,8 @@ use worker_rounds::{Gate, close_loaded_by_workers, is_worker_count};
 pub const MOST_NAMES: usize = 4096;
 
 /// Loads all units that the manager of a host, or a manager without one, must load from a store: the universe of the
-/// names that are asked for and of all names at which something is visible, closed under main names and under what
-/// units name (systemd.unit(5)).
+/// names that are asked for, for a manager of the perpetual units, and of all names at which something is visible, closed
+/// under main names and under what units name (systemd.unit(5)).
 ///
 /// `TooManyUnits` exactly if the universe has more than 4,096 names, aliases included. `Memory` if memory runs out.
 /// Never `Workers`. Linear in the bytes of the units' files, apart from a factor logarithmic in the numbers of names
@@ -106,7 +106,7 @@ fn start_of<'a>(
 {
     let view = store.host_view(viewer);
     let words = CachedLinkTargets::of(alloc, &view)?;
-    let sources = sources(alloc, &words, extra)?;
+    let sources = sources(alloc, viewer.profile, &words, extra)?;
     let index = AliasIndex::of_targets(alloc, view, words.names())?;
     let loader = UnitLoader::new(index);
     Ok(Start {

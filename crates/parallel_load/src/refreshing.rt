@@ -130,7 +130,7 @@ fn found_again(
     let alloc = loaded.allocator();
     let viewer = loaded.viewer();
     let words = loaded.words();
-    let sources = sources(alloc, words.get(), loaded.extra())?;
+    let sources = sources(alloc, viewer.profile, words.get(), loaded.extra())?;
     let affected = indices_affected(loaded, parts)?;
     let held = still_of(alloc, loaded, &affected)?;
     let index = AliasIndex::of_targets(alloc, store.host_view(viewer), words.get().names())?;

@@ -1,6 +1,6 @@
 use Rattle.std.proofs.Common.{◌≡◌}
 use Rattle.parallel_load.proofs.Gathering.{have_links}
-use Rattle.parallel_load.proofs.Prelude.{All, ap, HaveLinks, host_view_of, HostViewMap, IfSome, IsHeldOn, IsStill, IsTooLarge, List, Name, NamedWords, NameLoad, Option, sorted_from, subst, sym, ℕ, ◌∙◌}
+use Rattle.parallel_load.proofs.Prelude.{All, ap, AreSourcesBy, HaveLinks, host_view_of, HostViewMap, IfSome, IsHeldOn, IsStill, IsTooLarge, List, Name, NamedWords, NameLoad, Option, sorted_from, subst, sym, Viewer, ℕ, ◌∙◌}
 use Rattle.parallel_load.proofs.{Normalizing.{found_from, over_here, refused_over}, Staying.{held_loaded, held_sorted, same_sources, words_stay}}
 use Rattle.parallel_load.proofs.refreshing.found_again.Goals as goal
 
@@ -28,7 +28,7 @@ returns-in_err-close_loaded-clause-over c =
     let v = host_view_of c.args.store.now c.args.loaded.now.viewer in
     let is : c.of-loader.result ≡ v = c.of-loader.ensures.view ∙ c.new.ensures.index ∙ c.in_ok-index.ensures.view ∙ c.host_view.ensures.view ∙ ap (host_view_of c.args.store.now) c.viewer-viewer.ensures.viewer in
     let own = words_stay c.args.loaded.now c.args.store.now c.args.touched.now c.requires.before c.requires.words in
-    let same = same_sources v c.args.loaded.now.words c.get.result.now c.extra.result.now c.args.loaded.now.extra c.in_ok-sources.sources.items (c.get.ensures.value ∙ c.words-words.ensures.words) c.extra.ensures.extra own c.in_ok-sources.ensures.sources in
+    let same = same_sources v c.args.loaded.now.words c.get.result.now c.extra.result.now c.args.loaded.now.extra c.in_ok-sources.sources.items (c.get.ensures.value ∙ c.words-words.ensures.words) c.extra.ensures.extra own (subst (λ (w : Viewer). AreSourcesBy w.profile c.get.result.now c.extra.result.now c.in_ok-sources.sources.items) c.viewer-viewer.ensures.viewer c.in_ok-sources.ensures.sources) in
     refused_over c.from_residual-in_err-close_loaded.result _ (IsTooLarge v c.args.loaded.now.extra) c.from_residual-in_err-close_loaded.ensures.1
     (over_here v c.of-loader.result is c.args.loaded.now.extra c.in_ok-sources.sources.items c.deref-2.result.now same c.deref-2.ensures.value c.in_err-close_loaded.field-0.0 c.in_err-close_loaded.ensures.over)
 
@@ -37,6 +37,6 @@ returns-clause-found c =
     let v = host_view_of c.args.store.now c.args.loaded.now.viewer in
     let is : c.of-loader.result ≡ v = c.of-loader.ensures.view ∙ c.new.ensures.index ∙ c.in_ok-index.ensures.view ∙ c.host_view.ensures.view ∙ ap (host_view_of c.args.store.now) c.viewer-viewer.ensures.viewer in
     let own = words_stay c.args.loaded.now c.args.store.now c.args.touched.now c.requires.before c.requires.words in
-    let same = same_sources v c.args.loaded.now.words c.get.result.now c.extra.result.now c.args.loaded.now.extra c.in_ok-sources.sources.items (c.get.ensures.value ∙ c.words-words.ensures.words) c.extra.ensures.extra own c.in_ok-sources.ensures.sources in
+    let same = same_sources v c.args.loaded.now.words c.get.result.now c.extra.result.now c.args.loaded.now.extra c.in_ok-sources.sources.items (c.get.ensures.value ∙ c.words-words.ensures.words) c.extra.ensures.extra own (subst (λ (w : Viewer). AreSourcesBy w.profile c.get.result.now c.extra.result.now c.in_ok-sources.sources.items) c.viewer-viewer.ensures.viewer c.in_ok-sources.ensures.sources) in
     found_from v c.of-loader.result is c.args.loaded.now.extra c.in_ok-sources.sources.items c.deref-2.result.now same c.deref-2.ensures.value
     c.in_ok-close_loaded.field-0.entries c.in_ok-close_loaded.ensures.closure c.in_ok-close_loaded.ensures.loaded c.in_ok-close_loaded.ensures.room

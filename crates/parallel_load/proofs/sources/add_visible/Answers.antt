@@ -1,7 +1,7 @@
 use Rattle.std.proofs.Common.{◌++◌, ◌∷◌, ◌≡◌}
 use Rattle.parallel_load.proofs.Prelude.{[], ap, append_assoc, filter_map, List, Name, NamedWords, Option, refl, sym, take, take_all, Target, whole_name, ◌∙◌}
-use Rattle.parallel_load.proofs.{Rows.{sources_are}, sources.sources.Goals.{in-Some+in_ok-push, in_default}, Steps.{made_none, made_one}}
-use Rattle.parallel_load.proofs.sources.sources.Goals as goal
+use Rattle.parallel_load.proofs.{sources.add_visible.Goals.{in-Some+in_ok-push, in_default}, Steps.{made_none, made_one}}
+use Rattle.parallel_load.proofs.sources.add_visible.Goals as goal
 
 -- the unit name of an entry of the list of link targets, if it is one
 name_in : Name × List Target → Option Name
@@ -15,22 +15,21 @@ loop-name-preserved c =
     let x : Name × List Target = c.loop-name-item.result in
     let before : List Name = filter_map name_in (take i l) in
     let said : whole_name x.0 ≡ c.in_ok-name.field-0 = ap whole_name (sym c.as_slice.ensures.bytes) ∙ sym c.in_ok-name.ensures.name in
-    elim c.match-branch-3.branch [
+    elim c.match-branch-2.branch [
       | in-Some+in_ok-push w ↦
           ap (λ v. v.items) w.names-is ∙ w.in_ok-push.ensures.items
           ∙ ap (λ (ns : List Name). ns ++ w.in-Some.name ∷ []) c.loop-name.invariant
-          ∙ append_assoc c.args.extra.now before (w.in-Some.name ∷ [])
-          ∙ ap (λ (ns : List Name). c.args.extra.now ++ ns) (made_one name_in l i x x c.loop-name-test.true c.loop-name-item.is before w.in-Some.name (said ∙ w.in-Some.is) refl)
+          ∙ append_assoc c.args.names.now.items before (w.in-Some.name ∷ [])
+          ∙ ap (λ (ns : List Name). c.args.names.now.items ++ ns) (made_one name_in l i x x c.loop-name-test.true c.loop-name-item.is before w.in-Some.name (said ∙ w.in-Some.is) refl)
       | in_default w ↦
           ap (λ v. v.items) w.names-is ∙ c.loop-name.invariant
-          ∙ ap (λ (ns : List Name). c.args.extra.now ++ ns) (made_none name_in l i x x c.loop-name-test.true c.loop-name-item.is before (said ∙ w.in_default.is) refl)
+          ∙ ap (λ (ns : List Name). c.args.names.now.items ++ ns) (made_none name_in l i x x c.loop-name-test.true c.loop-name-item.is before (said ∙ w.in_default.is) refl)
     ]
 
 pub returns : goal.returns
 returns c = record {
-  sources =
-      sources_are c.args.words.now c.args.extra.now c.loop-name.names.items
-      (c.loop-name.invariant
-      ∙ ap (λ (ps : NamedWords). c.args.extra.now ++ filter_map (λ (p : Name × List Target). whole_name p.0) ps)
-      (take_all c.loop-name.name-index c.names-name-items.result.now c.loop-name-test.false ∙ c.names-name-items.ensures.names));
+  added =
+      c.loop-name.invariant
+      ∙ ap (λ (ps : NamedWords). c.args.names.now.items ++ filter_map (λ (p : Name × List Target). whole_name p.0) ps)
+      (take_all c.loop-name.name-index c.names-name-items.result.now c.loop-name-test.false ∙ c.names-name-items.ensures.names);
 }
