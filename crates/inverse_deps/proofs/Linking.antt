@@ -1,6 +1,6 @@
 -- The edges of each unit, made of its own dependencies and of the reverse of those on it.
 use Rattle.std.proofs.Common.{◌++◌, ◌+◌, ◌<◌, ◌↔◌, ◌∷◌, ◌≡◌, ◌⊎◌}
-use Rattle.inverse_deps.proofs.Prelude.{[], adjacency_named, adjacency_of_successors, All, among_from_contains, ap, AreDependencyAdjacency, AreEdgeAdjacency, AreLinks, AreLinksOf, AreMade, AreNames, AreTransposedIn, arith, cases_eq, cases_lt, Contains-get_or, count_of, Dependency, DependsOn, DepKind, edges_join_units, get_or, get_or-set_other, get_or-set_same, get_or_past, HasKind, inl, inr, inverse, inverses_are_undone, is_sorted, IsAmong, IsAmong-append_left, IsAmong-append_right, IsAmong-push, IsAmong-push_cases, IsEdge, IsKindList, IsStrictlySortedBy, IsTransposed, IsTrue, IsUnitIn, length, length-set, List, Listed, load_indexing, LoadMap, Name, name_at, name_cmp, NameLoad, names_along, names_either, nat_cmp, nat_list_cmp_total, neighbors, OfAlias, refl, same_at, set, subst, sym, transposed_named, unit_index, ℕ, ◌∙◌}
+use Rattle.inverse_deps.proofs.Prelude.{[], adjacency_of_successors, All, among_from_contains, ap, AreEdgeAdjacency, AreFound, AreFoundIn, AreLinks, AreLinksOf, AreMade, AreNames, AreRowsBy, AreTransposedIn, AreWithin, arith, cases_eq, cases_lt, Contains-get_or, count_of, dependency, Dependency, dependents_are_units, DependsOn, DepKind, get_or, get_or-set_other, get_or-set_same, get_or_past, HasKind, inl, inr, inverse, inverses_are_undone, IsAmong, IsAmong-append_left, IsAmong-append_right, IsAmong-push, IsAmong-push_cases, IsEdge, IsFound, IsKindList, IsStrictlySortedBy, IsTransposed, length, length-set, List, Listed, load_indexing, LoadMap, Name, name_at, name_cmp, names_along, names_either, nat_cmp, nat_list_cmp_total, neighbors, refl, same_at, set, subst, sym, transposed_named, unit_index, ℕ, ◌∙◌}
 
 -- what holds of each member of a list
 pub all_among : {X : Type 0} (P : X → Type 0) (xs : List X) → ((x : X) → IsAmong x xs → P x) → All P xs
@@ -8,11 +8,7 @@ all_among P xs h i d l = h (get_or xs i d) (among_from_contains (get_or xs i d) 
 
 -- ---- the reverse of one list
 
-dependency : DepKind → ℕ → Dependency
-dependency dep index = record { kind = dep; index = index }
-
-same_dependency : (x y : Dependency) → x.kind ≡ y.kind → x.index ≡ y.index → x ≡ y
-unfolding dependency
+pub same_dependency : (x y : Dependency) → x.kind ≡ y.kind → x.index ≡ y.index → x ≡ y
 same_dependency x y p q = ap (λ (dep : DepKind). dependency dep x.index) p ∙ ap (dependency y.kind) q
 
 -- these are those that were there, and the reverse of some dependencies
@@ -88,16 +84,6 @@ module _ (old deps more : List Dependency) (x : Dependency) (longer : more ≡ d
 
 -- ---- what is found list by list
 
--- a dependency in one of the first `count` lists is on the index, and this is its reverse
-pub record IsFound (adjacency : List (List Dependency)) (count index : ℕ) (one : Dependency) : Type 0 where
-  pub from : ℕ
-  pub below : from < count
-  pub transposed : IsTransposed (get_or adjacency from []) from index one
-
--- these are the unit's own dependencies, and what was found in the first `count` lists
-pub record AreFound (adjacency : List (List Dependency)) (own : List Dependency) (count index : ℕ) (links : List Dependency) : Type 0 where
-  pub just : (one : Dependency) → IsAmong one links ↔ (IsAmong one own ⊎ IsFound adjacency count index one)
-
 pub found_none : (adjacency : List (List Dependency)) (own links : List Dependency) (index : ℕ) → links ≡ own → AreFound adjacency own 0 index links
 found_none adjacency own links index e = record { just = λ one. (λ h. inl (subst (IsAmong one) e h), λ h. back one h) }
   where
@@ -160,11 +146,6 @@ module _ (old adjacency new : List (List Dependency)) (deps more : List Dependen
   pub transposed_in_more : AreTransposedIn old more from new
   transposed_in_more = record { units = ap length is ∙ length-set adjacency x.index (get_or adjacency x.index [] ++ y ∷ []) ∙ before.units; just = λ index. (one_list index).just }
 
--- each list has its own dependencies, and what was found in the first `count` lists
-pub record AreFoundIn (table : List (List Dependency)) (count : ℕ) (adjacency : List (List Dependency)) : Type 0 where
-  pub units : length adjacency ≡ length table
-  pub each : (index : ℕ) → AreFound table (get_or table index []) count index (get_or adjacency index [])
-
 pub found_in_none : (table adjacency : List (List Dependency)) → adjacency ≡ table → AreFoundIn table 0 adjacency
 found_in_none table adjacency e = record {
   units = ap length e;
@@ -179,46 +160,52 @@ found_in_more table adjacency new i deps neighbors before within same here trans
       found_more table (get_or table index []) i index (get_or adjacency index []) (get_or new index []) deps neighbors (before.each index) within same here (transposed.just index);
 }
 
--- what a list names has a list
-pub all_within : (load : LoadMap) (table : List (List Dependency)) → AreDependencyAdjacency load.names table → (i : ℕ) → i < length table → (deps neighbors : List Dependency) → deps ≡ neighbors
-    → neighbors ≡ get_or table i neighbors → (count : ℕ) → count ≡ length table → All (λ (one : Dependency). one.index < count) deps
-all_within load table are i below deps neighbors same here count count_is =
-    let each = are.one_each in
-    let p : Name × NameLoad = ([], OfAlias []) in
-    let neighbors_is : deps ≡ get_or table i [] = same ∙ here ∙ same_at table i neighbors [] below in
-    subst (λ n. All (λ (one : Dependency). one.index < n) deps) (sym (count_is ∙ each))
-    (subst (λ (ds : List Dependency). All (λ (one : Dependency). one.index < count_of load) ds) (sym neighbors_is)
-    (all_among (λ (one : Dependency). one.index < count_of load) (get_or table i []) (λ one h. ((are.rows i p (omega (arith, below, each))).each one h).below)))
+-- what a row has is within
+pub row_within : (rows : List (List Dependency)) (n : ℕ) → AreWithin n rows → (i : ℕ) → i < length rows → (deps row : List Dependency) → deps ≡ row → row ≡ get_or rows i row → (count : ℕ) → count ≡ n
+    → All (λ (one : Dependency). one.index < count) deps
+row_within rows n within i below deps row same here count count_is =
+    let row_is : deps ≡ get_or rows i [] = same ∙ here ∙ same_at rows i row [] below in
+    subst (λ k. All (λ (one : Dependency). one.index < k) deps) (sym count_is)
+    (subst (λ (ds : List Dependency). All (λ (one : Dependency). one.index < n) ds) (sym row_is) (all_among (λ (one : Dependency). one.index < n) (get_or rows i []) (λ one h. within.each i one h)))
+
+-- an index with something in its row is one of a row
+pub has_row : (rows : List (List Dependency)) (i : ℕ) (one : Dependency) → IsAmong one (get_or rows i []) → i < length rows
+has_row rows i one h = elim (cases_lt i (length rows)) [
+  | inl l ↦ l
+  | inr past ↦ absurd (subst (λ ds. IsAmong one ds) (get_or_past rows i [] past) h)
+]
+
+-- rows of a load are within it
+pub rows_within : (load : LoadMap) (leads : DepKind → Name → Name → Type 0) (rows : List (List Dependency)) → AreRowsBy load leads rows → AreWithin (count_of load) rows
+rows_within load leads rows are = record {
+  each = λ i one h. (let each = are.one_each in
+      let l = has_row rows i one h in
+      (are.named one.kind i (omega (arith, each, l))).within one.index (record { one = one; there = h; kind_is = refl; index_is = refl }));
+}
 
 -- ---- links
 
-module _ (load : LoadMap) (sorted : IsTrue (is_sorted name_cmp load.names)) (adjacency : List (List Dependency)) (are : AreDependencyAdjacency load.names adjacency) (index : ℕ) (below : index < count_of load)
-    (own links : List Dependency) (own_is : own ≡ get_or adjacency index []) (found : AreFound adjacency own (length adjacency) index links) (dep : DepKind) where
-  -- what the unit names, and what names it by the inverse
-  abbrev Has : ℕ → Type 0
-  Has j = HasKind own dep j ⊎ HasKind (get_or adjacency j []) (inverse dep) index
+-- by index
+module _ (rows : List (List Dependency)) (index : ℕ) (own links : List Dependency) (found : AreFound rows own (length rows) index links) (dep : DepKind) where
+  -- what the unit has, and what has it by the inverse
+  abbrev pub Has : ℕ → Type 0
+  Has j = HasKind own dep j ⊎ HasKind (get_or rows j []) (inverse dep) index
 
-  has_link : (j : ℕ) → HasKind links dep j → Has j
+  pub has_link : (j : ℕ) → HasKind links dep j → Has j
   has_link j k = by ((found.just k.one).0 k.there)
     where
-      by : IsAmong k.one own ⊎ IsFound adjacency (length adjacency) index k.one → Has j
+      by : IsAmong k.one own ⊎ IsFound rows (length rows) index k.one → Has j
       by (inl h) = inl (record { one = k.one; there = h; kind_is = k.kind_is; index_is = k.index_is })
       by (inr f) =
           let neighbors : f.from ≡ j = sym f.transposed.index_is ∙ k.index_is in
           inr (record {
             one = f.transposed.dep;
-            there = subst (λ i. IsAmong f.transposed.dep (get_or adjacency i [])) neighbors f.transposed.there;
+            there = subst (λ i. IsAmong f.transposed.dep (get_or rows i [])) neighbors f.transposed.there;
             kind_is = sym (inverses_are_undone f.transposed.dep.kind) ∙ ap inverse (sym f.transposed.kind_is ∙ k.kind_is);
             index_is = f.transposed.on;
           })
 
-  neighbors_within : (j : ℕ) → HasKind (get_or adjacency j []) (inverse dep) index → j < length adjacency
-  neighbors_within j k = elim (cases_lt j (length adjacency)) [
-    | inl l ↦ l
-    | inr past ↦ absurd (subst (λ ds. IsAmong k.one ds) (get_or_past adjacency j [] past) k.there)
-  ]
-
-  link : (j : ℕ) → Has j → HasKind links dep j
+  pub link : (j : ℕ) → Has j → HasKind links dep j
   link j (inl k) = record { one = k.one; there = (found.just k.one).1 (inl k.there); kind_is = k.kind_is; index_is = k.index_is }
   link j (inr k) =
       let one : Dependency = record { kind = dep; index = j } in
@@ -226,53 +213,53 @@ module _ (load : LoadMap) (sorted : IsTrue (is_sorted name_cmp load.names)) (adj
         one = one;
         there = (found.just one).1 (inr (record {
           from = j;
-          below = neighbors_within j k;
+          below = has_row rows j k.one k.there;
           transposed = record { dep = k.one; there = k.there; on = k.index_is; kind_is = sym (ap inverse k.kind_is ∙ inverses_are_undone dep); index_is = refl };
         }));
         kind_is = refl;
         index_is = refl;
       }
 
-  naming : AreNames (count_of load) (name_at load) (λ j. HasKind (get_or adjacency j []) (inverse dep) index) (λ v. DependsOn load (inverse dep) v (name_at load index))
+-- by name
+module _ (load : LoadMap) (rows : List (List Dependency)) (are : AreRowsBy load (DependsOn load) rows) (index : ℕ) (below : index < count_of load)
+    (own links : List Dependency) (own_is : own ≡ get_or rows index []) (found : AreFound rows own (length rows) index links) (dep : DepKind) where
+  naming : AreNames (count_of load) (name_at load) (λ j. HasKind (get_or rows j []) (inverse dep) index) (λ v. DependsOn load (inverse dep) v (name_at load index))
   naming =
-      transposed_named (count_of load) (name_at load) name_cmp nat_list_cmp_total (load_indexing load sorted)
-      (λ i j. HasKind (get_or adjacency i []) (inverse dep) j) (λ i j. HasKind (get_or adjacency j []) (inverse dep) i) (DependsOn load (inverse dep))
-      (adjacency_named load sorted (inverse dep) adjacency are) (λ i j. (λ h. h, λ h. h))
-      (λ i j h. within i j h) (λ u v d. unit_index load u (d.unit, d.unit_is)) index below
+      transposed_named (count_of load) (name_at load) name_cmp nat_list_cmp_total (load_indexing load are.sorted)
+      (λ i j. HasKind (get_or rows i []) (inverse dep) j) (λ i j. HasKind (get_or rows j []) (inverse dep) i) (DependsOn load (inverse dep))
+      (are.named (inverse dep)) (λ i j. (λ h. h, λ h. h))
+      (λ i j h. within i j h) (λ u v d. unit_index load u (dependents_are_units load.viewer.profile load.names (inverse dep) u v d).0) index below
     where
-      within : (i j : ℕ) → HasKind (get_or adjacency j []) (inverse dep) i → j < count_of load
-      within i j k = elim (cases_lt j (length adjacency)) [
-        | inl l ↦ (let e = are.one_each in omega (arith, l, e))
-        | inr past ↦ absurd (subst (λ ds. IsAmong k.one ds) (get_or_past adjacency j [] past) k.there)
-      ]
+      within : (i j : ℕ) → HasKind (get_or rows j []) (inverse dep) i → j < count_of load
+      within i j k = let l = has_row rows j k.one k.there in let e = are.one_each in omega (arith, l, e)
 
   pub linked_successors : AreNames (count_of load) (name_at load) (HasKind links dep) (IsEdge load dep (name_at load index))
   linked_successors =
-      names_along (count_of load) (name_at load) Has (HasKind links dep) (IsEdge load dep (name_at load index)) (IsEdge load dep (name_at load index))
-      (names_either (count_of load) (name_at load) (HasKind own dep) (λ j. HasKind (get_or adjacency j []) (inverse dep) index) (DependsOn load dep (name_at load index))
+      names_along (count_of load) (name_at load) (Has rows index own links found dep) (HasKind links dep) (IsEdge load dep (name_at load index)) (IsEdge load dep (name_at load index))
+      (names_either (count_of load) (name_at load) (HasKind own dep) (λ j. HasKind (get_or rows j []) (inverse dep) index) (DependsOn load dep (name_at load index))
       (λ v. DependsOn load (inverse dep) v (name_at load index)) own_names naming)
-      (λ j. (link j, has_link j)) (λ v. (λ h. h, λ h. h))
+      (λ j. (link rows index own links found dep j, has_link rows index own links found dep j)) (λ v. (λ h. h, λ h. h))
     where
       own_names : AreNames (count_of load) (name_at load) (HasKind own dep) (DependsOn load dep (name_at load index))
-      own_names = subst (λ ds. AreNames (count_of load) (name_at load) (HasKind ds dep) (DependsOn load dep (name_at load index))) (sym own_is) (adjacency_named load sorted dep adjacency are index below)
+      own_names = subst (λ ds. AreNames (count_of load) (name_at load) (HasKind ds dep) (DependsOn load dep (name_at load index))) (sym own_is) (are.named dep index below)
 
 -- all links of a unit were found
-pub links_found : (load : LoadMap) → IsTrue (is_sorted name_cmp load.names) → (adjacency : List (List Dependency)) → AreDependencyAdjacency load.names adjacency → (index : ℕ) → index < count_of load
-    → (own links : List Dependency) → own ≡ get_or adjacency index [] → AreFound adjacency own (length adjacency) index links → AreLinksOf load (name_at load index) links
-links_found load sorted adjacency are index below own links own_is found = record {
+links_found : (load : LoadMap) (rows : List (List Dependency)) → AreRowsBy load (DependsOn load) rows → (index : ℕ) → index < count_of load
+    → (own links : List Dependency) → own ≡ get_or rows index [] → AreFound rows own (length rows) index links → AreLinksOf load (name_at load index) links
+links_found load rows are index below own links own_is found = record {
   within = all_among (λ (one : Dependency). one.index < count_of load) links (λ one h. (successors one.kind).within one.index (record { one = one; there = h; kind_is = refl; index_is = refl }));
   successors = successors;
 }
   where
     successors : (dep : DepKind) → AreNames (count_of load) (name_at load) (HasKind links dep) (IsEdge load dep (name_at load index))
-    successors dep = linked_successors load sorted adjacency are index below own links own_is found dep
+    successors dep = linked_successors load rows are index below own links own_is found dep
 
 -- all links of a load were found
-pub adjacency_found : (load : LoadMap) → IsTrue (is_sorted name_cmp load.names) → (table adjacency : List (List Dependency)) → AreDependencyAdjacency load.names table → AreFoundIn table (length table) adjacency → AreLinks load adjacency
-adjacency_found load sorted table adjacency are found = record {
-  sorted = sorted;
+pub adjacency_found : (load : LoadMap) (rows adjacency : List (List Dependency)) → AreRowsBy load (DependsOn load) rows → AreFoundIn rows (length rows) adjacency → AreLinks load adjacency
+adjacency_found load rows adjacency are found = record {
+  sorted = are.sorted;
   one_each = found.units ∙ are.one_each;
-  each = λ index below. links_found load sorted table are index below (get_or table index []) (get_or adjacency index []) refl (found.each index);
+  each = λ index below. links_found load rows are index below (get_or rows index []) (get_or adjacency index []) refl (found.each index);
 }
 
 -- ---- the links of a kind

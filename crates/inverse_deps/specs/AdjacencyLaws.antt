@@ -1,8 +1,9 @@
--- Loads with the same names and the same dependencies by index have the same edges.
+-- What units name is what rows of dependencies have; and by files loads with the same names and the same rows have the same
+-- edges.
 -- Source: this project's own.
 use Rattle.std.{proofs.Common.{◌<◌, ◌↔◌, ◌∷◌, ◌≡◌}, specs.FinMap.Entries.{is_sorted}}
-use Rattle.inverse_deps.specs.Prelude.{[], ap, AreDependenciesOf, AreDependencyAdjacency, AreNamedSuccessors, AreNames, arith, Dependency, DepKind, get_or, HaveSameAdjacency, inl, inr, inverse, IsListed, IsTrue, length, List, lists_in, LoadedUnit, LoadMap, Name, name_cmp, NameLoad, none-some, none_there, OfAlias, OfUnit, refl, Some, subst, suc, sym, unit_in, unit_part, zero, ℕ, ◌∙◌}
-use Rattle.inverse_deps.specs.{Edges.{DependsOn, IsEdge, IsUnitIn}, IndexLaws.{counts_alike, named_alike, unit_at, unit_index}, Indices.{count_of, name_at}, Tables.{HasKind}}
+use Rattle.inverse_deps.specs.Prelude.{[], ap, AreDependenciesOf, AreDependencyAdjacency, AreNamedSuccessors, AreNames, arith, Dependency, DepKind, Files, get_or, HaveSameAdjacency, inl, inr, inverse, IsListed, IsTrue, length, List, lists_in, LoadedUnit, LoadMap, Name, name_cmp, NameLoad, none-some, none_there, OfAlias, OfUnit, refl, Some, subst, suc, sym, unit_in, unit_part, zero, ℕ, ◌∙◌}
+use Rattle.inverse_deps.specs.{Dependencies.{NamesUnit}, Edges.{DependsOn, IsEdge, IsUnitIn}, IndexLaws.{counts_alike, named_alike, unit_at, unit_index}, Indices.{count_of, name_at}, Rows.{AreRowsBy}, Tables.{HasKind}, UnitLaws.{by_files_alone}}
 
 -- ---- the dependencies of a name
 
@@ -10,11 +11,11 @@ module _ (load : LoadMap) (sorted : IsTrue (is_sorted name_cmp load.names)) (dep
   part : unit_in load (name_at load index) ≡ unit_part (get_or load.names index p).1
   part = unit_at load sorted index p below
 
-  there : (one : NameLoad) → (get_or load.names index p).1 ≡ one → (v : Name) → IsListed (lists_in one) dep v → IsUnitIn load v → DependsOn load dep (name_at load index) v
+  there : (one : NameLoad) → (get_or load.names index p).1 ≡ one → (v : Name) → IsListed (lists_in one) dep v → IsUnitIn load v → NamesUnit load.names dep (name_at load index) v
   there (OfUnit u) e v l w = record { unit = u; unit_is = part ∙ ap unit_part e; listed = l; other = w }
   there (OfAlias m) e v l w = none_there l.list l.there
 
-  back : (one : NameLoad) → (get_or load.names index p).1 ≡ one → (v : Name) → DependsOn load dep (name_at load index) v → IsListed (lists_in one) dep v
+  back : (one : NameLoad) → (get_or load.names index p).1 ≡ one → (v : Name) → NamesUnit load.names dep (name_at load index) v → IsListed (lists_in one) dep v
   back (OfUnit u) e v d =
       let f : Some d.unit ≡ Some u = sym d.unit_is ∙ part ∙ ap unit_part e in
       let same : d.unit ≡ u = cc (f) in
@@ -24,7 +25,7 @@ module _ (load : LoadMap) (sorted : IsTrue (is_sorted name_cmp load.names)) (dep
 
   -- a name's dependencies of the kind are what it depends on
   pub kinds_named : (deps : List Dependency) → AreDependenciesOf load.names (lists_in (get_or load.names index p).1) deps
-      → AreNames (count_of load) (name_at load) (HasKind deps dep) (DependsOn load dep (name_at load index))
+      → AreNames (count_of load) (name_at load) (HasKind deps dep) (NamesUnit load.names dep (name_at load index))
   kinds_named deps a = record { within = within; named = named; indexed = indexed }
     where
       within : (i : ℕ) → HasKind deps dep i → i < count_of load
@@ -32,7 +33,7 @@ module _ (load : LoadMap) (sorted : IsTrue (is_sorted name_cmp load.names)) (dep
           let P : ℕ → Type 0 = λ j. j < count_of load in
           subst P k.index_is (a.each k.one k.there).below
 
-      named : (i : ℕ) → HasKind deps dep i → DependsOn load dep (name_at load index) (name_at load i)
+      named : (i : ℕ) → HasKind deps dep i → NamesUnit load.names dep (name_at load index) (name_at load i)
       named i k =
           let d = a.each k.one k.there in
           let K : DepKind → Type 0 = λ e. IsListed (lists_in (get_or load.names index p).1) e (name_at load k.one.index) in
@@ -40,7 +41,7 @@ module _ (load : LoadMap) (sorted : IsTrue (is_sorted name_cmp load.names)) (dep
           let U : ℕ → Type 0 = λ j. IsUnitIn load (name_at load j) in
           there (get_or load.names index p).1 refl (name_at load i) (subst L k.index_is (subst K k.kind_is d.listed)) (subst U k.index_is d.unit)
 
-      indexed : (v : Name) → DependsOn load dep (name_at load index) v → (i : ℕ) × (HasKind deps dep i × (name_at load i ≡ v))
+      indexed : (v : Name) → NamesUnit load.names dep (name_at load index) v → (i : ℕ) × (HasKind deps dep i × (name_at load i ≡ v))
       indexed v d =
           let r = a.all dep v (back (get_or load.names index p).1 refl v d) in
           (r.one.index, (record { one = r.one; there = r.there; kind_is = r.kind_is; index_is = refl }, r.named))
@@ -53,8 +54,12 @@ same_at (x ∷ xs) (suc i) d e l = same_at xs i d e (omega arith)
 
 -- the same for the adjacency lists of a load
 pub adjacency_named : (load : LoadMap) → IsTrue (is_sorted name_cmp load.names) → (dep : DepKind) (adjacency : List (List Dependency)) → AreDependencyAdjacency load.names adjacency
-    → AreNamedSuccessors (count_of load) (name_at load) (λ i j. HasKind (get_or adjacency i []) dep j) (DependsOn load dep)
+    → AreNamedSuccessors (count_of load) (name_at load) (λ i j. HasKind (get_or adjacency i []) dep j) (NamesUnit load.names dep)
 adjacency_named load sorted dep adjacency a index l = let p : Name × NameLoad = ([], OfAlias []) in kinds_named load sorted dep index p l (get_or adjacency index []) (a.rows index p l)
+
+-- the rows of a load are what its units name
+pub own_rows : (load : LoadMap) → IsTrue (is_sorted name_cmp load.names) → (rows : List (List Dependency)) → AreDependencyAdjacency load.names rows → AreRowsBy load (NamesUnit load.names) rows
+own_rows load sorted rows a = record { sorted = sorted; one_each = a.one_each; named = λ dep. adjacency_named load sorted dep rows a }
 
 -- ---- edges
 
@@ -62,20 +67,24 @@ module _ (a b : LoadMap) (same : HaveSameAdjacency a b) where
   name_is : (i : ℕ) → name_at a i ≡ name_at b i
   name_is = named_alike a b same.names_are
 
-  depends : (dep : DepKind) (u v : Name) → DependsOn a dep u v → DependsOn b dep u v
-  depends dep u v d =
+  named_too : (dep : DepKind) (u v : Name) → NamesUnit a.names dep u v → NamesUnit b.names dep u v
+  named_too dep u v d =
       let n = unit_index a u (d.unit, d.unit_is) in
-      let r = (adjacency_named a same.sorted dep same.table same.rows n.0 n.1.0).indexed v (subst (λ (w : Name). DependsOn a dep w v) (sym n.1.1) d) in
+      let r = (adjacency_named a same.sorted dep same.table same.rows n.0 n.1.0).indexed v (subst (λ (w : Name). NamesUnit a.names dep w v) (sym n.1.1) d) in
       let lt = n.1.0 in
       let counts = counts_alike a b same.names_are in
       let below : n.0 < count_of b = omega (arith, lt, counts) in
       let there = (adjacency_named b same.sorted_too dep same.table same.rows_too n.0 below).named r.0 r.1.0 in
-      subst (λ (w : Name). DependsOn b dep w v) (sym (name_is n.0) ∙ n.1.1)
-      (subst (λ (w : Name). DependsOn b dep (name_at b n.0) w) (sym (name_is r.0) ∙ r.1.1) there)
+      subst (λ (w : Name). NamesUnit b.names dep w v) (sym (name_is n.0) ∙ n.1.1)
+      (subst (λ (w : Name). NamesUnit b.names dep (name_at b n.0) w) (sym (name_is r.0) ∙ r.1.1) there)
 
-  edge : (dep : DepKind) (u v : Name) → IsEdge a dep u v → IsEdge b dep u v
-  edge dep u v (inl d) = inl (depends dep u v d)
-  edge dep u v (inr d) = inr (depends (inverse dep) v u d)
+  module _ (by_files : a.viewer.profile ≡ Files) (by_files_too : b.viewer.profile ≡ Files) where
+    depends : (dep : DepKind) (u v : Name) → DependsOn a dep u v → DependsOn b dep u v
+    depends dep u v d = (by_files_alone b.viewer.profile b.names dep u v by_files_too).1 (named_too dep u v ((by_files_alone a.viewer.profile a.names dep u v by_files).0 d))
+
+    edge : (dep : DepKind) (u v : Name) → IsEdge a dep u v → IsEdge b dep u v
+    edge dep u v (inl d) = inl (depends dep u v d)
+    edge dep u v (inr d) = inr (depends (inverse dep) v u d)
 
 transposed_round : (a b : LoadMap) → HaveSameAdjacency a b → HaveSameAdjacency b a
 transposed_round a b same = record {
@@ -87,5 +96,6 @@ transposed_round a b same = record {
   rows_too = same.rows;
 }
 
-pub edges_alike : (a b : LoadMap) → HaveSameAdjacency a b → (dep : DepKind) (u v : Name) → IsEdge a dep u v ↔ IsEdge b dep u v
-edges_alike a b same dep u v = (edge a b same dep u v, edge b a (transposed_round a b same) dep u v)
+-- of loads by files
+pub edges_alike : (a b : LoadMap) → HaveSameAdjacency a b → a.viewer.profile ≡ Files → b.viewer.profile ≡ Files → (dep : DepKind) (u v : Name) → IsEdge a dep u v ↔ IsEdge b dep u v
+edges_alike a b same f g dep u v = (edge a b same f g dep u v, edge b a (transposed_round a b same) g f dep u v)

@@ -1,7 +1,7 @@
 -- Laws of edges: each edge has its inverse, edges join units, and a load has one list of its edges.
 use Rattle.std.proofs.Common.{◌↔◌, ◌∷◌, ◌≡◌, ◌⊎◌}
 use Rattle.inverse_deps.specs.Prelude.{[], All, All-head, All-tail, ap, dependencies_are_mains, DependencyList, DepKind, HostViewMap, inl, inr, inverse, inverses_are_undone, IsDependency, IsLoad, keys_of, List, LoadMap, map, Name, name_cmp, nat_list_cmp_total, one_ascending_list, refl, subst, sym, ◌∙◌}
-use Rattle.inverse_deps.specs.Edges.{AreEdges, AreEdgesFrom, AreEdgesOf, DependsOn, EdgeMap, HaveSameEdges, IsEdge, IsUnitIn, names_in}
+use Rattle.inverse_deps.specs.{Dependencies.{IsByPath, IsByTarget}, Edges.{AreEdges, AreEdgesFrom, AreEdgesOf, DependsOn, EdgeMap, HaveSameEdges, IsEdge, IsUnitIn, names_in}, UnitLaws.{dependents_are_units}}
 
 -- Each edge has its inverse.
 abbrev pub InversesAreOne : Type 0
@@ -19,11 +19,16 @@ OneListOfEdges = (load : LoadMap) (a b : EdgeMap) → AreEdges load a → AreEdg
 abbrev pub OneListByKind : Type 0
 OneListByKind = (load : LoadMap) (u : Name) (a b : List DependencyList) → AreEdgesOf load u a → AreEdgesOf load u b → a ≡ b
 
+-- The two units make a dependency of this kind on each other: by a mount on the way to a path, or by what a target pulls.
+abbrev pub IsOfTwo : LoadMap → DepKind → Name → Name → Type 0
+IsOfTwo load dep u v = IsByPath load.viewer.profile load.names dep u v ⊎ IsByTarget load.viewer.profile load.names dep u v
+
 -- And there an edge leads from one unit to another exactly where one names the other in the store, by the kind or by
--- its inverse.
+-- its inverse, or where the two make the dependency.
 abbrev pub EdgesComeFromNames : Type 0
 EdgesComeFromNames = (s : HostViewMap) (extra : List Name) (load : LoadMap) (dep : DepKind) (u v : Name) → IsLoad s extra load
-    → IsEdge load dep u v ↔ (IsUnitIn load u × IsUnitIn load v × (IsDependency s u dep v ⊎ IsDependency s v (inverse dep) u))
+    → IsEdge load dep u v
+    ↔ (IsUnitIn load u × IsUnitIn load v × ((IsDependency s u dep v ⊎ IsDependency s v (inverse dep) u) ⊎ (IsOfTwo load dep u v ⊎ IsOfTwo load (inverse dep) v u)))
 
 turn : (load : LoadMap) (dep : DepKind) (u v : Name) → IsEdge load dep u v → IsEdge load (inverse dep) v u
 turn load dep u v (inl d) = inr (subst (λ k. DependsOn load k u v) (sym (inverses_are_undone dep)) d)
@@ -37,8 +42,8 @@ pub inverses_are_one : InversesAreOne
 inverses_are_one load dep u v = (turn load dep u v, turn_back load dep u v)
 
 pub edges_join_units : EdgesJoinUnits
-edges_join_units load dep u v (inl d) = ((d.unit, d.unit_is), d.other)
-edges_join_units load dep u v (inr d) = (d.other, (d.unit, d.unit_is))
+edges_join_units load dep u v (inl d) = dependents_are_units load.viewer.profile load.names dep u v d
+edges_join_units load dep u v (inr d) = let ends = dependents_are_units load.viewer.profile load.names (inverse dep) v u d in (ends.1, ends.0)
 
 one_list_from : (load : LoadMap) (dep : DepKind) (u : Name) (a b : List Name) → AreEdgesFrom load dep u a → AreEdgesFrom load dep u b → a ≡ b
 one_list_from load dep u a b p q =
@@ -77,19 +82,30 @@ pub one_list_by_kind : OneListByKind
 one_list_by_kind load u a b p q = one_by_kind load u a b (p.kinds_are ∙ sym q.kinds_are) p.each q.each
 
 module _ (s : HostViewMap) (extra : List Name) (load : LoadMap) (l : IsLoad s extra load) where
-  dependency : (dep : DepKind) (u v : Name) → DependsOn load dep u v → IsDependency s u dep v
-  dependency dep u v d = (dependencies_are_mains s extra load u d.unit dep v l d.unit_is).0 d.listed
+  abbrev Named : DepKind → Name → Name → Type 0
+  Named dep u v = (IsDependency s u dep v ⊎ IsDependency s v (inverse dep) u) ⊎ (IsOfTwo load dep u v ⊎ IsOfTwo load (inverse dep) v u)
 
-  depends : (dep : DepKind) (u v : Name) → IsUnitIn load u → IsUnitIn load v → IsDependency s u dep v → DependsOn load dep u v
-  depends dep u v a b d = record { unit = a.0; unit_is = a.1; listed = (dependencies_are_mains s extra load u a.0 dep v l a.1).1 d; other = b }
+  dependency : (dep : DepKind) (u v : Name) → DependsOn load dep u v → IsDependency s u dep v ⊎ IsOfTwo load dep u v
+  dependency dep u v (inl (inl d)) = inl ((dependencies_are_mains s extra load u d.unit dep v l d.unit_is).0 d.listed)
+  dependency dep u v (inl (inr d)) = inr (inl d)
+  dependency dep u v (inr d) = inr (inr d)
 
-  one_names : (dep : DepKind) (u v : Name) → IsEdge load dep u v → IsDependency s u dep v ⊎ IsDependency s v (inverse dep) u
-  one_names dep u v (inl d) = inl (dependency dep u v d)
-  one_names dep u v (inr d) = inr (dependency (inverse dep) v u d)
+  names : (dep : DepKind) (u v : Name) → IsUnitIn load u → IsUnitIn load v → IsDependency s u dep v → DependsOn load dep u v
+  names dep u v a b d = inl (inl (record { unit = a.0; unit_is = a.1; listed = (dependencies_are_mains s extra load u a.0 dep v l a.1).1 d; other = b }))
 
-  edge_of_names : (dep : DepKind) (u v : Name) → IsUnitIn load u → IsUnitIn load v → IsDependency s u dep v ⊎ IsDependency s v (inverse dep) u → IsEdge load dep u v
-  edge_of_names dep u v a b (inl d) = inl (depends dep u v a b d)
-  edge_of_names dep u v a b (inr d) = inr (depends (inverse dep) v u b a d)
+  of_two : (dep : DepKind) (u v : Name) → IsOfTwo load dep u v → DependsOn load dep u v
+  of_two dep u v (inl d) = inl (inr d)
+  of_two dep u v (inr d) = inr d
+
+  one_names : (dep : DepKind) (u v : Name) → IsEdge load dep u v → Named dep u v
+  one_names dep u v (inl d) = elim (dependency dep u v d) [ inl n ↦ inl (inl n) | inr t ↦ inr (inl t) ]
+  one_names dep u v (inr d) = elim (dependency (inverse dep) v u d) [ inl n ↦ inl (inr n) | inr t ↦ inr (inr t) ]
+
+  edge_of_names : (dep : DepKind) (u v : Name) → IsUnitIn load u → IsUnitIn load v → Named dep u v → IsEdge load dep u v
+  edge_of_names dep u v a b (inl (inl d)) = inl (names dep u v a b d)
+  edge_of_names dep u v a b (inl (inr d)) = inr (names (inverse dep) v u b a d)
+  edge_of_names dep u v a b (inr (inl d)) = inl (of_two dep u v d)
+  edge_of_names dep u v a b (inr (inr d)) = inr (of_two (inverse dep) v u d)
 
 pub edges_come_from_names : EdgesComeFromNames
 edges_come_from_names s extra load dep u v l = (

@@ -1,7 +1,8 @@
 -- The dependencies between the units of a load, in both directions.
 -- Source: systemd.unit(5), "Mapping of unit properties to their inverses".
-use Rattle.std.proofs.Common.{◌↔◌, ◌≡◌, ◌⊎◌}
-use Rattle.inverse_deps.specs.Prelude.{[], After, All, Before, BindsTo, BoundBy, ConflictedBy, Conflicts, ConsistsOf, DependencyList, DepKind, find, InSlice, inverse, is_sorted, IsAmong, IsListed, IsStrictlySortedBy, IsTrue, keys_of, kinds, List, LoadedUnit, LoadMap, map, Name, name_cmp, None, OnFailure, OnFailureOf, Option, PartOf, PropagatesReloadTo, ReloadPropagatedFrom, RequiredBy, Requires, Requisite, RequisiteOf, slice_index_or, SliceOf, Some, TriggeredBy, Triggers, unit_in, UpheldBy, Upholds, WantedBy, Wants, ℕ}
+use Rattle.std.proofs.Common.{◌↔◌, ◌≡◌}
+use Rattle.inverse_deps.specs.Dependencies.{IsDependent, IsEdgeAmong}
+use Rattle.inverse_deps.specs.Prelude.{[], After, All, Before, BindsTo, BoundBy, ConflictedBy, Conflicts, ConsistsOf, DependencyList, DepKind, find, InSlice, is_sorted, IsAmong, IsStrictlySortedBy, IsTrue, keys_of, kinds, List, LoadedUnit, LoadMap, map, Name, name_cmp, None, OnFailure, OnFailureOf, Option, PartOf, PropagatesReloadTo, ReloadPropagatedFrom, RequiredBy, Requires, Requisite, RequisiteOf, slice_index_or, SliceOf, Some, TriggeredBy, Triggers, unit_in, UpheldBy, Upholds, WantedBy, Wants, ℕ}
 
 -- ---- edges
 
@@ -10,16 +11,13 @@ abbrev pub IsUnitIn : LoadMap → Name → Type 0
 IsUnitIn load name = (unit : LoadedUnit) × (unit_in load name ≡ Some unit)
 
 -- The unit u has the unit v as a dependency of this kind.
-pub record DependsOn (load : LoadMap) (dep : DepKind) (u v : Name) : Type 0 where
-  pub unit : LoadedUnit
-  pub unit_is : unit_in load u ≡ Some unit
-  pub listed : IsListed unit.deps dep v
-  pub other : IsUnitIn load v
+abbrev pub DependsOn : LoadMap → DepKind → Name → Name → Type 0
+DependsOn load dep u v = IsDependent load.viewer.profile load.names dep u v
 
--- An edge of this kind leads from the unit u to the unit v: one of the two names the other, u by the kind or v by its
+-- An edge of this kind leads from the unit u to the unit v: u has v as a dependency of the kind, or v has u by its
 -- inverse.
 abbrev pub IsEdge : LoadMap → DepKind → Name → Name → Type 0
-IsEdge load dep u v = DependsOn load dep u v ⊎ DependsOn load (inverse dep) v u
+IsEdge load dep u v = IsEdgeAmong load.viewer.profile load.names dep u v
 
 -- ---- lists of edges
 

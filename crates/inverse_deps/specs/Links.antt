@@ -22,6 +22,21 @@ pub record AreTransposedIn (old : List (List Dependency)) (deps : List Dependenc
   pub units : length adjacency ≡ length old
   pub just : (index : ℕ) (one : Dependency) → IsAmong one (slice_index_or adjacency index []) ↔ (IsAmong one (slice_index_or old index []) ⊎ IsTransposed deps from index one)
 
+-- a dependency in one of the first `count` rows is on the index, and this is its reverse
+pub record IsFound (rows : List (List Dependency)) (count index : ℕ) (one : Dependency) : Type 0 where
+  pub from : ℕ
+  pub below : from < count
+  pub transposed : IsTransposed (slice_index_or rows from []) from index one
+
+-- these are a row's own dependencies, and what was found in the first `count` rows
+pub record AreFound (rows : List (List Dependency)) (own : List Dependency) (count index : ℕ) (links : List Dependency) : Type 0 where
+  pub just : (one : Dependency) → IsAmong one links ↔ (IsAmong one own ⊎ IsFound rows count index one)
+
+-- each list has the dependencies of its row, and what was found in the first `count` rows
+pub record AreFoundIn (rows : List (List Dependency)) (count : ℕ) (adjacency : List (List Dependency)) : Type 0 where
+  pub units : length adjacency ≡ length rows
+  pub each : (index : ℕ) → AreFound rows (slice_index_or rows index []) count index (slice_index_or adjacency index [])
+
 -- these are the edges from a unit: each has the kind of the edge, and the index of the unit to which it leads
 pub record AreLinksOf (load : LoadMap) (u : Name) (links : List Dependency) : Type 0 where
   pub within : All (λ one. one.index < count_of load) links

@@ -1,11 +1,12 @@
 -- Tables of edges: the edges by name that they make, and loads that have the same table.
 use Rattle.std.{proofs.Common.{◌+◌, ◌<◌, ◌↔◌, ◌∷◌, ◌≡◌}, specs.FinMap.Entries.{is_sorted}}
-use Rattle.inverse_deps.specs.Prelude.{[], After, among_mapped, ap, AreAdjacencyOf, AreNames, arith, ascending_named, asked_for, Before, BindsTo, BoundBy, ConflictedBy, Conflicts, ConsistsOf, DepKind, find, find_place, get_or, HaveSameAdjacency, InSlice, IsAmong, IsStrictlySortedBy, IsTrue, keys_length, keys_of, kinds, length, List, Listed, LoadMap, map, mapped_from, members_named, Name, name_cmp, name_cmp-IsAntisymmetric, nat_cmp, nat_list_cmp_total, neighbors, neighbors-below, None, none-some, OnFailure, OnFailureOf, Option, PartOf, place_of_found, PropagatesReloadTo, refl, ReloadPropagatedFrom, RequiredBy, Requires, Requisite, RequisiteOf, SliceOf, Some, sorted_by_keys, subst, suc, sym, TriggeredBy, Triggers, UpheldBy, Upholds, WantedBy, Wants, zero, ℕ, ◌∙◌}
-use Rattle.inverse_deps.specs.{AdjacencyLaws.{edges_alike}, AskedLaws.{same_edges}, EdgeAdjacency.{adjacency_at, AreAdjacencyBy, AreAdjacencyByKinds, edge_map, edges_from, list_from, listed_name, lists_from}, EdgeLaws.{edges_join_units}, Edges.{AreEdges, AreEdgesFrom, EdgeMap, IsEdge, IsUnitIn, list_at, names_in, place}, IndexLaws.{counts_alike, load_indexing, named_alike, unit_index}, Indices.{count_of, name_at}, Tables.{AreEdgeAdjacency, AreKept, AreListsFrom, IsEdgeTable}}
+use Rattle.inverse_deps.specs.Prelude.{[], After, among_mapped, ap, AreAdjacencyOf, AreNames, arith, ascending_named, asked_for, Before, BindsTo, BoundBy, ConflictedBy, Conflicts, ConsistsOf, DepKind, Files, find, find_place, get_or, HaveSameAdjacency, InSlice, IsAmong, IsStrictlySortedBy, IsTrue, keys_length, keys_of, kinds, length, List, Listed, LoadMap, map, mapped_from, members_named, Name, name_cmp, name_cmp-IsAntisymmetric, nat_cmp, nat_list_cmp_total, neighbors, neighbors-below, None, none-some, OnFailure, OnFailureOf, Option, PartOf, place_of_found, PropagatesReloadTo, refl, ReloadPropagatedFrom, RequiredBy, Requires, Requisite, RequisiteOf, SliceOf, Some, sorted_by_keys, subst, suc, sym, TriggeredBy, Triggers, UpheldBy, Upholds, WantedBy, Wants, zero, ℕ, ◌∙◌}
+use Rattle.inverse_deps.specs.{AdjacencyLaws.{edges_alike}, AskedLaws.{same_edges}, EdgeAdjacency.{adjacency_at, AreAdjacencyByKinds, edge_map, edges_from, list_from, listed_name, lists_from}, EdgeLaws.{edges_join_units}, Edges.{AreEdges, AreEdgesFrom, EdgeMap, IsEdge, IsUnitIn, list_at, names_in, place}, IndexLaws.{counts_alike, load_indexing, named_alike, unit_index}, Indices.{count_of, name_at}, Tables.{AreEdgeAdjacency, AreKept, AreListsFrom, IsEdgeTable}}
 
--- loads with the same dependencies by index have the same table
+-- by files loads with the same dependencies by index have the same table
 abbrev pub AdjacencyMakesTheTable : Type 0
-AdjacencyMakesTheTable = (a b : LoadMap) (tables : List (List (List ℕ))) → HaveSameAdjacency a b → IsEdgeTable a tables → IsEdgeTable b tables
+AdjacencyMakesTheTable =
+    (a b : LoadMap) (tables : List (List (List ℕ))) → HaveSameAdjacency a b → a.viewer.profile ≡ Files → b.viewer.profile ≡ Files → IsEdgeTable a tables → IsEdgeTable b tables
 
 -- which names were asked for changes no table
 abbrev pub AskingChangesNoTable : Type 0
@@ -230,7 +231,7 @@ module _ (a b : LoadMap) (names : keys_of a.names ≡ keys_of b.names) (same : (
   }
 
 pub adjacency_makes_the_table : AdjacencyMakesTheTable
-adjacency_makes_the_table a b tables same t = table_goes_over a b same.names_are (edges_alike a b same) tables t
+adjacency_makes_the_table a b tables same f g t = table_goes_over a b same.names_are (edges_alike a b same f g) tables t
 
 pub asking_changes_no_table : AskingChangesNoTable
 asking_changes_no_table load extra tables t = table_goes_over load (asked_for extra load) refl (same_edges load extra) tables t

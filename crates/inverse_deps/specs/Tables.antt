@@ -1,8 +1,8 @@
 -- The edges of a load by index, kind by kind.
 -- Source: this project's own.
 use Rattle.std.proofs.Common.{◌↔◌, ◌≡◌}
-use Rattle.inverse_deps.specs.Prelude.{[], AreAdjacencyOf, AreNamedSuccessors, Dependency, DepKind, is_sorted, IsAmong, IsStrictlySortedBy, IsTrue, keys_of, kinds, length, List, LoadMap, map, Name, name_cmp, Named, nat_cmp, neighbors, None, Option, slice_index_or, Some, ℕ}
-use Rattle.inverse_deps.specs.{EdgeAdjacency.{adjacency_at, AreAdjacencyByKinds, edge_map, list_from}, Edges.{AreEdgesFrom, EdgeMap, IsEdge, place}, Indices.{count_of, name_at}}
+use Rattle.inverse_deps.specs.Prelude.{[], AreAdjacencyOf, AreNamedSuccessors, Dependency, DepKind, is_sorted, IsAmong, IsStrictlySortedBy, IsTrue, keys_of, kinds, length, List, LoadMap, Name, name_cmp, Named, nat_cmp, neighbors, slice_index_or, ℕ}
+use Rattle.inverse_deps.specs.{EdgeAdjacency.{adjacency_at, AreAdjacencyByKinds, edge_map}, Edges.{AreEdgesFrom, EdgeMap, IsEdge, place}, Indices.{count_of, name_at}}
 
 -- adjacency lists of the edges of a kind, each in ascending order
 pub record AreEdgeAdjacency (load : LoadMap) (dep : DepKind) (adjacency : List (List ℕ)) : Type 0 where

@@ -3,6 +3,7 @@ ghost use Rattle.std.specs.Prelude.{◌≡◌, IfOk, length, OnOk};
 ghost use Rattle.inverse_deps.specs.{EdgeAdjacency.{adjacency_at}, Links.{links_in}, MakingLaws.{AreMade}, Tables.{AreIndicesBy, IsEdgeTable, IsKindList}};
 
 use crate::links::links_of;
+use crate::rows::rows_of;
 use index_rows::{AdjacencyLists, put_in_order};
 use parallel_load::{Dependency, Loaded};
 use setting_rules::DepKind;
@@ -36,11 +37,12 @@ impl Model for EdgeTable {
 
 impl EdgeTable {
     /// Returns the edges of a load. Fails only if memory runs out. O(n + m log k), for n names and m dependencies, where
-    /// no unit has more than k edges.
+    /// no unit has more than k edges; for a manager O((n + m) log n), where the mounts of units count too.
     pub fn of(alloc: Global, loaded: &Loaded) -> Result<EdgeTable, AllocError>
         ensures table { IfOk result (IsEdgeTable loaded.now) }
     {
-        let links = links_of(alloc, loaded)?;
+        let rows = rows_of(alloc, loaded)?;
+        let links = links_of(alloc, &rows)?;
         let all = DepKind::all();
         let mut by_kind = Vec::with_capacity(alloc, all.len())?;
         for kind in all {
@@ -58,7 +60,7 @@ impl EdgeTable {
 }
 
 // The adjacency lists of the edges of a kind.
-fn adjacency_by(
+pub(crate) fn adjacency_by(
     alloc: Global,
     links: &[Vec<Dependency>],
     kind: DepKind,

@@ -1,37 +1,40 @@
 //! The edges from each unit by index: its own dependencies, and the reverse of those on it.
 ghost use Rattle.std.specs.{Prelude.{◌≡◌, ◌<◌, IfOk, OnOk, length}, List.{All}};
-ghost use Rattle.inverse_deps.specs.Links.{AreLinks, AreTransposedIn, links_in};
+ghost use Rattle.inverse_deps.specs.{Links.{AreFoundIn, AreTransposedIn, links_in}, Rows.{AreWithin}};
 
-use parallel_load::{Dependency, Loaded};
+use parallel_load::Dependency;
 use plain_values::{Items, Shared};
 use std::alloc::{AllocError, Global};
 
-// For each name of a load, in byte order, the edges from its unit: each dependency is listed at its unit, and its
-// reverse at the unit that it is on. None from an alias. O(n + m), for n names and m dependencies.
-pub(crate) fn links_of(alloc: Global, loaded: &Loaded) -> Result<Vec<Vec<Dependency>>, AllocError>
-    ensures links { IfOk result (λ links. AreLinks loaded.now (links_in links.items)) }
+// For each row the edges from its unit: each dependency is listed at its unit, and its reverse at the unit that it is
+// on. O(n + m), for n rows with m dependencies.
+pub(crate) fn links_of(
+    alloc: Global,
+    rows: &[Shared<Items<Dependency>>],
+) -> Result<Vec<Vec<Dependency>>, AllocError>
+    requires within { AreWithin (length rows.now) rows.now }
+    ensures links { IfOk result (λ links. AreFoundIn rows.now (length rows.now) (links_in links.items)) }
 {
-    let table = loaded.dependencies();
-    let mut adjacency = own_adjacency(alloc, table)?;
-    for from in 0..loaded.names().len() {
-        add_transposed(&mut adjacency, table[from].get().as_slice(), from)?;
+    let mut links = own_links(alloc, rows)?;
+    for (from, deps) in rows.iter().enumerate() {
+        add_transposed(&mut links, deps.get().as_slice(), from)?;
     }
-    Ok(adjacency)
+    Ok(links)
 }
 
 // Copies each unit's own dependencies, with room for those on it.
-fn own_adjacency(
+fn own_links(
     alloc: Global,
-    table: &[Shared<Items<Dependency>>],
+    rows: &[Shared<Items<Dependency>>],
 ) -> Result<Vec<Vec<Dependency>>, AllocError>
-    ensures adjacency { IfOk result (λ adjacency. links_in adjacency.items ≡ table.now) }
+    ensures links { IfOk result (λ links. links_in links.items ≡ rows.now) }
 {
-    let counts = counts_on(alloc, table)?;
-    let mut adjacency = Vec::with_capacity(alloc, table.len())?;
-    for (index, deps) in table.iter().enumerate() {
-        adjacency.push(neighbors_of(alloc, deps.get().as_slice(), counts[index])?)?;
+    let counts = counts_on(alloc, rows)?;
+    let mut links = Vec::with_capacity(alloc, rows.len())?;
+    for (index, deps) in rows.iter().enumerate() {
+        links.push(neighbors_of(alloc, deps.get().as_slice(), counts[index])?)?;
     }
-    Ok(adjacency)
+    Ok(links)
 }
 
 // Copies dependencies, with room for this many more.
@@ -48,11 +51,11 @@ fn neighbors_of(
 }
 
 // How many dependencies are on each unit, by its index.
-fn counts_on(alloc: Global, table: &[Shared<Items<Dependency>>]) -> Result<Vec<usize>, AllocError>
-    ensures one_each { IfOk result (λ counts. length counts.items ≡ length table.now) }
+fn counts_on(alloc: Global, rows: &[Shared<Items<Dependency>>]) -> Result<Vec<usize>, AllocError>
+    ensures one_each { IfOk result (λ counts. length counts.items ≡ length rows.now) }
 {
-    let mut counts: Vec<usize> = vec![in alloc; 0; table.len()]?;
-    for deps in table {
+    let mut counts: Vec<usize> = vec![in alloc; 0; rows.len()]?;
+    for deps in rows {
         count_on(&mut counts, deps.get().as_slice());
     }
     Ok(counts)
@@ -71,15 +74,15 @@ fn count_on(counts: &mut Vec<usize>, deps: &[Dependency])
 
 // Adds the reverse of a unit's dependencies to the lists of the units that they are on.
 fn add_transposed(
-    adjacency: &mut Vec<Vec<Dependency>>,
+    links: &mut Vec<Vec<Dependency>>,
     deps: &[Dependency],
     from: usize,
 ) -> Result<(), AllocError>
-    requires within { All (λ dep. dep.index < length adjacency.old.items) deps.now }
-    ensures added { OnOk result (AreTransposedIn (links_in adjacency.old.items) deps.now from (links_in adjacency.new.items)) }
+    requires within { All (λ dep. dep.index < length links.old.items) deps.now }
+    ensures added { OnOk result (AreTransposedIn (links_in links.old.items) deps.now from (links_in links.new.items)) }
 {
     for dep in deps {
-        adjacency[dep.index].push(Dependency {
+        links[dep.index].push(Dependency {
             kind: dep.kind.inverse(),
             index: from,
         })?;

@@ -2,7 +2,7 @@
 -- Source: systemd.unit(5), "Mapping of unit properties to their inverses"; that an alias resolves to its main name, and
 -- the kinds over which depths are measured, are this project's own.
 use Rattle.std.proofs.Common.{◌↔◌, ◌∷◌, ◌≡◌}
-use Rattle.unit_graph.specs.Prelude.{[], BindsTo, Bool, code_by, Coded, coded_list, coded_load, coded_ℕ, coded×, DepKind, EdgeMap, inverse, IsAmong, IsClosure, IsDistances, IsIndexOf, IsUnitIn, List, Listed, LoadMap, main_in, map, Name, name_cmp, names_in, Option, option_map, refl, Requires, Requisite, Some, Status, unit_in, units_in, Wants, ℕ}
+use Rattle.unit_graph.specs.Prelude.{[], BindsTo, Bool, code_by, Coded, coded_list, coded_load, coded_ℕ, coded×, DepKind, EdgeMap, inverse, IsAmong, IsClosure, IsDistances, IsIndexOf, IsUnitIn, List, Listed, LoadMap, main_in, map, Name, name_cmp, names_in, Option, option_map, refl, Requires, Requisite, Some, Status, unit_in, units_in, Upholds, Wants, ℕ}
 
 -- a load and its edges
 pub record GraphMap : Type 0 where
@@ -62,9 +62,9 @@ HasInverses graph = (dep : DepKind) (u v : Name) → IsAmong v (names_in graph.e
 abbrev pub IsReach : GraphMap → List DepKind → Name → List Name → Type 0
 IsReach graph deps from names = (main : Name) → ResolvesTo graph.load from main → IsClosure (Listed (main ∷ [])) (LeadsBy graph.edges deps) name_cmp names
 
--- the kinds over which a unit pulls others
+-- The kinds over which a unit pulls others. By files none upholds others.
 abbrev pub pulling : List DepKind
-pulling = Requires ∷ Requisite ∷ BindsTo ∷ Wants ∷ []
+pulling = Requires ∷ Requisite ∷ BindsTo ∷ Wants ∷ Upholds ∷ []
 
 -- all units that are reached by pulling, each with its least distance, ordered by distance and then by name
 abbrev pub AreDepths : GraphMap → Name → List (ℕ × Name) → Type 0

@@ -138,8 +138,8 @@ impl<'a> Graph<'a> {
         self.indexed().reach(kinds, from)
     }
 
-    /// Returns all units that are reached over `Requires`, `Requisite`, `BindsTo` and `Wants` from the unit that a name
-    /// resolves to, each with its least distance, ordered by distance and then by name. Fails only if memory runs out.
+    /// Returns all units that are reached over `Requires`, `Requisite`, `BindsTo`, `Wants` and `Upholds` from the unit that
+    /// a name resolves to, each with its least distance, ordered by distance and then by name. Fails only if memory runs out.
     /// O(n log n + m), for n names and m edges of these kinds.
     pub fn depths(&self, from: &UnitName) -> Result<Vec<(u64, UnitName)>, AllocError>
         requires from { IsKnown self.now.load from.now }

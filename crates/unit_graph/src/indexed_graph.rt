@@ -109,11 +109,12 @@ impl<'a> IndexedGraph<'a> {
 }
 
 /// The kinds of dependency over which a unit pulls others.
-const PULLING: [DepKind; 4] = [
+const PULLING: [DepKind; 5] = [
     DepKind::Requires,
     DepKind::Requisite,
     DepKind::BindsTo,
     DepKind::Wants,
+    DepKind::Upholds,
 ];
 
 impl<'a> IndexedGraph<'a> {
@@ -130,8 +131,8 @@ impl<'a> IndexedGraph<'a> {
         Ok(names_at(load.allocator(), load, &indices)?)
     }
 
-    /// Returns all units that are reached over `Requires`, `Requisite`, `BindsTo` and `Wants` from the unit that a name
-    /// resolves to, each with its least distance, ordered by distance and then by name. Fails only if memory runs out.
+    /// Returns all units that are reached over `Requires`, `Requisite`, `BindsTo`, `Wants` and `Upholds` from the unit that
+    /// a name resolves to, each with its least distance, ordered by distance and then by name. Fails only if memory runs out.
     /// O(n log n + m), for n names and m edges of these kinds.
     pub fn depths(&self, from: &UnitName) -> Result<Vec<(u64, UnitName)>, AllocError>
         requires from { IsKnown self.now.load from.now }

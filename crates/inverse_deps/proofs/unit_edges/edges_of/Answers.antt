@@ -1,5 +1,5 @@
 use Rattle.std.proofs.Common.{◌≡◌}
-use Rattle.inverse_deps.proofs.Prelude.{[], All, AreEdgesFrom, AreEdgesOf, DependencyList, DepKind, Err, get_or, IfOk, IsUnitIn, kinds, List, LoadMap, map, Name, name_at, no_edges, Ok, Result, subst, sym}
+use Rattle.inverse_deps.proofs.Prelude.{[], All, AreEdgesFrom, AreEdgesOf, DependencyList, Err, get_or, IfOk, IsUnitIn, kinds, List, LoadMap, map, Name, no_edges, Ok, Result, subst, sym}
 use Rattle.inverse_deps.proofs.unit_edges.edges_of.Goals as goal
 
 -- empty lists are the edges from a name without a unit
