@@ -1,6 +1,6 @@
 -- Sets of units.
 use Rattle.std.proofs.Common.{◌++◌, ◌<◌, ◌↔◌, ◌∷◌, ◌≡◌, ◌⊎◌}
-use Rattle.start_plan.proofs.Prelude.{[], ap, AreBitsBy, AreNames, arith, Bool, count_of, false, get_or, inl, inr, is_sorted, IsAmong, IsAmong-append_left, IsAmong-append_right, IsAmong-push_cases, IsIndexFor, IsKnown, IsMember, IsMember-none, IsMember-set, IsMember-set_other, IsMember-set_same, IsMember-within, IsTrue, length, List, load_indexing, LoadedUnit, LoadMap, Name, name_at, name_cmp, NameLoad, nat_list_cmp_total, None, one_index, Option, refl, replicate, set, Some, subst, sym, true, unit_at, unit_in, unit_index, unit_part, ℕ, ◌∙◌}
+use Rattle.start_plan.proofs.Prelude.{[], ap, AreBitsBy, AreMade, AreNames, arith, Bool, count_of, false, get_or, inl, inr, is_sorted, IsAmong, IsAmong-append_left, IsAmong-append_right, IsAmong-push_cases, IsIndexFor, IsKnown, IsMember, IsMember-set, IsMember-set_other, IsMember-set_same, IsMember-within, IsTrue, length, List, load_indexing, LoadedUnit, LoadMap, Name, name_at, name_cmp, NameLoad, nat_list_cmp_total, None, one_index, Option, refl, set, Some, subst, sym, true, unit_at, unit_in, unit_index, unit_part, ℕ, ◌∙◌}
 
 -- what is loaded at a position is the unit of its name
 module _ (load : LoadMap) (es : List (Name × NameLoad)) (same : es ≡ load.names) (sorted : IsTrue (is_sorted name_cmp es)) where
@@ -69,6 +69,17 @@ module _ (load : LoadMap) (es : List (Name × NameLoad)) (same : es ≡ load.nam
               | inr s ↦ (let Q : Name → Type 0 = λ v. IsKnown load v in absurd (none (subst Q (sym s) (r.2.main, r.2.stands))))
             ])
 
+-- bits that were made one by one
+pub bits_made : (load : LoadMap) (es : List (Name × NameLoad)) → es ≡ load.names → (test : Option LoadedUnit → Bool) (i : ℕ) (bits : List Bool) → i ≡ length es
+    → AreMade (λ k b. b ≡ test (unit_in load (name_at load k))) i bits → AreBitsBy load test bits
+bits_made load es same test i bits end made = record {
+  units = made.count ∙ all;
+  each = λ k d l. made.each k d (subst (λ (n : ℕ). k < n) (sym all) l);
+}
+  where
+    all : i ≡ count_of load
+    all = end ∙ ap length same
+
 -- a set by a test, by name
 pub bits_named : (load : LoadMap) (test : Option LoadedUnit → Bool) → test None ≡ false → (bits : List Bool) → AreBitsBy load test bits
     → AreNames (count_of load) (name_at load) (IsMember bits) (λ u. IsTrue (test (unit_in load u)))
@@ -90,14 +101,3 @@ bits_named load test none bits a = record { within = within; named = named; inde
             let P : Bool → Type 0 = λ b. IsTrue b in
             let Q : Name → Type 0 = λ v. IsTrue (test (unit_in load v)) in
             (r.0, (subst P (sym (a.each r.0 false r.1.0)) (subst Q (sym r.1.1) h), r.1.1))
-
--- the empty set, by name
-pub none_named : (load : LoadMap) (count : ℕ) (bits : List Bool) → bits ≡ replicate count false
-    → AreNames (count_of load) (name_at load) (IsMember bits) (λ u. IsTrue false)
-none_named load count bits e = record { within = λ i m. absurd (out i m); named = λ i m. absurd (out i m); indexed = λ u h. absurd (unlike h) }
-  where
-    out : (i : ℕ) → ¬ IsMember bits i
-    out i m = let P : List Bool → Type 0 = λ b. IsMember b i in IsMember-none count i (subst P e m)
-
-    unlike : ¬ (false ≡ true)
-    unlike h = cc (h)

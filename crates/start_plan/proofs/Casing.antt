@@ -1,6 +1,6 @@
 -- The case of a request, by index and by name.
-use Rattle.std.proofs.Common.{◌<◌, ◌↔◌, ◌≡◌}
-use Rattle.start_plan.proofs.Prelude.{among_mapped, any-from_IsAmong, ap, AreNamedSuccessors, AreNames, AreOpposite, AsksTemplate, Bool, count_of, DepKind, EdgeMap, edges_of, GraphMap, HasInverses, index_of, inl, inr, inverse, is_same, IsAmong, IsAmong-from_any, IsIndexFor, IsIndexing, IsKnown, IsMember, IsOfGraph, IsTrue, LeadsBy, List, list_any, Listed, LoadMap, main_of, map, mapped_from, Name, name_at, name_cmp, Named, named_by, names_all, names_along, names_in, nat_list_cmp_total, opposite_from, refl, Request, ResolvesTo, subst, sym, unit_index, unwrap_or, ℕ, ◌∙◌}
+use Rattle.std.proofs.Common.{◌<◌, ◌||◌, ◌↔◌, ◌≡◌, ◌⊎◌}
+use Rattle.start_plan.proofs.Prelude.{among_mapped, any-from_IsAmong, ap, AreNamedSuccessors, AreNames, AreOpposite, AsksTemplate, Bool, count_of, DepKind, EdgeMap, edges_of, false, GraphMap, HasInverses, index_of, inl, inr, inverse, is_same, IsAmong, IsAmong-from_any, IsIndexFor, IsIndexing, IsKnown, IsMember, IsOfGraph, IsTrue, LeadsBy, List, list_any, Listed, LoadMap, main_of, map, mapped_from, Name, name_at, name_cmp, Named, named_by, names_all, names_along, names_either, names_in, nat_list_cmp_total, opposite_from, refl, Request, ResolvesTo, subst, sym, true, unit_index, unwrap_or, ℕ, ◌∙◌}
 
 -- where no name is a template, each resolves to a unit
 module _ (load : LoadMap) (request : Request) (names : IsOfGraph load request) (whole : ¬ AsksTemplate request) where
@@ -76,3 +76,19 @@ module _ (graph : GraphMap) (inverses : HasInverses graph) where
           let m = (successors v l).within u h in
           let e = transposed_kinds deps (name_at graph.load v) (name_at graph.load u) ((successors v l).named u h) in
           index_of (count_of graph.load) (name_at graph.load) name_cmp nat_list_cmp_total order (Listed (others u)) (LeadsBy graph.edges (map inverse deps) (name_at graph.load u)) (transposed u m) v l e
+
+either_is_true : (a b : Bool) → (IsTrue a ⊎ IsTrue b) ↔ IsTrue (a || b)
+either_is_true true b = (λ h. refl, λ h. inl refl)
+either_is_true false b = (λ s. elim s [ inl e ↦ cc (e) | inr h ↦ h ], λ h. inr h)
+
+-- the units that always run, and those that are said to run, by name
+pub either_named : (load : LoadMap) (first second : Name → Bool) (bits others all : List Bool)
+    → AreNames (count_of load) (name_at load) (IsMember bits) (λ u. IsTrue (first u))
+    → AreNames (count_of load) (name_at load) (IsMember others) (λ u. IsTrue (second u))
+    → ((i : ℕ) → IsMember all i ↔ (IsMember bits i ⊎ IsMember others i))
+    → AreNames (count_of load) (name_at load) (IsMember all) (λ u. IsTrue (first u || second u))
+either_named load first second bits others all a b members =
+    names_along (count_of load) (name_at load) (λ i. IsMember bits i ⊎ IsMember others i) (IsMember all)
+    (λ u. IsTrue (first u) ⊎ IsTrue (second u)) (λ u. IsTrue (first u || second u))
+    (names_either (count_of load) (name_at load) (IsMember bits) (IsMember others) (λ u. IsTrue (first u)) (λ u. IsTrue (second u)) a b)
+    (λ i. ((members i).1, (members i).0)) (λ u. either_is_true (first u) (second u))

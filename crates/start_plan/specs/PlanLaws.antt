@@ -1,8 +1,8 @@
 -- Laws of plans: a request has one answer, which the load alone determines, and a plan keeps its promises.
-use Rattle.std.proofs.Common.{◌∷◌, ◌≡◌, ◌≢◌, ◌⊎◌}
+use Rattle.std.proofs.Common.{◌||◌, ◌∷◌, ◌≡◌, ◌≢◌, ◌⊎◌}
 use mathlib.Core.Path.{fun_ext}
-use Rattle.start_plan.specs.Prelude.{[], ap, AreEdges, Case, conflict, cycle, DepKind, EdgeMap, edges_come_from_names, false, Files, files_keep, flat_map, HostViewMap, inl, inr, is_same, IsEdge, IsLoad, KeepsFilePromises, KeepsPromises, List, list_any, LoadMap, manual_start, map, Name, name_cmp, name_cmp-IsAntisymmetric, named_by, names_in, nat_list_cmp_total, need_fault, None, one_list_of_edges, one_refusal, one_start, one_stop, Option, plan_keeps, plan_unrefused, refl, requisite, Some, SparesItself, Status, status_in, sym, target_fault, unit_in, Why, ◌∙◌}
-use Rattle.start_plan.specs.{declared.requests.{Plan.{Plan}, Refusal.{Refusal, TheVariants.{Bad, Conflict, Cycle, ManualStart, Masked, Memory, NotFound, Requisite, Template}}, Request.{Request}}, Outcomes.{IsFault, IsPlanned, IsRefusalOf, IsRefused}, Requests.{AsksTemplate, case_of, is_loaded, is_manual, main_of, needing, tying, weak}}
+use Rattle.start_plan.specs.Prelude.{[], ap, AreEdges, Case, conflict, cycle, DepKind, EdgeMap, edges_come_from_names, Files, files_keep, flat_map, HostViewMap, inl, inr, is_same, IsAmong, IsEdge, IsLoad, IsOutside, IsStoppedByConflict, IsTrue, KeepsFilePromises, KeepsPromises, List, list_any, LoadMap, manual_start, map, Name, name_cmp, name_cmp-IsAntisymmetric, named_by, names_in, nat_list_cmp_total, need_fault, None, one_list_of_edges, one_refusal, one_start, one_stop, Option, plan_keeps, plan_unrefused, reached_least, refl, requisite, Some, SparesItself, Status, status_in, subst, sym, TakesAlong, target_fault, true≢false, unit_in, Why, ◌∙◌}
+use Rattle.start_plan.specs.{declared.requests.{Plan.{Plan}, Refusal.{Refusal, TheVariants.{Bad, Conflict, Cycle, ManualStart, Masked, Memory, NotFound, Requisite, Template}}, Request.{Request}}, Outcomes.{IsFault, IsPlanned, IsRefusalOf, IsRefused}, Requests.{AsksTemplate, case_of, is_loaded, is_manual, is_perpetual_by, main_of, needing, tying, weak}}
 use Rattle.setting_rules.specs.declared.kinds.DepKind.TheVariants as kind
 use Rattle.unit_loads.specs.declared.units.Status.TheVariants as status
 
@@ -22,6 +22,11 @@ PlanOrRefusal = (load : LoadMap) (edges : EdgeMap) (request : Request) (p : Plan
 -- The load and the request alone determine the answer: any lists of the load's edges give one case.
 abbrev pub OneCase : Type 0
 OneCase = (load : LoadMap) (request : Request) (a b : EdgeMap) → AreEdges load a → AreEdges load b → case_of load a request ≡ case_of load b request
+
+-- What for a manager always runs never stops.
+abbrev pub PerpetualUnitsNeverStop : Type 0
+PerpetualUnitsNeverStop = (load : LoadMap) (edges : EdgeMap) (request : Request) (p : Plan) (u : Name) → IsPlanned load edges request p
+    → IsTrue (is_perpetual_by load.viewer.profile (unit_in load u)) → ¬ IsAmong u p.stop
 
 -- In a load of a store, the units that a plan chooses include the target. They include all that they need, but for the
 -- running units that a manager leaves alone and what those need. They are all loaded, and they don't conflict. They lack
@@ -56,6 +61,7 @@ one_plan load edges request p q a b =
 by_status : Name → Option Status → Refusal
 by_status u None = Memory
 by_status u (Some (status.Loaded path)) = Memory
+by_status u (Some status.BuiltIn) = Memory
 by_status u (Some status.NotFound) = NotFound u
 by_status u (Some status.Masked) = Masked u
 by_status u (Some (status.Bad cause)) = Bad u
@@ -121,8 +127,8 @@ case_by load request lists = record {
   target = main_of load request.target;
   is_loaded = λ u. is_loaded (unit_in load u);
   refuses_manual_start = λ u. is_manual (unit_in load u);
-  is_running = λ u. list_any (is_same u) (map (main_of load) request.running);
-  is_perpetual = λ u. false;
+  is_running = λ u. is_perpetual_by load.viewer.profile (unit_in load u) || list_any (is_same u) (map (main_of load) request.running);
+  is_perpetual = λ u. is_perpetual_by load.viewer.profile (unit_in load u);
   needs = λ u. flat_map (λ dep. lists dep u) needing;
   wants = λ u. flat_map (λ dep. lists dep u) weak;
   requisites = λ u. flat_map (λ dep. lists dep u) (kind.Requisite ∷ []);
@@ -142,8 +148,20 @@ spares_itself : (s : HostViewMap) (extra : List Name) (load : LoadMap) (edges : 
     → SparesItself (case_of load edges request)
 spares_itself s extra load edges request l a u h =
     let r = named_by (λ dep. names_in edges dep u) (kind.Conflicts ∷ []) u h in
+    let kind_is : kind.Conflicts ≡ r.0 = elim r.1.0 [ inl e ↦ e | inr n ↦ absurd n ] in
     let e : IsEdge load r.0 u u = ((a.lists r.0 u).exact u).0 r.1.1 in
-    elim ((edges_come_from_names s extra load r.0 u u l).0 e).2 [ inl d ↦ d.other refl | inr d ↦ d.other refl ]
+    let conflict_edge : IsEdge load kind.Conflicts u u = subst (λ (d : DepKind). IsEdge load d u u) (sym kind_is) e in
+    elim ((edges_come_from_names s extra load kind.Conflicts u u l).0 conflict_edge).2 [
+      | inl n ↦ elim n [ inl d ↦ d.other refl | inr d ↦ d.other refl ]
+      | inr j ↦ elim j [ inl x ↦ elim x [ inl p ↦ p | inr t ↦ t ] | inr x ↦ elim x [ inl p ↦ p | inr t ↦ t ] ]
+    ]
+
+pub perpetual_units_never_stop : PerpetualUnitsNeverStop
+perpetual_units_never_stop load edges request p u planned always among =
+    let c = case_of load edges request in
+    let outside = reached_least (IsStoppedByConflict name_cmp c) (TakesAlong name_cmp c) (IsOutside name_cmp c)
+    (record { started = λ n s. s.outside; stepped = λ k m is t. t.outside }) u ((planned.planned.stopped.members u).0 among) in
+    true≢false (sym always ∙ outside.may_stop)
 
 pub plans_keep_promises : PlansKeepPromises
 plans_keep_promises s extra load edges request p l a planned =

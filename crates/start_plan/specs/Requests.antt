@@ -1,8 +1,8 @@
 -- What a request asks of a load, by name: the case of a plan.
 -- Source: systemd.unit(5), "Wants=", "Requires=", "Requisite=", "BindsTo=", "PartOf=", "Upholds=", "Conflicts=",
 -- "Before=, After=", "RefuseManualStart=".
-use Rattle.std.proofs.Common.{◌∷◌, ◌≡◌, ◌⊎◌}
-use Rattle.start_plan.specs.Prelude.{[], After, Bad, BindsTo, Bool, Case, Conflicts, DepKind, EdgeMap, false, flat_map, is_same, IsAmong, IsKnown, List, list_any, Loaded, LoadedUnit, LoadMap, main_in, map, Masked, Name, names_in, None, NotFound, Option, PartOf, Requires, Requisite, shape, Some, Status, Template, true, unit_in, unwrap_or, Upholds, Wants}
+use Rattle.std.proofs.Common.{◌||◌, ◌∷◌, ◌≡◌, ◌⊎◌}
+use Rattle.start_plan.specs.Prelude.{[], After, BindsTo, Bool, Case, Conflicts, DepKind, EdgeMap, false, flat_map, is_loaded_by, is_perpetual, is_same, IsAmong, IsKnown, List, list_any, LoadedUnit, LoadMap, main_in, Manager, map, Name, names_in, None, Option, PartOf, Profile, Requires, Requisite, shape, Some, Template, unit_in, unwrap_or, Upholds, Wants}
 use Rattle.start_plan.specs.declared.requests.Request.{Request}
 
 -- ---- the names of a request
@@ -21,21 +21,20 @@ IsOfGraph load request = (n : Name) → IsAmong n (request.target ∷ request.ru
 
 -- ---- units
 
-abbrev pub has_fragment : Status → Bool
-has_fragment (Loaded path) = true
-has_fragment NotFound = false
-has_fragment Masked = false
-has_fragment (Bad cause) = false
-
 -- whether there is a unit, and it is loaded
 abbrev pub is_loaded : Option LoadedUnit → Bool
 is_loaded None = false
-is_loaded (Some unit) = has_fragment unit.status
+is_loaded (Some unit) = is_loaded_by unit.status
 
 -- whether there is a unit, and it refuses to be started by hand
 abbrev pub is_manual : Option LoadedUnit → Bool
 is_manual None = false
 is_manual (Some unit) = unit.manual
+
+-- whether there is a unit, and it is one that for a manager always runs and never stops
+abbrev pub is_perpetual_by : Profile → Option LoadedUnit → Bool
+is_perpetual_by Manager (Some unit) = is_perpetual unit.name
+is_perpetual_by profile other = false
 
 -- the main name of a name
 abbrev pub main_of : LoadMap → Name → Name
@@ -60,15 +59,15 @@ abbrev pub tying : List DepKind
 tying = Requires ∷ Requisite ∷ BindsTo ∷ PartOf ∷ []
 
 -- The case of a plan: the request's names are replaced by main names, and the edges say what units ask of each other.
--- The units that are to start before a unit are those that it is `After`. No unit is perpetual yet.
+-- The units that are to start before a unit are those that it is `After`. For a manager perpetual units run, asked for or not.
 abbrev pub case_of : LoadMap → EdgeMap → Request → Case Name
 case_of load edges request = record {
   profile = load.viewer.profile;
   target = main_of load request.target;
   is_loaded = λ u. is_loaded (unit_in load u);
   refuses_manual_start = λ u. is_manual (unit_in load u);
-  is_running = λ u. list_any (is_same u) (map (main_of load) request.running);
-  is_perpetual = λ u. false;
+  is_running = λ u. is_perpetual_by load.viewer.profile (unit_in load u) || list_any (is_same u) (map (main_of load) request.running);
+  is_perpetual = λ u. is_perpetual_by load.viewer.profile (unit_in load u);
   needs = edges_of edges needing;
   wants = edges_of edges weak;
   requisites = edges_of edges (Requisite ∷ []);

@@ -9,9 +9,9 @@ ghost use Rattle.inverse_deps.specs.Indices.{count_of, name_at};
 ghost use Rattle.unit_graph.specs.Graphs.{LeadsBy};
 ghost use Rattle.start_plan.specs.Requests.{AsksTemplate, IsOfGraph, case_of, weak};
 
-use crate::bits::{named_bits, status_bits};
+use crate::bits::{either, named_bits, status_bits};
 use crate::requests::Request;
-use index_rows::{Successors, empty_bits};
+use index_rows::Successors;
 use plan_choice::IndexedCase;
 use setting_rules::DepKind;
 use std::alloc::{AllocError, Global};
@@ -71,9 +71,8 @@ pub(crate) fn case_of<'b>(
     let target = graph.index(&request.target).unwrap();
     let loaded = graph.loaded();
     let status = status_bits(alloc, loaded)?;
-    let running = named_bits(alloc, graph, request.running.as_slice())?;
-    // no unit is perpetual yet
-    let perpetual = empty_bits(alloc, loaded.names().len())?;
+    let asked_to_run = named_bits(alloc, graph, request.running.as_slice())?;
+    let running = either(alloc, &status.perpetual, &asked_to_run)?;
     let needing = both_ways(graph, &NEEDING, &NEEDED)?;
     let asked = asked_of(graph)?;
     let tying = both_ways(graph, &TYING, &TAKING)?;
@@ -83,7 +82,7 @@ pub(crate) fn case_of<'b>(
         loaded: status.loaded,
         refuses_manual_start: status.manual,
         running,
-        perpetual,
+        perpetual: status.perpetual,
         needs: needing.successors,
         needed_by: needing.inverses,
         wants: asked.wants,

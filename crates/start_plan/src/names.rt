@@ -70,7 +70,7 @@ fn fault(loaded: &Loaded, index: usize) -> Result<Refusal, AllocError>
             Status::NotFound => Ok(Refusal::NotFound(name)),
             Status::Masked => Ok(Refusal::Masked(name)),
             Status::Bad(_) => Ok(Refusal::Bad(name)),
-            Status::Loaded(_) => unreachable!(),
+            Status::Loaded(_) | Status::BuiltIn => unreachable!(),
         },
         NameLoad::Alias(_) => unreachable!(),
     }

@@ -1,7 +1,12 @@
-use Rattle.std.proofs.Common.{◌<◌, ◌↔◌, ◌∷◌, ◌≡◌}
-use Rattle.start_plan.proofs.Prelude.{[], After, ap, AreAdjacencyOf, AreBitsBy, AreSuccessorsOf, Conflicts, count_of, false, is_loaded, is_manual, IsAmong, IsIndexFor, IsKnown, IsMember, length, List, LoadMap, main_of, MatchOption, Name, name_at, needing, neighbors, neighbors-start, opposite_is, Option, refl, Requisite, subst, successors-start, successors_from, sym, transposed_from, tying, unit_in, weak, ℕ, ◌∙◌}
-use Rattle.start_plan.proofs.{BitSets.{bits_named, none_named}, Casing.{edge_successors, main_is, opposite_successors, running_known, running_named}}
+use Rattle.std.proofs.Common.{◌<◌, ◌↔◌, ◌∷◌, ◌≡◌, ◌⊎◌}
+use Rattle.start_plan.proofs.Prelude.{[], After, ap, AreAdjacencyOf, AreBitsBy, AreSuccessorsOf, Bool, Conflicts, count_of, false, Files, is_loaded, is_manual, is_perpetual_by, is_same, IsAmong, IsIndexFor, IsKnown, IsMember, length, List, list_any, LoadMap, main_of, Manager, map, MatchOption, Name, name_at, needing, neighbors, neighbors-start, None, opposite_is, Option, Profile, refl, Requisite, subst, successors-start, successors_from, sym, transposed_from, tying, unit_in, weak, ℕ, ◌∙◌}
+use Rattle.start_plan.proofs.{BitSets.{bits_named}, Casing.{edge_successors, either_named, main_is, opposite_successors, running_known, running_named}}
 use Rattle.start_plan.proofs.cases.case_of.Goals as goal
+
+-- where there is no unit, none is perpetual
+never : (profile : Profile) → is_perpetual_by profile None ≡ false
+never Files = refl
+never Manager = refl
 
 pub returns-clause-case : goal.returns-clause-case
 returns-clause-case c =
@@ -15,16 +20,23 @@ returns-clause-case c =
     let L : LoadMap → Type 0 = λ m. AreBitsBy m is_loaded c.in_ok-status.status.loaded.items in
     let R : LoadMap → Type 0 = λ m. AreBitsBy m is_manual c.in_ok-status.status.manual.items in
     let refuses = subst R c.loaded-loaded.ensures.load c.in_ok-status.ensures.manual in
-    let N : List Name → Type 0 = λ ns. (j : ℕ) → IsMember c.in_ok-running.running.items j ↔ ((m : Name) × IsAmong m ns × IsIndexFor load m j) in
+    let P : LoadMap → Type 0 = λ m. AreBitsBy m (is_perpetual_by m.viewer.profile) c.in_ok-status.status.perpetual.items in
+    let always = bits_named load (is_perpetual_by load.viewer.profile) (never load.viewer.profile) c.in_ok-status.status.perpetual.items (subst P c.loaded-loaded.ensures.load c.in_ok-status.ensures.perpetual) in
+    let N : List Name → Type 0 = λ ns. (j : ℕ) → IsMember c.in_ok-asked_to_run.asked_to_run.items j ↔ ((m : Name) × IsAmong m ns × IsIndexFor load m j) in
     record {
       below = n.index_is.below;
       profile = ap (λ v. v.profile) c.viewer.ensures.viewer ∙ ap (λ m. m.viewer.profile) c.loaded-loaded.ensures.load;
       target = target;
       refuses = ap (λ u. is_manual (unit_in load u)) (sym target) ∙ sym (refuses.each i false n.index_is.below);
       loaded = bits_named load is_loaded refl c.in_ok-status.status.loaded.items (subst L c.loaded-loaded.ensures.load c.in_ok-status.ensures.loaded);
-      running = running_named load request.running (running_known load request c.requires.names c.requires.whole) c.in_ok-running.running.items
-          (subst N c.as_slice.ensures.elements c.in_ok-running.ensures.bits);
-      perpetual = none_named load _ c.in_ok-perpetual.perpetual.items c.in_ok-perpetual.ensures.none;
+      running =
+          either_named load (λ u. is_perpetual_by load.viewer.profile (unit_in load u)) (λ u. list_any (is_same u) (map (main_of load) request.running))
+          c.in_ok-status.status.perpetual.items c.in_ok-asked_to_run.asked_to_run.items c.in_ok-running.running.items always
+          (running_named load request.running (running_known load request c.requires.names c.requires.whole) c.in_ok-asked_to_run.asked_to_run.items
+          (subst N c.as_slice.ensures.elements c.in_ok-asked_to_run.ensures.bits))
+          (subst (λ (a : List Bool). (j : ℕ) → IsMember c.in_ok-running.running.items j ↔ (IsMember a j ⊎ IsMember c.in_ok-asked_to_run.asked_to_run.items j)) c.deref.ensures.value
+          (subst (λ (b : List Bool). (j : ℕ) → IsMember c.in_ok-running.running.items j ↔ (IsMember c.deref.result.now j ⊎ IsMember b j)) c.deref-2.ensures.value c.in_ok-running.ensures.members));
+      perpetual = always;
       needs = edge_successors load edges needing (successors_from c.in_ok-needing.needing.successors) c.in_ok-needing.ensures.successors;
       wants = edge_successors load edges weak (successors_from c.in_ok-asked.asked.wants) c.in_ok-asked.ensures.wants;
       requisites = edge_successors load edges (Requisite ∷ []) (successors_from c.in_ok-asked.asked.requisites) c.in_ok-asked.ensures.requisites;
@@ -44,6 +56,8 @@ invariant_of-result c =
     let R : LoadMap → Type 0 = λ m. AreBitsBy m is_manual c.in_ok-status.status.manual.items in
     let n : length c.in_ok-status.status.loaded.items ≡ count_of load = (subst L c.loaded-loaded.ensures.load c.in_ok-status.ensures.loaded).units in
     let refuses : length c.in_ok-status.status.manual.items ≡ count_of load = (subst R c.loaded-loaded.ensures.load c.in_ok-status.ensures.manual).units in
+    let P : LoadMap → Type 0 = λ m. AreBitsBy m (is_perpetual_by m.viewer.profile) c.in_ok-status.status.perpetual.items in
+    let perpetual : length c.in_ok-status.status.perpetual.items ≡ count_of load = (subst P c.loaded-loaded.ensures.load c.in_ok-status.ensures.perpetual).units in
     let T : ℕ → Type 0 = λ k. c.unwrap-target.result < k in
     let S : List (List (List ℕ)) → ℕ → Type 0 = λ successors k. AreSuccessorsOf k successors in
     let W : List (List ℕ) → ℕ → Type 0 = λ adjacency k. AreAdjacencyOf k adjacency in
@@ -54,8 +68,8 @@ invariant_of-result c =
     record {
       valid_target = subst T (sym n) index.index_is.below;
       valid_refuses = refuses ∙ sym n;
-      valid_running = c.in_ok-running.ensures.units ∙ sym n;
-      valid_perpetual = c.in_ok-perpetual.ensures.units ∙ ap length c.names.ensures.names ∙ ap count_of c.loaded-loaded.ensures.load ∙ sym n;
+      valid_running = c.in_ok-running.ensures.units ∙ ap length c.deref.ensures.value ∙ perpetual ∙ sym n;
+      valid_perpetual = perpetual ∙ sym n;
       valid_needs = subst (S c.in_ok-needing.needing.successors) (sym n) needs.within;
       valid_needed_by = subst (S c.in_ok-needing.needing.inverses) (sym n) needs.inverses_within;
       valid_wants = subst (S c.in_ok-asked.asked.wants) (sym n) c.in_ok-asked.ensures.wants_within;

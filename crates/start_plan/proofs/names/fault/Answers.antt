@@ -1,12 +1,12 @@
 use Rattle.std.proofs.Common.{◌≡◌}
-use Rattle.start_plan.proofs.{BitSets.{part_at}, Prelude.{ap, arith, false, has_fragment, is_loaded, length, none-some, option_map, Some, sym, true, unit_part, ◌∙◌}}
+use Rattle.start_plan.proofs.{BitSets.{part_at}, Prelude.{ap, arith, false, inl, inr, is_loaded_by, is_loaded, length, none-some, option_map, Some, sym, true, unit_part, ◌∙◌}}
 use Rattle.start_plan.proofs.names.fault.Goals as goal
 
 pub unreachable-requires : goal.unreachable-requires
 unreachable-requires c =
     let at = part_at c.args.loaded.now c.names.result.now c.names.ensures.names c.names.ensures.sorted c.args.index c.index-names-index.result
     (omega (arith, c.requires.below, ap length c.names.ensures.names)) in
-    let f : false ≡ true = sym c.requires.unloaded ∙ ap is_loaded (at ∙ ap unit_part c.in-Unit.is ∙ ap Some (sym c.get.ensures.value)) ∙ ap has_fragment c.in-Loaded.is in
+    let f : false ≡ true = sym c.requires.unloaded ∙ ap is_loaded (at ∙ ap unit_part c.in-Unit.is ∙ ap Some (sym c.get.ensures.value)) ∙ elim c.in-Loaded.is [ inl l ↦ ap is_loaded_by l.1 | inr b ↦ ap is_loaded_by b ] in
     cc (f)
 
 pub unreachable-requires-in-Alias : goal.unreachable-requires-in-Alias
