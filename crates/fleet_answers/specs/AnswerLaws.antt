@@ -1,6 +1,6 @@
 -- Laws of answers: a store and a question have one answer, and no place of another host changes it.
 use Rattle.std.proofs.Common.{◌↔◌, ◌∷◌, ◌≡◌, ◌≢◌}
-use Rattle.fleet_answers.specs.Prelude.{[], All, All-head, All-tail, ap, AreDepths, AreEdges, AreEdgesOf, AreSameSuccessors, Bad, Case, Conflict, Cycle, DependencyList, EdgeMap, EntryMap, host_view_of, HostViewMap, inl, inr, IsAmong, IsAmong-append_right, IsDistance, IsDistances, IsFault, IsKnown, IsLoad, IsPlan, IsPlanned, IsRefusal, IsRefusalOf, IsRefused, known_names, LeadsBy, level_for, List, Listed, LoadedUnit, LoadMap, ManualStart, map, Masked, Memory, Name, name_cmp, nat_list_cmp_total, None, NotFound, one_case, one_list_by_kind, one_list_of_distances, one_list_of_edges, one_load, one_plan, one_refusal_returned, other_hosts_are_not_in_view, PlaceParts, plan_or_refusal, PlanMap, pulling, refl, Refusal, Request, Requisite, same_distance, Some, subst, sym, Template, unit_in, units_are_their_own_mains, Why, ℕ, ◌∙◌}
+use Rattle.fleet_answers.specs.Prelude.{[], All, All-head, All-tail, ap, AreDepths, AreEdges, AreEdgesOf, AreSameSuccessors, asked_by, Bad, Case, Conflict, Cycle, DependencyList, EdgeMap, EntryMap, Files, host_view_of, HostViewMap, inl, inr, IsAmong, IsAmong-append_right, IsDistance, IsDistances, IsFault, IsKnown, IsLoad, IsPlan, IsPlanned, IsRefusal, IsRefusalOf, IsRefused, known_names, LeadsBy, level_for, List, Listed, LoadedUnit, LoadMap, Manager, ManualStart, map, Masked, Memory, Name, name_cmp, nat_list_cmp_total, None, NotFound, one_case, one_list_by_kind, one_list_of_distances, one_list_of_edges, one_load, one_plan, one_refusal_returned, other_hosts_are_not_in_view, perpetual_units, PlaceParts, plan_or_refusal, PlanMap, Profile, pulling, refl, Refusal, Request, Requisite, same_distance, Some, subst, sym, Template, unit_in, units_are_their_own_mains, Why, ℕ, ◌∙◌}
 use Rattle.fleet_answers.specs.{Answers.{AreKnown, AreLinkedUnits, ArePulled, asked, graph_of, viewer_asked, IsAnswer, IsLinkedUnit, IsUnitWithEdges, IsPlanBy, IsReturned, IsReturnedFrom, IsWholeAnswer, names_asked}, declared.questions.{Answer.{Answer}, LinkedUnit.{LinkedUnit}, Question.{Question, TheVariants.{Plan as OfPlan, Pulled as OfPulled, Unit as OfUnit, Units as OfUnits}}}}
 use Rattle.std.specs.FinMap as finmap
 use Rattle.fleet_answers.specs.declared.questions.Answer.TheVariants as answer
@@ -17,8 +17,13 @@ OtherHostsChangeNothing = (s t : EntryMap) (extra : List Name) (question : Quest
 
 -- ---- the names of a question are in a load of them
 
+-- names that are given are asked for
+pub asked_among : (profile : Profile) (extra : List Name) (n : Name) → IsAmong n extra → IsAmong n (asked_by profile extra)
+asked_among Files extra n h = h
+asked_among Manager extra n h = IsAmong-append_right n perpetual_units extra h
+
 pub names_are_known : (s : HostViewMap) (names : List Name) (load : LoadMap) → IsLoad s names load → AreKnown load names
-names_are_known s names load is n a = (known_names s names load n is).1 (record { steps = 0; chain = inl a })
+names_are_known s names load is n a = (known_names s names load n is).1 (record { steps = 0; chain = inl (asked_among s.profile names n a) })
 
 pub own_are_known : (s : HostViewMap) (extra : List Name) (question : Question) (load : LoadMap) → IsLoad s (asked extra question) load → AreKnown load (names_asked question)
 own_are_known s extra question load is n a = names_are_known s (asked extra question) load is n (IsAmong-append_right n extra (names_asked question) a)

@@ -1,6 +1,6 @@
 -- Laws of hosts: one at whose places nothing is visible has the answer to each question that is had without a host.
-use Rattle.std.proofs.Common.{◌++◌, ◌↔◌, ◌≡◌}
-use Rattle.fleet_answers.specs.Prelude.{All-weaker, ap, AreEdges, AreEdgesFrom, AreEdgesOf, Bad, Case, case_of, Conflict, Cycle, DependencyList, DependsOn, DepKind, EdgeMap, EntryMap, HasTemplate, Host, host_view_of, hosts_without_places_are_as_large, hosts_without_places_load_alike, HostViewMap, inl, inr, IsEdge, IsFault, IsLoad, IsPlan, IsPlanned, IsRefusal, IsRefusalOf, IsRefused, List, loaded_for, LoadMap, ManualStart, Masked, Memory, Name, name_cmp, NotFound, of_fleet, of_host, PlanMap, Profile, refl, Refusal, Request, Requisite, ShowsNothing, subst, sym, Template, Viewer, viewer_of, Why, ℕ, ◌∙◌}
+use Rattle.std.proofs.Common.{◌++◌, ◌||◌, ◌↔◌, ◌≡◌}
+use Rattle.fleet_answers.specs.Prelude.{All-weaker, ap, AreEdges, AreEdgesFrom, AreEdgesOf, Bad, Case, case_of, Conflict, Cycle, DependencyList, DepKind, EdgeMap, EntryMap, HasTemplate, Host, host_view_of, hosts_without_places_are_as_large, hosts_without_places_load_alike, HostViewMap, inl, inr, is_perpetual_by, is_same, IsEdge, IsEdgeAmong, IsFault, IsLoad, IsPlan, IsPlanned, IsRefusal, IsRefusalOf, IsRefused, List, list_any, loaded_for, LoadMap, main_of, ManualStart, map, Masked, Memory, Name, name_cmp, NotFound, of_fleet, of_host, PlanMap, Profile, refl, Refusal, Request, Requisite, ShowsNothing, subst, sym, Template, unit_in, Viewer, viewer_of, Why, ℕ, ◌∙◌}
 use Rattle.fleet_answers.specs.{Answers.{AreLinkedUnits, ArePulled, asked, viewer_asked, IsAnswer, IsLinkedUnit, IsPlanBy, IsPlanReturned, IsReturned, IsUnitWithEdges, IsWholeAnswer, names_asked, without_host}, declared.questions.{Answer.{Answer}, LinkedUnit.{LinkedUnit}, Question.{Question, TheVariants.{Plan as OfPlan, Pulled as OfPulled, Unit as OfUnit, Units as OfUnits}}}}
 
 -- A host at whose places nothing is visible has the answer to each question that is had without a host.
@@ -11,22 +11,21 @@ HostsWithoutPlacesHaveTheFleetsAnswers =
 
 -- ---- a load answers the same, whatever host it is for
 
--- back again, since a load is what it has
-depends : (load : LoadMap) (viewer : Viewer) (dep : DepKind) (u v : Name) → DependsOn load dep u v → DependsOn (loaded_for viewer load) dep u v
-depends load viewer dep u v d = record { unit = d.unit; unit_is = d.unit_is; listed = d.listed; other = d.other }
-
-edge : (load : LoadMap) (viewer : Viewer) (dep : DepKind) (u v : Name) → IsEdge load dep u v → IsEdge (loaded_for viewer load) dep u v
-edge load viewer dep u v (inl d) = inl (depends load viewer _ u v d)
-edge load viewer dep u v (inr d) = inr (depends load viewer _ v u d)
-
-module _ (load : LoadMap) (viewer : Viewer) where
+-- by one profile
+module _ (load : LoadMap) (viewer : Viewer) (profile : load.viewer.profile ≡ viewer.profile) where
   abbrev moved : LoadMap
   moved = loaded_for viewer load
+
+  edge : (dep : DepKind) (u v : Name) → IsEdge load dep u v → IsEdge moved dep u v
+  edge dep u v e = subst (λ (by : Profile). IsEdgeAmong by load.names dep u v) profile e
+
+  edge_back : (dep : DepKind) (u v : Name) → IsEdge moved dep u v → IsEdge load dep u v
+  edge_back dep u v e = subst (λ (by : Profile). IsEdgeAmong by load.names dep u v) (sym profile) e
 
   edges_from : (dep : DepKind) (u : Name) (names : List Name) → AreEdgesFrom load dep u names → AreEdgesFrom moved dep u names
   edges_from dep u names are = record {
     ascending = are.ascending;
-    exact = λ v. (λ among. edge load viewer dep u v ((are.exact v).0 among), λ e. (are.exact v).1 (edge moved load.viewer dep u v e));
+    exact = λ v. (λ among. edge dep u v ((are.exact v).0 among), λ e. (are.exact v).1 (edge_back dep u v e));
   }
 
   edges : (all : EdgeMap) → AreEdges load all → AreEdges moved all
@@ -62,13 +61,20 @@ module _ (load : LoadMap) (viewer : Viewer) where
     depths_are = λ main stands. are.depths_are main (record { main_is = stands.main_is; unit = stands.unit });
   }
 
-  -- and whatever host a request is for, by one profile
-  module _ (profile : load.viewer.profile ≡ viewer.profile) (all : EdgeMap) (request : Request) (wanted : Viewer) where
+  -- and whatever host a request is for
+  module _ (all : EdgeMap) (request : Request) (wanted : Viewer) where
     abbrev moved_request : Request
     moved_request = record request { viewer = wanted }
 
     one_case : case_of load all request ≡ case_of moved all moved_request
-    one_case = (λ i. record (case_of load all request) { profile = profile i })
+    one_case = ap case_by profile
+      where
+        case_by : Profile → Case Name
+        case_by by = record (case_of load all request) {
+          profile = by;
+          is_running = λ u. is_perpetual_by by (unit_in load u) || list_any (is_same u) (map (main_of load) request.running);
+          is_perpetual = λ u. is_perpetual_by by (unit_in load u);
+        }
 
     planned : (plan : PlanMap) → IsPlanned load all request plan → IsPlanned moved all moved_request plan
     planned plan is = record {
@@ -101,25 +107,25 @@ module _ (load : LoadMap) (viewer : Viewer) where
     plan_by a (inl p) = inl (p.0, planned p.0 p.1, p.2)
     plan_by a (inr p) = inr (p.0, refusal p.0 p.1, p.2, p.3)
 
-  plan_returned : load.viewer.profile ≡ viewer.profile → (request : Request) (wanted : Viewer) (a : Answer)
+  plan_returned : (request : Request) (wanted : Viewer) (a : Answer)
       → IsPlanReturned load request a → IsPlanReturned moved (record request { viewer = wanted }) a
-  plan_returned profile request wanted a returned = record {
+  plan_returned request wanted a returned = record {
     edges = returned.edges;
     edges_are = edges returned.edges returned.edges_are;
-    plan_is = plan_by profile returned.edges request wanted a returned.plan_is;
+    plan_is = plan_by returned.edges request wanted a returned.plan_is;
   }
 
-  returned_without : load.viewer.profile ≡ viewer.profile → (question : Question) (a : Answer) → IsReturned load question a → IsReturned moved (without_host question) a
-  returned_without profile (OfUnit wanted name) a returned = (returned.0, linked_unit name returned.0 returned.1, returned.2)
-  returned_without profile (OfPulled wanted name) a returned = (returned.0, pulled name returned.0 returned.1, returned.2)
-  returned_without profile (OfPlan request) a returned = plan_returned profile request (of_fleet request.viewer.profile) a returned
-  returned_without profile (OfUnits wanted) a returned = (returned.0, all_linked returned.0 returned.1, returned.2)
+  returned_without : (question : Question) (a : Answer) → IsReturned load question a → IsReturned moved (without_host question) a
+  returned_without (OfUnit wanted name) a returned = (returned.0, linked_unit name returned.0 returned.1, returned.2)
+  returned_without (OfPulled wanted name) a returned = (returned.0, pulled name returned.0 returned.1, returned.2)
+  returned_without (OfPlan request) a returned = plan_returned request (of_fleet request.viewer.profile) a returned
+  returned_without (OfUnits wanted) a returned = (returned.0, all_linked returned.0 returned.1, returned.2)
 
-  returned_with : load.viewer.profile ≡ viewer.profile → (question : Question) (a : Answer) → IsReturned load (without_host question) a → IsReturned moved question a
-  returned_with profile (OfUnit wanted name) a returned = (returned.0, linked_unit name returned.0 returned.1, returned.2)
-  returned_with profile (OfPulled wanted name) a returned = (returned.0, pulled name returned.0 returned.1, returned.2)
-  returned_with profile (OfPlan request) a returned = plan_returned profile (record request { viewer = of_fleet request.viewer.profile }) request.viewer a returned
-  returned_with profile (OfUnits wanted) a returned = (returned.0, all_linked returned.0 returned.1, returned.2)
+  returned_with : (question : Question) (a : Answer) → IsReturned load (without_host question) a → IsReturned moved question a
+  returned_with (OfUnit wanted name) a returned = (returned.0, linked_unit name returned.0 returned.1, returned.2)
+  returned_with (OfPulled wanted name) a returned = (returned.0, pulled name returned.0 returned.1, returned.2)
+  returned_with (OfPlan request) a returned = plan_returned (record request { viewer = of_fleet request.viewer.profile }) request.viewer a returned
+  returned_with (OfUnits wanted) a returned = (returned.0, all_linked returned.0 returned.1, returned.2)
 
 -- what is loaded of a view is loaded for who looks
 for_looker : (v : HostViewMap) (names : List Name) (load : LoadMap) → IsLoad v names load → IsLoad v names (loaded_for (viewer_of v) load)

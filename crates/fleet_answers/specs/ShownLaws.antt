@@ -1,7 +1,7 @@
 -- What isn't visible counts for no load: where two stores show the same at all places, a load of one is a load of the other.
 -- Source: this project's own.
 use Rattle.std.proofs.Common.{◌≡◌}
-use Rattle.fleet_answers.specs.Prelude.{[], EntryMap, host_view_of, HostViewMap, inr, IsLoad, IsSource, IsTooLarge, IsUnit, keys_of, LeadsTo, link_targets_decide, List, LoadedUnit, LoadMap, Name, name_cmp, nat_list_cmp_total, one_viewer, over-closure, PlaceParts, same_units_make_the_load, SameLeads, SameWords, store_footprints_decide, sym, touched_words_decide, Viewer, visible_at, ◌∙◌}
+use Rattle.fleet_answers.specs.Prelude.{[], EntryMap, host_view_of, HostViewMap, inr, IsLoad, IsSource, IsTooLarge, IsUnit, keys_of, LeadsTo, link_targets_decide, List, LoadedUnit, LoadMap, Name, name_cmp, nat_list_cmp_total, one_viewer, over-closure, PlaceParts, refl, same_units_make_the_load, SameLeads, SameWords, store_footprints_decide, sym, touched_words_decide, Viewer, visible_at, ◌∙◌}
 use Rattle.fleet_answers.specs.Answers.{IsSnapshot}
 
 -- the stores show the same at each place
@@ -32,7 +32,7 @@ module _ (s t : EntryMap) (viewer : Viewer) (same : ShowTheSame s t) where
     -- the load is for the same viewer
     load_stays : IsLoad w extra load
     load_stays =
-        let stays = same_units_make_the_load v w extra load words unit_stays l in
+        let stays = same_units_make_the_load v w extra load refl words unit_stays l in
         record {
           viewer_is = l.viewer_is ∙ one_viewer s viewer ∙ sym (one_viewer t viewer);
           extra_is = stays.extra_is;

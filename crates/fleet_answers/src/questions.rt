@@ -72,8 +72,8 @@ pub enum Answer {
     TooManyUnits,
     /// The unit, with its edges.
     Unit(LinkedUnit),
-    /// The units that are pulled over `Requires`, `Requisite`, `BindsTo` and `Wants`, with the unit itself, each with
-    /// its least distance. Ordered by distance, then by name.
+    /// The units that are pulled over `Requires`, `Requisite`, `BindsTo`, `Wants` and `Upholds`, with the unit itself,
+    /// each with its least distance. Ordered by distance, then by name.
     Pulled(Items<(u64, UnitName)>),
     /// Which units stop, and which start.
     Planned(Plan),

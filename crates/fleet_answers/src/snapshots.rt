@@ -10,6 +10,7 @@ use crate::questions::{Answer, Question};
 use inverse_deps::EdgeTable;
 use parallel_load::{Gate, LoadFault, Loaded, Refreshed, load_fleet, load_here, refresh_in_place};
 use plain_values::Items;
+use profiles::Profile;
 use replica_store::{Place, Store, Viewer};
 use std::alloc::{AllocError, Global};
 use std::marker::Model;
@@ -97,7 +98,7 @@ impl Snapshot {
 
     /// The snapshot of another store for the same viewer and names, if these places are all at which the two stores show
     /// different contents. The result, refusals included, is that of `of`, but only what changed is read. If names and
-    /// dependencies stayed the same, the edges are reused.
+    /// dependencies stayed the same, the edges are reused by files; a manager's are made anew, as they depend on more.
     pub(crate) fn refreshed(self, store: &Store, touched: &[Place]) -> Result<Snapshot, LoadFault>
         requires before { IsBefore self store.now touched.now }
         ensures snapshot { IfOk result (IsSnapshot (host_view_of store.now self.viewer) self.extra) }
@@ -106,7 +107,10 @@ impl Snapshot {
     {
         let Snapshot { loaded, table } = self;
         match refresh_in_place(loaded, store, touched)? {
-            Refreshed::InPlace(loaded) => Ok(Snapshot { loaded, table }),
+            Refreshed::InPlace(loaded) => match loaded.viewer().profile {
+                Profile::Files => Ok(Snapshot { loaded, table }),
+                Profile::Manager => Ok(Snapshot::of_load(loaded)?),
+            },
             Refreshed::Anew(_, loaded) => Ok(Snapshot::of_load(loaded)?),
         }
     }

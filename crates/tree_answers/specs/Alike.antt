@@ -11,6 +11,7 @@ use Rattle.fleet_answers.specs.declared.questions.Answer.TheVariants as answer
 -- The same status, with the fragment at the fleet's place of the same path.
 abbrev pub status_at_fleet : Status → Status
 status_at_fleet (status.Loaded p) = status.Loaded (within Fleet p.path)
+status_at_fleet status.BuiltIn = status.BuiltIn
 status_at_fleet status.NotFound = status.NotFound
 status_at_fleet status.Masked = status.Masked
 status_at_fleet (status.Bad cause) = status.Bad cause
@@ -32,6 +33,8 @@ pub record AreSameUnits (v w : HostViewMap) (u t : LoadedUnit) : Type 0 where
   pub deps_are : t.deps ≡ u.deps
   pub notes_are : map said t.notes ≡ map said u.notes
   pub manual_is : t.manual ≡ u.manual
+  pub defaults_are : t.has_defaults ≡ u.has_defaults
+  pub mounts_are : t.mounts ≡ u.mounts
 
 module _ (v w : HostViewMap) where
   -- The same units, with the same edges.

@@ -1,44 +1,76 @@
 -- Laws of answers: where two views are alike but for places, and no unit of the universe is crossed, each question has the same
 -- answer in both.
-use Rattle.std.proofs.Common.{◌++◌, ◌≡◌}
-use Rattle.tree_answers.specs.Prelude.{Answer, ap, AreNames, asked, Choice, choice_at_fleet, EntryMap, HasTemplate, HostViewMap, of_fleet, viewer_asked, host_view_of, inl, inr, IsAmong, IsAnswer, IsInUniverse, IsName, IsNamed, IsUnit, IsWholeAnswer, List, LoadedUnit, Name, names_asked, PlaceParts, Question, ReadsAlike, refl, Resolution, resolution, ShowsTree, subst, sym, TreesHaveTheSameFragments, TreesNameAlike, TreesResolveAlike, TreesShowTheSameNames, Viewer, without_host, ◌∙◌}
-use Rattle.tree_answers.specs.{Alike.{AreSameAnswers}, ExistLaws.{unit_exists}, LoadLaws.{load_there, still_small}, ReturnedLaws.{returned_there}, UnitLaws.{unit_in_tree}, UniverseLaws.{HaveUnits, IsAlike, large_there, mains_over, universe_name}}
+use Rattle.std.proofs.Common.{◌++◌, ◌≡◌, ◌⊎◌}
+use Rattle.tree_answers.specs.Prelude.{Answer, ap, AreNames, asked, Bool, Choice, choice_at_fleet, DepKind, EntryMap, false, Folder, fragment_by, HasTemplate, HostViewMap, of_fleet, viewer_asked, host_view_of, inl, inr, is_loaded_by, is_loaded_without_file, IsAmong, IsAnswer, IsChoicesStatus, IsImplied, IsInUniverse, IsLoadedFrom, IsName, IsNamedByLink, IsNamedByWord, IsStatus, IsStatusBy, IsTrue, IsUnit, IsWholeAnswer, kind_of, List, LoadedUnit, Name, names_asked, Option, PlaceParts, Profile, Question, ReadsAlike, refl, Resolution, resolution, ShowsTree, Status, subst, sym, TreesHaveTheSameFragments, TreesNameAlike, TreesResolveAlike, TreesShowTheSameNames, true, true≢false, Viewer, without_host, ◌∙◌}
+use Rattle.tree_answers.specs.{Alike.{AreSameAnswers}, ExistLaws.{unit_exists}, LoadLaws.{load_there, still_small}, ReturnedLaws.{returned_there}, UnitLaws.{same_without_file, unit_in_tree}, UniverseLaws.{HaveUnits, IsAlike, large_there, mains_over, universe_name}}
 use Rattle.fleet_answers.specs.declared.questions.Answer.TheVariants as answer
 use Rattle.fleet_answers.specs.declared.questions.Question.TheVariants as question
 use Rattle.fragment_choice.specs.declared.choices.Choice.TheVariants as chosen
+use Rattle.unit_loads.specs.declared.units.Status.TheVariants as status
 
--- a name whose choice in the tree is a fragment has one for the host
-fragment_back : (c : Choice) (p : PlaceParts) → choice_at_fleet c ≡ chosen.Fragment p → (q : PlaceParts) × (c ≡ chosen.Fragment q)
-fragment_back chosen.NotFound p e = cc (e)
-fragment_back chosen.Masked p e = cc (e)
-fragment_back (chosen.Fragment q) p e = (q, refl)
-fragment_back (chosen.Alias m) p e = cc (e)
-fragment_back (chosen.Bad cause) p e = cc (e)
+-- a unit names another by a word, by a link, or as a manager implies it
+abbrev HasWay : HostViewMap → Name → DepKind → Name → Type 0
+HasWay s unit dep m = IsNamedByWord s unit dep m ⊎ ((folder : Folder) × (kind_of folder ≡ dep) × IsNamedByLink s unit folder m) ⊎ IsImplied s unit dep m
+
+-- a unit that is loaded in the tree
+record IsLoadedBy (profile : Profile) (n : Name) (c : Choice) : Type 0 where
+  status : Status
+  status_is : IsStatus profile n c status
+  loaded : IsTrue (is_loaded_by status)
+
+-- a unit whose choice in the tree loads it is loaded for the host
+loaded_back : (profile : Profile) (n : Name) (c : Choice) (x : Status) → IsStatus profile n (choice_at_fleet c) x → IsTrue (is_loaded_by x)
+    → IsLoadedBy profile n c
+loaded_back profile n c x is loaded =
+    by (is_loaded_without_file profile n c) refl (subst (λ (b : Bool). IsStatusBy b (choice_at_fleet c) x) (same_without_file profile n c) is)
+  where
+    not_loaded : {Z : Type 0} (y : Status) → x ≡ y → is_loaded_by y ≡ false → Z
+    not_loaded y e f = absurd (true≢false (sym loaded ∙ ap is_loaded_by e ∙ f))
+
+    of_choice : (d : Choice) → c ≡ d → is_loaded_without_file profile n c ≡ false → IsChoicesStatus (choice_at_fleet d) x → IsLoadedBy profile n c
+    of_choice chosen.NotFound e f h = not_loaded status.NotFound h refl
+    of_choice chosen.Masked e f h = not_loaded status.Masked h refl
+    of_choice (chosen.Fragment q) e f h = record {
+      status = status.Loaded q;
+      status_is =
+          subst (λ (b : Bool). IsStatusBy b c (status.Loaded q)) (sym f) (subst (λ (d : Choice). IsChoicesStatus d (status.Loaded q)) (sym e) refl);
+      loaded = refl;
+    }
+    of_choice (chosen.Alias m) e f h = absurd h
+    of_choice (chosen.Bad cause) e f h = not_loaded (status.Bad cause) h refl
+
+    by : (without_file : Bool) → is_loaded_without_file profile n c ≡ without_file → IsStatusBy without_file (choice_at_fleet c) x → IsLoadedBy profile n c
+    by true f h = record { status = status.BuiltIn; status_is = subst (λ (b : Bool). IsStatusBy b c status.BuiltIn) (sym f) refl; loaded = refl }
+    by false f h = of_choice c refl f h
 
 module _ (v w : HostViewMap) (over : IsAlike v w) (extra : List Name) (good : (n : Name) → IsAmong n extra → IsName n)
     (reads : (n : Name) (u : LoadedUnit) → IsInUniverse v extra n → IsUnit v n u → ReadsAlike v w u.names) where
   -- what names another is loaded, and has a list of its names: it has a unit
   have : HaveUnits v w over extra good reads
-  have n m r (inl h) = by h.named
+  have n m r (inl h) = by h.named.1
     where
-      by : IsNamed v n h.dep m → (u : LoadedUnit) × IsUnit v n u
-      by (inl x) = unit_exists v n x.names x.fragment h.own x.names_are x.fragment_is
-      by (inr (folder, kind, x)) = unit_exists v n x.names x.fragment h.own x.names_are x.fragment_is
-  have n m r (inr h) = by h.named
+      by : HasWay v n h.dep m → (u : LoadedUnit) × IsUnit v n u
+      by (inl x) = unit_exists v n x.names x.fragment h.own x.names_are x.loaded
+      by (inr (inl (folder, kind, x))) = unit_exists v n x.names x.fragment h.own x.names_are x.loaded
+      by (inr (inr x)) = unit_exists v n x.names x.fragment h.own x.names_are x.loaded
+  have n m r (inr h) = by h.named.1
     where
       name : IsName n
       name = universe_name v extra good n r
 
-      from : (names : List Name) (fragment : PlaceParts) → AreNames w n names → (resolution w n).choice ≡ chosen.Fragment fragment
+      from : (names : List Name) (fragment : Option PlaceParts) → AreNames w n names → IsLoadedFrom w n fragment
           → (u : LoadedUnit) × IsUnit v n u
-      from names fragment are e =
-          let chosen_so = ap (λ (x : Resolution). x.choice) (sym (over.resolved n name)) ∙ e in
-          let back = fragment_back (resolution v n).choice fragment chosen_so in
-          unit_exists v n names back.0 (sym (mains_over v w over n name) ∙ h.own) ((over.names n names).1 are) back.1
+      from names fragment are loaded =
+          let by_profile = subst (λ (by : Profile). IsStatus by n (resolution w n).choice loaded.status) (sym over.profile) loaded.status_is in
+          let chosen_so = subst (λ (x : Resolution). IsStatus v.profile n x.choice loaded.status) (over.resolved n name) by_profile in
+          let back = loaded_back v.profile n (resolution v n).choice loaded.status chosen_so loaded.loaded in
+          unit_exists v n names (fragment_by back.status) (sym (mains_over v w over n name) ∙ h.own) ((over.names n names).1 are)
+          (record { status = back.status; status_is = back.status_is; loaded = back.loaded; fragment_is = refl })
 
-      by : IsNamed w n h.dep m → (u : LoadedUnit) × IsUnit v n u
-      by (inl x) = from x.names x.fragment x.names_are x.fragment_is
-      by (inr (folder, kind, x)) = from x.names x.fragment x.names_are x.fragment_is
+      by : HasWay w n h.dep m → (u : LoadedUnit) × IsUnit v n u
+      by (inl x) = from x.names x.fragment x.names_are x.loaded
+      by (inr (inl (folder, kind, x))) = from x.names x.fragment x.names_are x.loaded
+      by (inr (inr x)) = from x.names x.fragment x.names_are x.loaded
 
   pub whole_there : (asking : Question) (a : Answer) → IsWholeAnswer v extra asking a
       → (b : Answer) × IsWholeAnswer w extra (without_host asking) b × AreSameAnswers v w a b

@@ -1,10 +1,9 @@
 -- Laws of what there is: a unit has a list of its drop-ins, and lists of the names that its links give; so a loaded main name with a
 -- list of its names has a unit.
 use Rattle.std.proofs.Common.{◌&&◌, ◌++◌, ◌∷◌, ◌≡◌, ◌⊎◌}
-use Rattle.tree_answers.specs.Prelude.{[], among_filter, among_from_contains, among_map, and_from, and_parts, ap, AreDropIns, AreLinks, AreNames, as_found, At, Bool, Candidate, Choice, contains_from_among, Content, dirs_with, DropIns, ending, Entry, false, file_name, file_notes, filter, filter_among, find_among, Folder, folders, found_iff_taken, found_is_taken, found_name, HostViewMap, inl, inr, in_byte_order, IsAmong, IsDropInAt, IsDropInOf, IsLinked, IsStatus, IsStrictlySortedBy, IsTaken, IsTakenOver, IsUnit, is_name, items_of, Links, List, lists_with, LoadedUnit, main, map, map_among, Mask, Name, names_ascend, names_or_else_types, names_stay, name_cmp, name_dirs, None, NoneStands, none_stands, Option, option_and_then, option_or, PathParts, path_cmp, path_cmp-IsAntisymmetric, PlaceParts, refl, refuses, Requires, resolution, rows_of, Search, settings_in, setting_notes, shown, Some, subst, sym, taken, true, type_dirs, view, viewed_at, viewed_place, Wants, ℕ, ◌∙◌}
+use Rattle.tree_answers.specs.Prelude.{[], among_filter, among_from_contains, among_map, and_from, and_parts, ap, AreDropIns, AreLinks, AreNames, as_found, At, Bool, Candidate, contains_from_among, Content, dirs_with, DropIns, ending, Entry, false, file_name, file_notes, files_with, filter, filter_among, find_among, Folder, folders, found_iff_taken, found_is_taken, found_name, fragment_by, has_defaults_by, HasAllOf, HasSettings, HostViewMap, inl, inr, in_byte_order, is_loaded_by, IsAmong, IsDropInAt, IsDropInOf, IsLinked, IsLoadedFrom, IsStrictlySortedBy, IsTaken, IsTakenOver, IsTrue, IsUnit, is_name, items_of, Links, List, lists_with, LoadedUnit, main, map, map_among, Mask, mounts_by, Name, names_ascend, names_or_else_types, names_stay, name_cmp, name_dirs, None, NoneStands, none_stands, Option, option_and_then, option_or, PathParts, path_cmp, path_cmp-IsAntisymmetric, PlaceParts, refl, refuses, Requires, rows_of, Search, settings_in, setting_notes, shown, Some, Status, subst, sym, taken, true, type_dirs, view, viewed_at, viewed_place, Wants, with_implied, ℕ, ◌∙◌}
 use Rattle.tree_answers.specs.DropInLaws.{of_each, one_of_name}
 use Rattle.std.specs.FinMap as finmap
-use Rattle.fragment_choice.specs.declared.choices.Choice.TheVariants as chosen
 use Rattle.unit_loads.specs.declared.units.Status.TheVariants as status
 use Rattle.unit_loads.specs.declared.units.UnitNote.TheVariants as note
 
@@ -200,10 +199,19 @@ module _ (v : HostViewMap) (names : List Name) where
 
 -- ---- units
 
--- A main name that resolves to a fragment has a unit, if there is a list of its names.
-pub unit_exists : (v : HostViewMap) (n : Name) (names : List Name) (fragment : PlaceParts) → main v n ≡ n → AreNames v n names
-    → (resolution v n).choice ≡ chosen.Fragment fragment → (u : LoadedUnit) × IsUnit v n u
-unit_exists v n names fragment own are e =
+-- a unit with this status has all of it, if it has the settings of its fragment
+has_all : (v : HostViewMap) (unit : LoadedUnit) (x : Status) (fragment : Option PlaceParts) → fragment_by x ≡ fragment → IsTrue (is_loaded_by x)
+    → HasSettings v fragment unit → HasAllOf v unit x
+has_all v unit (status.Loaded place) fragment e loaded h = subst (λ (f : Option PlaceParts). HasSettings v f unit) (sym e) h
+has_all v unit status.BuiltIn fragment e loaded h = subst (λ (f : Option PlaceParts). HasSettings v f unit) (sym e) h
+has_all v unit status.NotFound fragment e loaded h = cc (loaded)
+has_all v unit status.Masked fragment e loaded h = cc (loaded)
+has_all v unit (status.Bad cause) fragment e loaded h = cc (loaded)
+
+-- A main name that is loaded has a unit, if there is a list of its names.
+pub unit_exists : (v : HostViewMap) (n : Name) (names : List Name) (fragment : Option PlaceParts) → main v n ≡ n → AreNames v n names
+    → IsLoadedFrom v n fragment → (u : LoadedUnit) × IsUnit v n u
+unit_exists v n names fragment own are from =
     let dropins = drop_ins_exist v names in
     let wanted = links_exist v names Wants in
     let required = links_exist v names Requires in
@@ -213,34 +221,41 @@ unit_exists v n names fragment own are e =
         → (required : List Name) → AreLinks v names Requires required → (u : LoadedUnit) × IsUnit v n u
     made dropins dropins_are wanted wanted_are required required_are =
         let settings = settings_in v fragment dropins in
-        let items = items_of v (fragment ∷ dropins) in
+        let items = items_of v (files_with fragment dropins) in
+        let values = rows_of v.profile settings n in
         let unit : LoadedUnit =
         record {
           name = n;
           names = names;
-          status = status.Loaded fragment;
+          status = from.status;
           dropins = dropins;
-          values = rows_of v.profile settings n;
-          deps = lists_with v.profile settings n (record { wanted = wanted; required = required });
+          values = values;
+          deps = with_implied v.profile n values (lists_with v.profile settings n (record { wanted = wanted; required = required }));
           notes =
-              file_notes v (fragment ∷ dropins)
+              file_notes v (files_with fragment dropins)
               ++ map note.Setting (setting_notes v.profile items n (record { wanted = wanted; required = required }));
           manual = refuses settings;
+          has_defaults = has_defaults_by v.profile n values;
+          mounts = mounts_by v.profile n values;
+        } in
+        let has : HasSettings v fragment unit =
+        record {
+          dropins_are = dropins_are;
+          links = record { wanted = wanted; required = required };
+          links_are = record { wanted_are = wanted_are; required_are = required_are };
+          values_are = refl;
+          deps_are = refl;
+          notes_are = refl;
+          manual_is = refl;
+          defaults_are = refl;
+          mounts_are = refl;
         } in (
           unit,
           record {
             main_is = own;
             name_is = refl;
             names_are = are;
-            status_is = subst (λ (c : Choice). IsStatus c (status.Loaded fragment)) (sym e) refl;
-            has = record {
-              dropins_are = dropins_are;
-              links = record { wanted = wanted; required = required };
-              links_are = record { wanted_are = wanted_are; required_are = required_are };
-              values_are = refl;
-              deps_are = refl;
-              notes_are = refl;
-              manual_is = refl;
-            };
+            status_is = from.status_is;
+            has = has_all v unit from.status fragment from.fragment_is from.loaded has;
           },
         )

@@ -1,7 +1,7 @@
 -- Laws of loads that are the same but for places: what is looked up in them is the same, and so are their edges.
 use Rattle.std.proofs.Common.{◌∷◌, ◌≡◌}
-use Rattle.tree_answers.specs.Prelude.{[], All-weaker, ap, AreEdges, AreEdgesFrom, AreEdgesOf, Bool, cond, DependencyList, DependsOn, DepKind, EdgeMap, false, find, HostViewMap, inl, inr, IsEdge, IsListed, IsUnitIn, is_eq, keys_of, List, LoadedUnit, LoadMap, main_in, main_part, Name, NameLoad, name_cmp, None, Option, option_and_then, option_map, refl, same_Some, Some, subst, sym, true, unit_in, unit_part, ◌∙◌}
-use Rattle.tree_answers.specs.{Alike.{AreSameUnits}, SameLoads.{AreSamePairs, IsSameFound, IsSameOne, IsSameUnitFound}}
+use Rattle.tree_answers.specs.Prelude.{[], All-weaker, ap, AreEdges, AreEdgesFrom, AreEdgesOf, Bool, cond, DependencyList, DepKind, EdgeMap, false, find, HostViewMap, IsEdge, IsEdgeAmong, IsUnitIn, is_eq, keys_of, List, LoadedUnit, LoadMap, main_in, main_part, Name, NameLoad, name_cmp, None, Option, option_and_then, option_map, Profile, refl, same_Some, Some, subst, sym, true, unit_in, unit_part, ◌∙◌}
+use Rattle.tree_answers.specs.{Alike.{AreSameUnits}, SameLoads.{AreSamePairs, IsSameFound, IsSameOne, IsSameUnitFound}, TwinLaws.{AreTwins, turned_twin, twin_edge, twin_of}}
 use Rattle.parallel_load.specs.declared.loaded.NameLoad.TheVariants as one
 
 module _ (v w : HostViewMap) where
@@ -74,49 +74,39 @@ module _ (v w : HostViewMap) where
 
     -- ---- edges
 
-    depends_there : (dep : DepKind) (a b : Name) → DependsOn load dep a b → DependsOn other dep a b
-    depends_there dep a b d =
-        let t = unit_there a d.unit d.unit_is in
-        record {
-          unit = t.0;
-          unit_is = t.2;
-          listed = subst (λ (ls : List DependencyList). IsListed ls dep b) (sym t.1.deps_are) d.listed;
-          other = stands_there b d.other;
-        }
+    twins_there : AreTwins load.names other.names
+    twins_there n u e = let t = unit_there n u e in (t.0, twin_of v w u t.0 t.1, t.2)
 
-    depends_back : (dep : DepKind) (a b : Name) → DependsOn other dep a b → DependsOn load dep a b
-    depends_back dep a b d =
-        let u = unit_back a d.unit d.unit_is in
-        record {
-          unit = u.0;
-          unit_is = u.2;
-          listed = subst (λ (ls : List DependencyList). IsListed ls dep b) u.1.deps_are d.listed;
-          other = stands_back b d.other;
-        }
+    twins_back : AreTwins other.names load.names
+    twins_back n t e = let u = unit_back n t e in (u.0, turned_twin u.0 t (twin_of v w u.0 t u.1), u.2)
 
-    edge_there : (dep : DepKind) (a b : Name) → IsEdge load dep a b → IsEdge other dep a b
-    edge_there dep a b (inl d) = inl (depends_there _ a b d)
-    edge_there dep a b (inr d) = inr (depends_there _ b a d)
+    -- by one profile the edges are the same
+    module _ (profile : load.viewer.profile ≡ other.viewer.profile) where
+      edge_there : (dep : DepKind) (a b : Name) → IsEdge load dep a b → IsEdge other dep a b
+      edge_there dep a b e =
+          twin_edge other.viewer.profile load.names other.names twins_there twins_back dep a b
+          (subst (λ (by : Profile). IsEdgeAmong by load.names dep a b) profile e)
 
-    edge_back : (dep : DepKind) (a b : Name) → IsEdge other dep a b → IsEdge load dep a b
-    edge_back dep a b (inl d) = inl (depends_back _ a b d)
-    edge_back dep a b (inr d) = inr (depends_back _ b a d)
+      edge_back : (dep : DepKind) (a b : Name) → IsEdge other dep a b → IsEdge load dep a b
+      edge_back dep a b e =
+          subst (λ (by : Profile). IsEdgeAmong by load.names dep a b) (sym profile)
+          (twin_edge other.viewer.profile other.names load.names twins_back twins_there dep a b e)
 
-    edges_from : (dep : DepKind) (a : Name) (names : List Name) → AreEdgesFrom load dep a names → AreEdgesFrom other dep a names
-    edges_from dep a names are = record {
-      ascending = are.ascending;
-      exact = λ b. (λ among. edge_there dep a b ((are.exact b).0 among), λ e. (are.exact b).1 (edge_back dep a b e));
-    }
+      edges_from : (dep : DepKind) (a : Name) (names : List Name) → AreEdgesFrom load dep a names → AreEdgesFrom other dep a names
+      edges_from dep a names are = record {
+        ascending = are.ascending;
+        exact = λ b. (λ among. edge_there dep a b ((are.exact b).0 among), λ e. (are.exact b).1 (edge_back dep a b e));
+      }
 
-    pub edges_there : (all : EdgeMap) → AreEdges load all → AreEdges other all
-    edges_there all are = record {
-      names = are.names ∙ sym (keys_same load.names other.names same);
-      in_order = are.in_order;
-      lists = λ dep a. edges_from dep a _ (are.lists dep a);
-    }
+      pub edges_there : (all : EdgeMap) → AreEdges load all → AreEdges other all
+      edges_there all are = record {
+        names = are.names ∙ sym (keys_same load.names other.names same);
+        in_order = are.in_order;
+        lists = λ dep a. edges_from dep a _ (are.lists dep a);
+      }
 
-    pub edges_of_there : (a : Name) (lists : List DependencyList) → AreEdgesOf load a lists → AreEdgesOf other a lists
-    edges_of_there a lists are =
-        let P : DependencyList → Type 0 = λ list. AreEdgesFrom load list.kind a list.names in
-        let Q : DependencyList → Type 0 = λ list. AreEdgesFrom other list.kind a list.names in
-        record { kinds_are = are.kinds_are; each = All-weaker P Q (λ list e. edges_from list.kind a list.names e) lists are.each }
+      pub edges_of_there : (a : Name) (lists : List DependencyList) → AreEdgesOf load a lists → AreEdgesOf other a lists
+      edges_of_there a lists are =
+          let P : DependencyList → Type 0 = λ list. AreEdgesFrom load list.kind a list.names in
+          let Q : DependencyList → Type 0 = λ list. AreEdgesFrom other list.kind a list.names in
+          record { kinds_are = are.kinds_are; each = All-weaker P Q (λ list e. edges_from list.kind a list.names e) lists are.each }

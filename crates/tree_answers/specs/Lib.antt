@@ -5,6 +5,7 @@ pub mod UnitLaws
 pub mod ExistLaws
 pub mod UniverseLaws
 pub mod SameLoads
+pub mod TwinLaws
 pub mod LoadLaws
 pub mod FoundLaws
 pub mod PlanLaws

@@ -55,6 +55,8 @@ module _ (v w : HostViewMap) (over : IsAlike v w) where
         (λ i. map (list_by_mains (main w) (same.name_is i)) (same.deps_are i)) ∙ lists_alike u.name u.deps (listed_name v n u is);
     notes_are = same.notes_are;
     manual_is = same.manual_is;
+    defaults_are = same.defaults_are;
+    mounts_are = same.mounts_are;
   }
 
 -- ---- link targets

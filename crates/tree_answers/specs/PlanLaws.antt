@@ -1,22 +1,21 @@
 -- Laws of plans: loads that are the same but for places have the same plans and refusals, whatever host a request is for.
-use Rattle.std.proofs.Common.{◌∷◌, ◌≡◌}
-use Rattle.tree_answers.specs.Prelude.{[], Answer, ap, Bad, Case, case_of, Conflict, Cycle, EdgeMap, has_fragment, HostViewMap, inl, inr, IsFault, IsPlan, IsPlanBy, IsPlanned, IsRefusal, IsRefusalOf, IsRefused, is_loaded, is_manual, is_same, List, list_any, LoadedUnit, LoadMap, main_of, ManualStart, map, Masked, Memory, Name, name_cmp, None, NotFound, of_fleet, Option, option_map, PlanMap, refl, Refusal, Request, Requisite, Some, Status, status_in, subst, sym, Template, unit_in, unwrap_or, Why, ◌∙◌}
-use Rattle.tree_answers.specs.{Alike.{AreSameAnswers, status_at_fleet}, FoundLaws.{mains_found, units_found}, SameLoads.{AreSamePairs, IsSameUnitFound}}
+use Rattle.std.proofs.Common.{◌||◌, ◌∷◌, ◌≡◌}
+use Rattle.tree_answers.specs.Prelude.{[], Answer, ap, Bad, Case, case_of, Conflict, Cycle, EdgeMap, Files, HostViewMap, inl, inr, IsFault, IsPlan, IsPlanBy, IsPlanned, IsRefusal, IsRefusalOf, IsRefused, is_loaded, is_loaded_by, is_manual, is_perpetual, is_perpetual_by, is_same, List, list_any, LoadedUnit, LoadMap, main_of, Manager, ManualStart, map, Masked, Memory, Name, name_cmp, None, NotFound, of_fleet, Option, option_map, PlanMap, Profile, refl, Refusal, Request, Requisite, Some, Status, status_in, subst, sym, Template, unit_in, unwrap_or, Why, ◌∙◌}
+use Rattle.tree_answers.specs.{Alike.{AreSameAnswers, status_at_fleet}, FoundLaws.{mains_found, units_found}, SameLoads.{AreSamePairs, IsSameUnitFound}, TwinLaws.{loaded_at_fleet}}
 use Rattle.unit_loads.specs.declared.units.Status.TheVariants as status
 use Rattle.fleet_answers.specs.declared.questions.Answer.TheVariants as answer
 
 -- ---- what is found of units
 
-fragment_same : (x : Status) → has_fragment (status_at_fleet x) ≡ has_fragment x
-fragment_same (status.Loaded place) = refl
-fragment_same status.NotFound = refl
-fragment_same status.Masked = refl
-fragment_same (status.Bad cause) = refl
-
 module _ (v w : HostViewMap) where
   loaded_same : (o p : Option LoadedUnit) → IsSameUnitFound v w o p → is_loaded p ≡ is_loaded o
   loaded_same None p e = ap is_loaded e
-  loaded_same (Some u) p (t, same, at) = ap is_loaded at ∙ ap has_fragment same.status_is ∙ fragment_same u.status
+  loaded_same (Some u) p (t, same, at) = ap is_loaded at ∙ ap is_loaded_by same.status_is ∙ loaded_at_fleet u.status
+
+  perpetual_same : (profile : Profile) (o p : Option LoadedUnit) → IsSameUnitFound v w o p → is_perpetual_by profile p ≡ is_perpetual_by profile o
+  perpetual_same profile None p e = ap (is_perpetual_by profile) e
+  perpetual_same Files (Some u) p (t, same, at) = ap (is_perpetual_by Files) at
+  perpetual_same Manager (Some u) p (t, same, at) = ap (is_perpetual_by Manager) at ∙ ap is_perpetual same.name_is
 
   manual_same : (o p : Option LoadedUnit) → IsSameUnitFound v w o p → is_manual p ≡ is_manual o
   manual_same None p e = ap is_manual e
@@ -40,13 +39,19 @@ module _ (v w : HostViewMap) where
     running_alike [] = refl
     running_alike (n ∷ ns) = (λ i. main_alike n i ∷ running_alike ns i)
 
+    always_alike : (u : Name) → is_perpetual_by load.viewer.profile (unit_in load u) ≡ is_perpetual_by other.viewer.profile (unit_in other u)
+    always_alike u =
+        ap (λ by. is_perpetual_by by (unit_in load u)) profile
+        ∙ sym (perpetual_same other.viewer.profile (unit_in load u) (unit_in other u) (units_found v w load other same u))
+
     case_alike : case_of load all request ≡ case_of other all bare
     case_alike = (λ i. record (case_of load all request) {
       profile = profile i;
       target = sym (main_alike request.target) i;
       is_loaded = λ u. sym (loaded_same (unit_in load u) (unit_in other u) (units_found v w load other same u)) i;
       refuses_manual_start = λ u. sym (manual_same (unit_in load u) (unit_in other u) (units_found v w load other same u)) i;
-      is_running = λ u. list_any (is_same u) (sym (running_alike request.running) i);
+      is_running = λ u. always_alike u i || list_any (is_same u) (sym (running_alike request.running) i);
+      is_perpetual = λ u. always_alike u i;
     })
 
     planned : (plan : PlanMap) → IsPlanned load all request plan → IsPlanned other all bare plan

@@ -19,6 +19,10 @@ found_under v extra load l n u among =
 
 module _ (v w : HostViewMap) (extra : List Name) (load other : LoadMap) (l : IsLoad v extra load) (k : IsLoad w extra other)
     (same : AreSamePairs v w load.names other.names) (profile : v.profile ≡ w.profile) where
+  -- the loads are by one profile
+  one_profile : load.viewer.profile ≡ other.viewer.profile
+  one_profile = ap (λ (x : Viewer). x.profile) l.viewer_is ∙ profile ∙ sym (ap (λ (x : Viewer). x.profile) k.viewer_is)
+
   -- ---- one unit
 
   linked_there : (name : Name) (x : LinkedUnit) → IsLinkedUnit load name x
@@ -32,7 +36,7 @@ module _ (v w : HostViewMap) (extra : List Name) (load other : LoadMap) (l : IsL
           main = is.main;
           main_is = mains_found v w load other same name ∙ is.main_is;
           unit_is = t.2;
-          edges_are = edges_of_there v w load other same is.main x.edges is.edges_are;
+          edges_are = edges_of_there v w load other same one_profile is.main x.edges is.edges_are;
         },
       )
 
@@ -67,7 +71,7 @@ module _ (v w : HostViewMap) (extra : List Name) (load other : LoadMap) (l : IsL
       let y : LinkedUnit = record { unit = t; edges = x.edges } in
       let edges = subst (λ (a : Name). AreEdgesOf load a x.edges) (sym key) (edges_under n u x e in_load h) in
       let linked : IsUnitWithEdges other m y =
-      record { unit_is = found_under w extra other k m t in_other; edges_are = edges_of_there v w load other same m x.edges edges } in
+      record { unit_is = found_under w extra other k m t in_other; edges_are = edges_of_there v w load other same one_profile m x.edges edges } in
       record {
         linked = y ∷ rest.linked;
         alike =
@@ -116,7 +120,7 @@ module _ (v w : HostViewMap) (extra : List Name) (load other : LoadMap) (l : IsL
   pulled_there : (name : Name) (pairs : List (ℕ × Name)) → ArePulled load name pairs → ArePulled other name pairs
   pulled_there name pairs are = record {
     edges = are.edges;
-    edges_are = edges_there v w load other same are.edges are.edges_are;
+    edges_are = edges_there v w load other same one_profile are.edges are.edges_are;
     depths_are = λ main stands.
         are.depths_are main
         (record {
@@ -130,11 +134,9 @@ module _ (v w : HostViewMap) (extra : List Name) (load other : LoadMap) (l : IsL
   plan_over : (request : Request) (a : Answer) → IsPlanReturned load request a
       → (b : Answer) × IsPlanReturned other (record request { viewer = of_fleet request.viewer.profile }) b × AreSameAnswers v w a b
   plan_over request a returned =
-      let one_profile : load.viewer.profile ≡ other.viewer.profile =
-      ap (λ (x : Viewer). x.profile) l.viewer_is ∙ profile ∙ sym (ap (λ (x : Viewer). x.profile) k.viewer_is) in
       let plan = plan_there v w load other same one_profile returned.edges request a returned.plan_is in (
         plan.0,
-        record { edges = returned.edges; edges_are = edges_there v w load other same returned.edges returned.edges_are; plan_is = plan.1 },
+        record { edges = returned.edges; edges_are = edges_there v w load other same one_profile returned.edges returned.edges_are; plan_is = plan.1 },
         plan.2,
       )
 

@@ -3,7 +3,7 @@
 use Rattle.std.proofs.Common.{◌++◌, ◌∷◌, ◌≡◌, ◌⊎◌}
 use Rattle.section_reader.specs.declared.assignments.Note.{Note}
 use Rattle.setting_rules.specs.declared.notes.SettingNote.{SettingNote}
-use Rattle.tree_answers.specs.Prelude.{[], ap, AreNames, assignments_of, bytes_at, Choice, choice, choice_at_fleet, contains_from_among, Content, content_at, ends_at, EntryMap, file_bytes, file_name, file_notes, flat_map, Fleet, goes_on, HasAllOf, HasNothing, HasSettings, HostViewMap, host_view_of, inl, IsName, IsStatus, IsUnit, items_of, List, lists_with, LoadedUnit, main, map, map-append, Name, notes_at, notes_of, of_fleet, Option, PlaceParts, ReadsAlike, refl, refuses, Requires, Resolution, resolution, resolution_at_fleet, resolution_resolves, Resolves, rows_of, settings_of, setting_notes, ShowsTree, Status, subst, sym, TreesHaveTheSameFragments, TreesNameAlike, TreesResolveAlike, UnitNote, Viewer, Wants, within, ℕ, ◌∙◌}
+use Rattle.tree_answers.specs.Prelude.{[], ap, AreNames, assignments_of, Bool, bytes_at, Choice, choice, choice_at_fleet, chosen_by, contains_from_among, Content, content_at, ends_at, EntryMap, false, file_bytes, file_name, file_notes, Files, files_with, flat_map, Fleet, fragment_by, goes_on, has_defaults_by, HasAllOf, HasNothing, HasSettings, HostViewMap, host_view_of, inl, is_loaded_without_file, IsChoicesStatus, IsName, IsStatus, IsStatusBy, IsUnit, items_of, List, lists_with, LoadedUnit, main, Manager, map, map-append, mounts_by, Name, None, notes_at, notes_of, of_fleet, Option, PlaceParts, Profile, ReadsAlike, refl, refuses, Requires, Resolution, resolution, resolution_at_fleet, resolution_resolves, Resolves, rows_of, settings_of, setting_notes, ShowsTree, Some, Status, subst, sym, TreesHaveTheSameFragments, TreesNameAlike, TreesResolveAlike, true, UnitNote, Viewer, Wants, with_implied, within, ℕ, ◌∙◌}
 use Rattle.tree_answers.specs.{Alike.{AreSameUnits, said, status_at_fleet}, DropInLaws.{Counterparts, counterparts, drop_ins_there, links_there}}
 use Rattle.fragment_choice.specs.declared.choices.Choice.TheVariants as chosen
 use Rattle.unit_loads.specs.declared.units.Status.TheVariants as status
@@ -57,21 +57,30 @@ fragment_chosen s n p own e = by (resolution s n) own (resolution_resolves s n) 
     by r own (ends_at k u short chain ends) e = ap (choice s) (sym own) ∙ e
     by r own (goes_on u chain) e = cc (e)
 
-status_there : (c : Choice) (x : Status) → IsStatus c x → IsStatus (choice_at_fleet c) (status_at_fleet x)
-status_there chosen.NotFound x h = ap status_at_fleet h
-status_there chosen.Masked x h = ap status_at_fleet h
-status_there (chosen.Fragment place) x h = ap status_at_fleet h
-status_there (chosen.Alias other) x h = absurd h
-status_there (chosen.Bad cause) x h = ap status_at_fleet h
+-- whether a unit is loaded without a file doesn't depend on places
+pub same_without_file : (profile : Profile) (n : Name) (c : Choice) → is_loaded_without_file profile n (choice_at_fleet c) ≡ is_loaded_without_file profile n c
+same_without_file Files n c = refl
+same_without_file Manager n chosen.NotFound = refl
+same_without_file Manager n chosen.Masked = refl
+same_without_file Manager n (chosen.Fragment place) = refl
+same_without_file Manager n (chosen.Alias other) = refl
+same_without_file Manager n (chosen.Bad cause) = refl
 
--- a unit that is loaded has its name's choice for its fragment
-chosen_for : (c : Choice) (x : Status) (fragment : PlaceParts) → IsStatus c x → x ≡ status.Loaded fragment
-    → c ≡ chosen.Fragment fragment
-chosen_for chosen.NotFound x fragment h e = cc (h, e)
-chosen_for chosen.Masked x fragment h e = cc (h, e)
-chosen_for (chosen.Fragment place) x fragment h e = cc (h, e)
-chosen_for (chosen.Alias other) x fragment h e = absurd h
-chosen_for (chosen.Bad cause) x fragment h e = cc (h, e)
+of_choice : (c : Choice) (x : Status) → IsChoicesStatus c x → IsChoicesStatus (choice_at_fleet c) (status_at_fleet x)
+of_choice chosen.NotFound x h = ap status_at_fleet h
+of_choice chosen.Masked x h = ap status_at_fleet h
+of_choice (chosen.Fragment place) x h = ap status_at_fleet h
+of_choice (chosen.Alias other) x h = absurd h
+of_choice (chosen.Bad cause) x h = ap status_at_fleet h
+
+status_by : (without_file : Bool) (c : Choice) (x : Status) → IsStatusBy without_file c x → IsStatusBy without_file (choice_at_fleet c) (status_at_fleet x)
+status_by true c x h = ap status_at_fleet h
+status_by false c x h = of_choice c x h
+
+status_there : (profile : Profile) (n : Name) (c : Choice) (x : Status) → IsStatus profile n c x → IsStatus profile n (choice_at_fleet c) (status_at_fleet x)
+status_there profile n c x h =
+    subst (λ (b : Bool). IsStatusBy b (choice_at_fleet c) (status_at_fleet x)) (sym (same_without_file profile n c))
+    (status_by (is_loaded_without_file profile n c) c x h)
 
 -- ---- the unit in the tree
 
@@ -81,10 +90,11 @@ module _ (v w : HostViewMap) (profile : v.profile ≡ w.profile) (name : Name) (
   main_there : main w name ≡ name
   main_there = ap (λ (r : Resolution). r.main) resolved ∙ is.main_is
 
-  status_over : (x : Status) → u.status ≡ x → IsStatus (resolution w name).choice (status_at_fleet x)
+  status_over : (x : Status) → u.status ≡ x → IsStatus w.profile name (resolution w name).choice (status_at_fleet x)
   status_over x e =
-      subst (λ (r : Resolution). IsStatus r.choice (status_at_fleet x)) (sym resolved)
-      (status_there (resolution v name).choice x (subst (IsStatus (resolution v name).choice) e is.status_is))
+      subst (λ (by : Profile). IsStatus by name (resolution w name).choice (status_at_fleet x)) profile
+      (subst (λ (r : Resolution). IsStatus v.profile name r.choice (status_at_fleet x)) (sym resolved)
+      (status_there v.profile name (resolution v name).choice x (subst (IsStatus v.profile name (resolution v name).choice) e is.status_is)))
 
   abbrev SameUnit : Type 0
   SameUnit = (t : LoadedUnit) × IsUnit w name t × AreSameUnits v w u t
@@ -100,6 +110,8 @@ module _ (v w : HostViewMap) (profile : v.profile ≡ w.profile) (name : Name) (
         no_deps = none.no_deps;
         no_notes = none.no_notes;
         not_manual = none.not_manual;
+        no_defaults = none.no_defaults;
+        no_mounts = none.no_mounts;
       } in (
         t,
         record { main_is = main_there; name_is = is.name_is; names_are = named; status_is = status_over x e; has = has t nothing },
@@ -113,43 +125,59 @@ module _ (v w : HostViewMap) (profile : v.profile ≡ w.profile) (name : Name) (
           deps_are = refl;
           notes_are = refl;
           manual_is = refl;
+          defaults_are = refl;
+          mounts_are = refl;
         },
       )
 
-  -- one that is loaded has its fragment and its drop-ins, place for place
-  module _ (fragment : PlaceParts) (e : u.status ≡ status.Loaded fragment) (h : HasSettings v fragment u) where
-    abbrev moved : PlaceParts
-    moved = within Fleet fragment.path
+  -- a fragment at the fleet's place of the same path
+  abbrev moved : Option PlaceParts → Option PlaceParts
+  moved None = None
+  moved (Some p) = Some (within Fleet p.path)
 
-    shows : content_at w moved ≡ content_at v fragment
-    shows =
-        shown fragment
-        (fragment_chosen v name fragment is.main_is (chosen_for (resolution v name).choice u.status fragment is.status_is e))
+  abbrev IsShownToo : Option PlaceParts → Type 0
+  IsShownToo fragment = (p : PlaceParts) → fragment ≡ Some p → content_at w (within Fleet p.path) ≡ content_at v p
 
+  -- files with such a fragment have the contents and the file names that they had
+  contents_with : (fragment : Option PlaceParts) → IsShownToo fragment → (places dropins : List PlaceParts)
+      → map (content_at w) places ≡ map (content_at v) dropins → map (content_at w) (files_with (moved fragment) places) ≡ map (content_at v) (files_with fragment dropins)
+  contents_with None shows places dropins same = same
+  contents_with (Some p) shows places dropins same = (λ i. shows p refl i ∷ same i)
+
+  names_with : (fragment : Option PlaceParts) (places dropins : List PlaceParts) → map file_name places ≡ map file_name dropins
+      → map file_name (files_with (moved fragment) places) ≡ map file_name (files_with fragment dropins)
+  names_with None places dropins same = same
+  names_with (Some p) places dropins same = (λ i. file_name p ∷ same i)
+
+  -- one that is loaded has its fragment, if it has one, and its drop-ins, place for place
+  module _ (x : Status) (e : u.status ≡ x) (fragment : Option PlaceParts) (shows : IsShownToo fragment) (h : HasSettings v fragment u) where
     found : Counterparts v w u.names u.dropins
     found =
         counterparts v w u.names (λ file x. (alike.drop_ins file x).0) u.dropins
         (λ p among. (h.dropins_are.exact p).0 (contains_from_among p u.dropins among))
 
     abbrev files : List PlaceParts
-    files = moved ∷ found.places
+    files = files_with (moved fragment) found.places
 
-    contents : map (content_at w) files ≡ map (content_at v) (fragment ∷ u.dropins)
-    contents = (λ i. shows i ∷ found.contents_are i)
+    abbrev own : List PlaceParts
+    own = files_with fragment u.dropins
 
-    file_names : map file_name files ≡ map file_name (fragment ∷ u.dropins)
-    file_names = (λ i. file_name fragment ∷ found.files_are i)
+    contents : map (content_at w) files ≡ map (content_at v) own
+    contents = contents_with fragment shows found.places u.dropins found.contents_are
 
-    items : items_of w files ≡ items_of v (fragment ∷ u.dropins)
-    items = items_alike v w (fragment ∷ u.dropins) files contents
+    file_names : map file_name files ≡ map file_name own
+    file_names = names_with fragment found.places u.dropins found.files_are
+
+    items : items_of w files ≡ items_of v own
+    items = items_alike v w own files contents
 
     abbrev on_settings : List UnitNote
-    on_settings = map note.Setting (setting_notes v.profile (items_of v (fragment ∷ u.dropins)) u.name h.links)
+    on_settings = map note.Setting (setting_notes v.profile (items_of v own) u.name h.links)
 
     abbrev made : LoadedUnit
-    made = record u { status = status.Loaded moved; dropins = found.places; notes = file_notes w files ++ on_settings }
+    made = record u { status = status_at_fleet x; dropins = found.places; notes = file_notes w files ++ on_settings }
 
-    settings : HasSettings w moved made
+    settings : HasSettings w (moved fragment) made
     settings = record {
       dropins_are = drop_ins_there v w u.names alike u.dropins h.dropins_are found;
       links = h.links;
@@ -161,32 +189,34 @@ module _ (v w : HostViewMap) (profile : v.profile ≡ w.profile) (name : Name) (
           h.values_are ∙ ap (λ xs. rows_of v.profile (settings_of v.profile xs) u.name) (sym items)
           ∙ ap (λ by. rows_of by (settings_of by (items_of w files)) u.name) profile;
       deps_are =
-          h.deps_are ∙ ap (λ xs. lists_with v.profile (settings_of v.profile xs) u.name h.links) (sym items)
-          ∙ ap (λ by. lists_with by (settings_of by (items_of w files)) u.name h.links) profile;
+          h.deps_are ∙ ap (λ xs. with_implied v.profile u.name u.values (lists_with v.profile (settings_of v.profile xs) u.name h.links)) (sym items)
+          ∙ ap (λ by. with_implied by u.name u.values (lists_with by (settings_of by (items_of w files)) u.name h.links)) profile;
       notes_are =
           ap (λ xs. file_notes w files ++ map note.Setting (setting_notes v.profile xs u.name h.links)) (sym items)
           ∙ ap (λ by. file_notes w files ++ map note.Setting (setting_notes by (items_of w files) u.name h.links)) profile;
       manual_is =
           h.manual_is ∙ ap (λ xs. refuses (settings_of v.profile xs)) (sym items)
           ∙ ap (λ by. refuses (settings_of by (items_of w files))) profile;
+      defaults_are = h.defaults_are ∙ ap (λ by. has_defaults_by by u.name u.values) profile;
+      mounts_are = h.mounts_are ∙ ap (λ by. mounts_by by u.name u.values) profile;
     }
 
     same_notes : map said (file_notes w files ++ on_settings) ≡ map said u.notes
     same_notes =
         map-append said (file_notes w files) on_settings
-        ∙ ap (λ ns. ns ++ map said on_settings) (notes_alike v w (fragment ∷ u.dropins) files file_names contents)
-        ∙ sym (map-append said (file_notes v (fragment ∷ u.dropins)) on_settings)
+        ∙ ap (λ ns. ns ++ map said on_settings) (notes_alike v w own files file_names contents)
+        ∙ sym (map-append said (file_notes v own) on_settings)
         ∙ ap (map said) (sym h.notes_are)
 
-    loaded : SameUnit
-    loaded = (
+    loaded : HasAllOf w made (status_at_fleet x) → SameUnit
+    loaded has = (
       made,
       record {
         main_is = main_there;
         name_is = is.name_is;
         names_are = named;
-        status_is = status_over (status.Loaded fragment) e;
-        has = settings;
+        status_is = status_over x e;
+        has = has;
       },
       record {
         name_is = refl;
@@ -198,11 +228,22 @@ module _ (v w : HostViewMap) (profile : v.profile ≡ w.profile) (name : Name) (
         deps_are = refl;
         notes_are = same_notes;
         manual_is = refl;
+        defaults_are = refl;
+        mounts_are = refl;
       },
     )
 
+  -- what is shown at the fragment is shown in the tree
+  shown_too : (x : Status) → u.status ≡ x → IsShownToo (fragment_by x)
+  shown_too x e p f =
+      shown p (fragment_chosen v name p is.main_is (chosen_by v.profile name (resolution v name).choice u.status p is.status_is (ap fragment_by e ∙ f)))
+
   same_by : (x : Status) → u.status ≡ x → HasAllOf v u x → SameUnit
-  same_by (status.Loaded fragment) e h = loaded fragment e h
+  same_by (status.Loaded fragment) e h =
+      let x = status.Loaded fragment in
+      loaded x e (Some fragment) (shown_too x e) h (settings x e (Some fragment) (shown_too x e) h)
+  same_by status.BuiltIn e h =
+      loaded status.BuiltIn e None (shown_too status.BuiltIn e) h (settings status.BuiltIn e None (shown_too status.BuiltIn e) h)
   same_by status.NotFound e h = bare status.NotFound e h (λ t n. n)
   same_by status.Masked e h = bare status.Masked e h (λ t n. n)
   same_by (status.Bad cause) e h = bare (status.Bad cause) e h (λ t n. n)

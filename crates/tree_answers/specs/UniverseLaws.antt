@@ -1,7 +1,7 @@
 -- Laws of universes: where main names, visible names and units are the same but for places, and no unit of the universe is
 -- crossed, both views have the same universe.
 use Rattle.std.proofs.Common.{◌↔◌, ◌≡◌, ◌⊎◌}
-use Rattle.tree_answers.specs.Prelude.{ap, AreNames, AreUniverse, argument, BadName, Bool, closure_stays, cond, DependencyList, DepKind, Err, expand, false, for_unit, HostViewMap, inl, inr, instance_has_parts, IsAmong, IsInUniverse, IsListed, IsName, IsNamed, IsReached, IsShown, IsSource, IsTooLarge, IsUnit, IsVisibleName, is_name, LeadsTo, List, lists_have_what_is_named, LoadedUnit, main, mains_are_alike, Name, named_at, named_by, named_by_text, Names, name_cmp, None, Ok, Option, or_bad_name, reached_closed, reached_least, reached_stays, reached_within, ReadsAlike, refl, Resolution, resolution, resolution_at_fleet, same_closure, same_reached, same_Some, shape, Some, subst, SuccessorsStayWithin, sym, true, ℕ, ◌∙◌}
+use Rattle.tree_answers.specs.Prelude.{among_from_contains, ap, AreNames, AreUniverse, argument, asked_by, BadName, Bool, closure_stays, cond, DependencyList, DepKind, Err, expand, facts_of, false, Files, for_unit, HostViewMap, implied_are_names, implied_names, inl, inr, instance_has_parts, IsAmong, IsAmong-append_cases, IsInUniverse, IsListed, IsName, IsNamed, IsReached, IsShown, IsSource, IsTooLarge, IsUnit, IsVisibleName, is_name, LeadsTo, List, lists_have_what_is_named, LoadedUnit, main, mains_are_alike, Manager, Name, named_at, named_by, named_by_text, Names, name_cmp, None, Ok, Option, or_bad_name, perpetual_units, perpetual_units_are_names, Profile, reached_closed, reached_least, reached_stays, reached_within, ReadsAlike, refl, Resolution, resolution, resolution_at_fleet, rows_of, same_closure, same_reached, same_Some, settings_in, shape, Some, subst, SuccessorsStayWithin, sym, true, ℕ, ◌∙◌}
 use Rattle.tree_answers.specs.Alike.{AreSameUnits}
 use Rattle.unit_name.specs.declared.names.Shape.{Shape, TheVariants.{Instance, Plain, Template}}
 
@@ -43,15 +43,22 @@ unfolding named_by
 word_name unit m word e = expanded_name unit m (expand word unit) e
 
 pub named_is_name : (v : HostViewMap) (unit : Name) (dep : DepKind) (m : Name) → IsNamed v unit dep m → IsName m
-named_is_name v unit dep m (inl n) = word_name unit m n.text n.named
-named_is_name v unit dep m (inr (folder, kind, n)) = meant_name (shape n.link) unit n.link m n.linked.name n.named
+named_is_name v unit dep m (counts, inl n) = word_name unit m n.text n.named
+named_is_name v unit dep m (counts, inr (inl (folder, kind, n))) = meant_name (shape n.link) unit n.link m n.linked.name n.named
+named_is_name v unit dep m (counts, inr (inr n)) =
+    let f = facts_of unit (rows_of v.profile (settings_in v n.fragment n.dropins) unit) in
+    implied_are_names f dep m (among_from_contains {X = DepKind × Name} (dep, m) (implied_names f) n.implied)
 
 step_name : (v : HostViewMap) (n m : Name) → IsName n → LeadsTo v n m → IsName m
 step_name v n m good (inl e) = subst IsName e (mains_are_alike v n good).name
 step_name v n m good (inr h) = named_is_name v n h.dep m h.named
 
 source_name : (v : HostViewMap) (extra : List Name) → ((n : Name) → IsAmong n extra → IsName n) → (n : Name) → IsSource v extra n → IsName n
-source_name v extra good n (inl h) = good n h
+source_name v extra good n (inl h) = by v.profile h
+  where
+    by : (profile : Profile) → IsAmong n (asked_by profile extra) → IsName n
+    by Files a = good n a
+    by Manager a = elim (IsAmong-append_cases n perpetual_units extra a) [ inl p ↦ perpetual_units_are_names n p | inr e ↦ good n e ]
 source_name v extra good n (inr h) = h.2.name
 
 -- If the names asked for are units', so are all names of the universe.
@@ -68,15 +75,15 @@ visible_over v w shown n (level, within, at) =
     let h = shown n (level, within, at.shown) in
     (h.0, h.1, record { name = at.name; whole = at.whole; shown = h.2 })
 
-source_over : (v w : HostViewMap) → ((n : Name) → IsShown v n → IsShown w n) → (extra : List Name) (n : Name)
+source_over : (v w : HostViewMap) → v.profile ≡ w.profile → ((n : Name) → IsShown v n → IsShown w n) → (extra : List Name) (n : Name)
     → IsSource v extra n → IsSource w extra n
-source_over v w shown extra n (inl h) = inl h
-source_over v w shown extra n (inr h) = inr (visible_over v w shown n h)
+source_over v w profile shown extra n (inl h) = inl (subst (λ (by : Profile). IsAmong n (asked_by by extra)) profile h)
+source_over v w profile shown extra n (inr h) = inr (visible_over v w shown n h)
 
 module _ (v w : HostViewMap) (over : IsAlike v w) (extra : List Name) (good : (n : Name) → IsAmong n extra → IsName n)
     (reads : (n : Name) (u : LoadedUnit) → IsInUniverse v extra n → IsUnit v n u → ReadsAlike v w u.names) where
   sources : (n : Name) → IsSource v extra n ↔ IsSource w extra n
-  sources n = (source_over v w (λ k. (over.shown k).0) extra n, source_over w v (λ k. (over.shown k).1) extra n)
+  sources n = (source_over v w over.profile (λ k. (over.shown k).0) extra n, source_over w v (sym over.profile) (λ k. (over.shown k).1) extra n)
 
   -- Of the universe's names, each that names another in either view has a unit.
   abbrev pub HaveUnits : Type 0

@@ -1,12 +1,12 @@
-use Rattle.fleet_answers.proofs.Prelude.{ap, AreSources, host_view_of, HostViewMap, inl, IsAmong, List, LoadMap, Name, subst, sym, Viewer, ◌∙◌}
+use Rattle.fleet_answers.proofs.Prelude.{ap, AreSources, asked_among, host_view_of, HostViewMap, inl, IsAmong, List, LoadMap, Name, subst, sym, Viewer, ◌∙◌}
 use Rattle.fleet_answers.proofs.renewing.serves.Goals as goal
 
 pub returns-then-is_asked_by : goal.returns-then-is_asked_by
 returns-then-is_asked_by c =
     let same = c.is_asked_by.ensures.names c.if-is_asked_by.true in
     record {
-      these = λ _ n a. inl (subst (IsAmong n) (sym same) a);
-      those = λ _ n a. inl (subst (IsAmong n) same a);
+      these = λ _ n a. inl (asked_among _ _ n (subst (IsAmong n) (sym same) a));
+      those = λ _ n a. inl (asked_among _ _ n (subst (IsAmong n) same a));
     }
 
 pub returns-then-are_sources : goal.returns-then-are_sources
