@@ -102,14 +102,14 @@ module _ (shell now : Keeps) (j i : ℕ) (d : Replicated) (lt_from : j < length 
 pub parts : (shell now : Keeps) (piece : List ℕ) (j i : ℕ) (d : Replicated) (places : List PlaceParts) (entries : EntryMap) (text : Vec ℕ Global) → j < length shell.nodes → i < length shell.nodes
     → ((c : Replicated) → entries ≡ cut (get_or shell.nodes j c).store (digest_of (get_or shell.nodes i c).store) (if_any places))
     → now.nodes ≡ shell.nodes → now.number_of ≡ shell.number_of → now.is_taken ≡ shell.is_taken
-    → ((other : List ℕ) → now.piece_of other ≡ cond (bytes_eq piece other) (Some entries) (shell.piece_of other))
+    → ((other : List ℕ) → now.piece_of other ≡ cond (bytes_eq piece other) (Some entries) (shell.piece_of other)) → now.profile ≡ shell.profile
     → text.items ≡ entries_line (length (finmap.entries entries))
     → Goes shell now (λ old outcome new. Gives (entries_line (length (finmap.entries (cut (held old j) (digest_of (held old i)) (if_any places))))) (parted old piece j i (if_any places)) outcome new) (Ok text)
-parts shell now piece j i d places entries text lt_from lt_to is nodes numbers writers kept e world h =
+parts shell now piece j i d places entries text lt_from lt_to is nodes numbers writers kept profile e world h =
     let cut_is : entries ≡ cut (held world j) (digest_of (held world i)) (if_any places) =
     is d ∙ (λ n. cut (at_place shell world h j d lt_from n) (digest_of (at_place shell world h i d lt_to n)) (if_any places)) in (
       parted world piece j i (if_any places),
-      holds_part shell world h piece j i (if_any places) now entries lt_from lt_to cut_is nodes numbers writers kept,
+      holds_part shell world h piece j i (if_any places) now entries lt_from lt_to cut_is nodes numbers writers kept profile,
       record { outcome_is = ap Ok (e ∙ ap (λ (s : EntryMap). entries_line (length (finmap.entries s))) cut_is); world_is = refl },
     )
 

@@ -1,8 +1,8 @@
 -- The outcome of a step, with one lemma for each word of the meaning.
 use Rattle.std.proofs.Common.{◌++◌, ◌+◌, ◌<◌, ◌==◌, ◌∷◌, ◌≡◌, ◌≢◌}
 use Rattle.world_law.specs.declared.events.Event.TheVariants.{Put}
-use Rattle.fleet_script.proofs.Prelude.{[], ap, AtNode, AtPlace, AtPlaces, bad_text, BadLink, BadText, Bool, bytes_eq, codes, Component, cond, Content, Depth, Directory, Edit, EditFault, EntryMap, eq-eqb, eqb-true, Equal, Equal-is, Err, false, Fault, fault_of_edit, fault_of_place, FileTooLarge, get_or, Gives, Global, Goes, Gone, happened, has_writer, HasNoNode, HasNoSite, held, high_of, Holds, HostName, inl, inr, is_eq, is_eq-slice_cmp, is_some, IsErrOf, IsFileOf, IsLinkTo, IsNodeNamed, IsNoFile, IsNoLink, IsPlaceFault, IsRead, IsSaid, IsSite, IsSome, Keeps, length, LineRefusal, List, MatchBool, MatchOption, MatchResult, Memory, Names, nat_cmp, nat_cmp-IsAntisymmetric, nat_cmp_is, ne_eqb, next_edit, next_version, NodeTaken, None, Nothing, Ok, ok_line, Option, Outcome, place_of, PlaceFault, PlaceParts, places_of, Reads, refl, Refused, Refuses, RefusesPlace, Replicated, Result, ScriptWorld, set, slice_cmp, slice_get, Some, subst, sum_of, sym, too_large, true, true≢false, UnknownNode, Vec, Version, VersionsSpent, visible_at, with_edit, with_new_node, with_put, WithFile, without_memory, WithTarget, WithText, WriterTaken, Writes, ℕ, ◌∙◌}
-use Rattle.fleet_script.proofs.Nodes.{holds_node, holds_put, set_same}
+use Rattle.fleet_script.proofs.Prelude.{[], ap, AtNode, AtPlace, AtPlaces, bad_text, BadLink, BadText, Bool, bytes_eq, codes, Component, cond, Content, Depth, Directory, Edit, EditFault, EntryMap, eq-eqb, eqb-true, Equal, Equal-is, Err, false, Fault, fault_of_edit, fault_of_place, FileTooLarge, get_or, Gives, Global, Goes, Gone, happened, has_writer, HasNoNode, HasNoSite, held, high_of, Holds, HostName, inl, inr, is_eq, is_eq-slice_cmp, is_some, IsErrOf, IsFileOf, IsLinkTo, IsNodeNamed, IsNoFile, IsNoLink, IsPlaceFault, IsRead, IsSaid, IsSite, IsSome, Keeps, length, LineRefusal, List, MatchBool, MatchOption, MatchResult, Memory, Names, nat_cmp, nat_cmp-IsAntisymmetric, nat_cmp_is, ne_eqb, next_edit, next_version, NodeTaken, None, Nothing, Ok, ok_line, Option, Outcome, place_of, PlaceFault, PlaceParts, places_of, Profile, Reads, refl, Refused, Refuses, RefusesPlace, Replicated, Result, ScriptWorld, set, SetsProfile, slice_cmp, slice_get, Some, subst, sum_of, sym, too_large, true, true≢false, UnknownNode, Vec, Version, VersionsSpent, visible_at, with_edit, with_new_node, with_profile, with_put, WithFile, without_memory, WithTarget, WithText, WriterTaken, Writes, ℕ, ◌∙◌}
+use Rattle.fleet_script.proofs.Nodes.{holds_node, holds_profile, holds_put, set_same}
 use Rattle.load_places.specs.declared.places.PlaceFault.TheVariants as place
 use Rattle.replica_store.specs.declared.replicas.EditFault.TheVariants as edit
 
@@ -124,6 +124,14 @@ reads shell r name replica s Renders is same rendered =
     with_node shell shell r name is.number (λ k old outcome new. IsRead (Renders (held old k)) old outcome new) is.named
     (read_rendered shell r is.number replica Renders is.there (stays shell r (Renders replica.store) (subst (λ (t : EntryMap). IsRendered r (Renders t)) same rendered)))
 
+-- what is asked by the shell's profile is asked by the world's
+pub by_its_profile : (shell after : Keeps) (r : Rendered) (name : List ℕ) (Renders : Profile → EntryMap → Outcome → Type 0)
+    → Goes shell after (λ old outcome new. Reads old outcome new name (Renders shell.profile)) r
+    → Goes shell after (λ old outcome new. Reads old outcome new name (Renders old.profile)) r
+by_its_profile shell after r name Renders =
+    weaker shell after r (λ old outcome new. Reads old outcome new name (Renders shell.profile)) (λ old outcome new. Reads old outcome new name (Renders old.profile))
+    (λ old h outcome new read. subst (λ (profile : Profile). Reads old outcome new name (Renders profile)) h.profile read)
+
 -- ---- writing
 
 -- a node that stays as it was
@@ -206,6 +214,12 @@ module _ (shell : Keeps) (i : ℕ) (node : Replicated) (p : PlaceParts) (at : sl
       never e = cc (e)
   remove_refused edit.Memory fault nothing spent is = no_memory shell shell fault _ is
 
+-- ---- the profile
+
+pub profile_set : (shell : Keeps) (profile : Profile) (text : Vec ℕ Global) → text.items ≡ codes "ok\n"
+    → Goes shell (record shell { profile = profile }) (λ old outcome new. SetsProfile old outcome new profile) (Ok text)
+profile_set shell profile text e world h = (with_profile world profile, holds_profile shell world h profile, record { outcome_is = ap Ok e; world_is = refl })
+
 -- ---- making a node
 
 -- the entries of a map after a change at one key, by the bytes of the key
@@ -232,11 +246,11 @@ is_none (Some v) e = cc (e)
 
 pub made : (shell now : Keeps) (name : List ℕ) (writer : ℕ) (node : Replicated) (text : Vec ℕ Global) → shell.number_of name ≡ None → shell.is_taken writer ≡ false → node.writer ≡ writer → node.store ≡ sum_of [] → text.items ≡ codes "ok\n"
     → now.nodes ≡ shell.nodes ++ node ∷ [] → ((other : List ℕ) → now.number_of other ≡ cond (bytes_eq name other) (Some (length shell.nodes)) (shell.number_of other))
-    → ((other : ℕ) → now.is_taken other ≡ cond (writer == other) true (shell.is_taken other)) → now.piece_of ≡ shell.piece_of
+    → ((other : ℕ) → now.is_taken other ≡ cond (writer == other) true (shell.is_taken other)) → now.piece_of ≡ shell.piece_of → now.profile ≡ shell.profile
     → Goes shell now (λ old outcome new. Names old outcome new name writer) (Ok text)
-made shell now name writer node text fresh free numbered empty e nodes numbers writers pieces world h = (
+made shell now name writer node text fresh free numbered empty e nodes numbers writers pieces profile world h = (
   with_new_node world name writer,
-  holds_node shell world h now node name writer fresh free numbered empty nodes numbers writers pieces,
+  holds_node shell world h now node name writer fresh free numbered empty nodes numbers writers pieces profile,
   subst (λ (o : Option ℕ). MatchOption o (MatchBool (has_writer world.nodes writer) (Refuses world WriterTaken (Ok text.items) (with_new_node world name writer)) (Gives (codes "ok\n") (with_new_node world name writer) (Ok text.items) (with_new_node world name writer))) (λ k. Refuses world NodeTaken (Ok text.items) (with_new_node world name writer)))
       (sym fresh ∙ h.numbers name)
       (match_false _ _ _ (sym (h.taken writer) ∙ free) (record { outcome_is = ap Ok e; world_is = refl })),

@@ -40,6 +40,7 @@ begins script pending keeps a none nothing = subst (λ v. Progress script script
     numbers = none.numbers;
     taken = none.writers;
     pieces = λ name. subst (λ (o : Option EntryMap). IsNamed blank o None) (sym (none.pieces name)) tt;
+    profile = none.profile;
     valid = valid_blank;
   };
   run = (refl, refl);

@@ -1,12 +1,13 @@
 -- Properties of steps: each has one outcome, leaves one world, keeps the world valid, raises counters by at most one,
 -- and finds them spent only if they are. One lemma for each word of the meaning.
 use Rattle.std.proofs.Common.{◌++◌, ◌+◌, ◌-◌, ◌<◌, ◌==◌, ◌≡◌, ◌≤◌, ◌⊎◌}
-use Rattle.fleet_script.proofs.Prelude.{ap, arith, Ask, AtNode, AtPiece, AtPlace, AtPlaces, BadLink, BadText, Bool, Cat, changed_line, changed_places, codes, Command, Component, Content, Crowd, crowds_are_rendered_once, crowds_spend_nothing, cut, Depth, digest_of, Directory, Does, entries_line, EntryMap, Err, false, Files, files_are_rendered_once, files_spend_nothing, FileTooLarge, Gives, happened, has_writer, held, high_of, HostName, if_any, inl, inr, is_file, is_spent, is_target, IsPutUpTo, IsRead, IsValid, IsWorkerCount, length, LineRefusal, Link, List, map, MatchBool, MatchOption, MatchResult, Member, Merge, merged, merged_all, named_within, next_edit, Node, node_named, NodeTaken, None, Nothing, NoWorkerCount, numbers_from, Ok, ok_line, Option, Outcome, Part, parted, piece_named, place_of, PlaceFault, PlaceParts, places_of, Put, put_next, put_same, puts, puts_merged_all, puts_with_node, form_of, question_asked, questions_are_rendered_once, questions_spend_nothing, Reads, refl, Refuses, RefusesPlace, Remove, RendersCrowd, RendersFiles, RendersInquiry, RendersPlaces, RendersText, Result, Same, ScriptWorld, Send, Some, spells_one, subst, suc, Sweep, swept, sym, Text, texts_are_rendered_once, texts_spend_nothing, true, true≢false, UnknownNode, UnknownPiece, valid_answered, valid_given, valid_merged, valid_put, valid_with_node, VersionsSpent, visible_at, with_node, WithFile, WithTarget, WithText, Workers, WriterTaken, Writes, zero, ℕ, ◌∙◌}
+use Rattle.fleet_script.proofs.Prelude.{ap, arith, Ask, AtNode, AtPiece, AtPlace, AtPlaces, BadLink, BadText, Bool, Cat, changed_line, changed_places, codes, Command, Component, Content, Crowd, crowds_are_rendered_once, crowds_spend_nothing, cut, Depth, digest_of, Directory, Does, entries_line, EntryMap, Err, false, Files, files_are_rendered_once, files_spend_nothing, FileTooLarge, Gives, happened, has_writer, held, high_of, HostName, if_any, inl, inr, is_file, is_spent, is_target, IsPutUpTo, IsRead, IsValid, IsWorkerCount, length, LineRefusal, Link, List, map, MatchBool, MatchOption, MatchResult, Member, Merge, merged, merged_all, named_within, next_edit, Node, node_named, NodeTaken, None, Nothing, NoWorkerCount, numbers_from, Ok, ok_line, Option, Outcome, Part, parted, piece_named, place_of, PlaceFault, PlaceParts, places_of, Put, put_next, put_same, puts, puts_merged_all, puts_with_node, form_of, question_by, questions_are_rendered_once, questions_spend_nothing, Reads, refl, Refuses, RefusesPlace, Remove, RendersCrowd, RendersFiles, RendersInquiry, RendersPlaces, RendersText, Result, Same, ScriptWorld, Send, Some, spells_one, subst, suc, Sweep, swept, sym, Text, texts_are_rendered_once, texts_spend_nothing, true, true≢false, UnknownNode, UnknownPiece, valid_answered, valid_given, valid_merged, valid_put, valid_with_node, valid_with_profile, VersionsSpent, visible_at, with_node, with_profile, WithFile, WithTarget, WithText, Workers, WriterTaken, Writes, zero, ℕ, ◌∙◌}
 use Rattle.fleet_script.proofs.Between.{merged_all-append, merged_nodes}
 use Rattle.std.specs.FinMap as finmap
 use Rattle.load_places.specs.declared.places.PlaceFault.TheVariants as place
 use Rattle.edit_sums.specs.declared.contents.Content.TheVariants as content
 use Rattle.world_law.specs.declared.events.Event.TheVariants as event
+use Rattle.script_commands.specs.declared.commands.Command.TheVariants as command
 
 -- a valid world is followed by a valid one, and the greatest counter that was put grows by at most one
 pub record Follows (old new : ScriptWorld) : Type 0 where
@@ -245,8 +246,9 @@ module _ (old : ScriptWorld) where
   does (Files node) = reads node RendersPlaces (λ s a b p q. p ∙ sym q) (λ s outcome p. ap is_spent p)
   does (Text node text) = reads node (RendersText text) (texts_are_rendered_once text) (texts_spend_nothing text)
   does (Cat node host unit) = reads node (RendersFiles host unit) (files_are_rendered_once host unit) (files_spend_nothing host unit)
-  does (Ask node host inquiry) = reads node (RendersInquiry host inquiry) (questions_are_rendered_once (form_of inquiry) (question_asked inquiry) host) (questions_spend_nothing (form_of inquiry) (question_asked inquiry) host)
+  does (Ask node host inquiry) = reads node (RendersInquiry old.profile host inquiry) (questions_are_rendered_once (form_of inquiry) (question_by old.profile inquiry) host) (questions_spend_nothing (form_of inquiry) (question_by old.profile inquiry) host)
   does (Workers count) = gives_or_refuses (IsWorkerCount count) (codes "ok\n") NoWorkerCount refl
+  does (command.Profile profile) = gives (codes "ok\n") (with_profile old profile) (puts_nothing (with_profile old profile) (valid_with_profile old profile) refl)
   does (Same left right) =
       let C : ℕ → ℕ → Outcome → ScriptWorld → Type 0 = λ j k outcome new. ((held old j ≡ held old k) × Gives (codes "same\n") old outcome new) ⊎ ((held old j ≡ held old k → ⊥) × Gives (codes "differ\n") old outcome new) in
       at_node left (λ j outcome new. AtNode old outcome new right (λ k. C j k outcome new))

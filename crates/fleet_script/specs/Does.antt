@@ -1,7 +1,7 @@
 -- What each command does: which outcome it may have in a world, and which world it leaves.
 -- Source: this project's own.
 use Rattle.std.proofs.Common.{◌==◌, ◌∷◌, ◌≡◌, ◌≢◌, ◌⊎◌}
-use Rattle.fleet_script.specs.Prelude.{[], BadLink, BadText, changed_line, changed_places, codes, Command, Component, Content, cut, Depth, digest_of, Directory, entries_line, EntryMap, Err, File, files_text, FileTooLarge, Gone, happened, has_writer, held, high_of, HostName, is_file, is_target, IsBadText, IsWorkerCount, length, LineRefusal, Link, List, MatchBool, MatchOption, MatchResult, merged, next_edit, node_named, NodeTaken, None, Nothing, Ok, ok_line, Option, Outcome, parted, piece_named, place_of, PlaceFault, PlaceParts, places_of, RendersCrowd, RendersFiles, RendersInquiry, RendersText, ScriptWorld, Some, Spells, swept, UnknownNode, UnknownPiece, VersionsSpent, visible_at, with_node, Workers, WriterTaken, ℕ}
+use Rattle.fleet_script.specs.Prelude.{[], BadLink, BadText, changed_line, changed_places, codes, Command, Component, Content, cut, Depth, digest_of, Directory, entries_line, EntryMap, Err, File, files_text, FileTooLarge, Gone, happened, has_writer, held, high_of, HostName, is_file, is_target, IsBadText, IsWorkerCount, length, LineRefusal, Link, List, MatchBool, MatchOption, MatchResult, merged, next_edit, node_named, NodeTaken, None, Nothing, Ok, ok_line, Option, Outcome, parted, piece_named, place_of, PlaceFault, PlaceParts, places_of, Profile, RendersCrowd, RendersFiles, RendersInquiry, RendersText, ScriptWorld, Some, Spells, swept, UnknownNode, UnknownPiece, VersionsSpent, visible_at, with_node, with_profile, Workers, WriterTaken, ℕ}
 use Rattle.std.specs.FinMap as finmap
 use Rattle.load_places.specs.declared.places.PlaceFault.TheVariants as place
 use Rattle.world_law.specs.declared.events.Event.TheVariants as event
@@ -137,6 +137,10 @@ module _ (old : ScriptWorld) (outcome : Outcome) (new : ScriptWorld) where
   abbrev pub WorkerCounts : ℕ → Type 0
   WorkerCounts count = (IsWorkerCount count × Gives (codes "ok\n") old outcome new) ⊎ (¬ IsWorkerCount count × Refuses old Workers outcome new)
 
+  -- from now on questions about units are answered by this profile
+  abbrev pub SetsProfile : Profile → Type 0
+  SetsProfile profile = Gives (codes "ok\n") (with_profile old profile) outcome new
+
 -- From the old world a command may have this outcome, and leave the new world.
 abbrev pub Does : ScriptWorld → Command → Outcome → ScriptWorld → Type 0
 Does old (command.Node name writer) outcome new = Names old outcome new name writer
@@ -150,7 +154,8 @@ Does old command.Sweep outcome new = Sweeps old outcome new
 Does old (command.Files node) outcome new = Reads old outcome new node RendersPlaces
 Does old (command.Text node place) outcome new = Reads old outcome new node (RendersText place)
 Does old (command.Cat node host unit) outcome new = Reads old outcome new node (RendersFiles host unit)
-Does old (command.Ask node host inquiry) outcome new = Reads old outcome new node (RendersInquiry host inquiry)
+Does old (command.Ask node host inquiry) outcome new = Reads old outcome new node (RendersInquiry old.profile host inquiry)
 Does old (command.Workers count) outcome new = WorkerCounts old outcome new count
+Does old (command.Profile profile) outcome new = SetsProfile old outcome new profile
 Does old (command.Same left right) outcome new = Compares old outcome new left right
 Does old (command.Crowd node seats edits) outcome new = Reads old outcome new node (RendersCrowd seats edits)

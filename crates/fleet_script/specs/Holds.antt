@@ -1,18 +1,20 @@
 -- How the shell represents a world: the current replica of each node; by name the indices of nodes and the current
--- pieces; and the writer numbers in use.
+-- pieces; the writer numbers in use; and the profile.
 -- Source: this project's own.
 use Rattle.std.proofs.Common.{◌≡◌, ◌≤◌, ◌⊎◌}
-use Rattle.fleet_script.specs.Prelude.{[], Bool, Command, EntryMap, false, Fault, Global, has_writer, held, high_of, IsPlaceFault, IsSaid, IsValid, join, length, List, Memory, nat_cmp, node_named, None, Ok, Option, Outcome, piece_named, place_of, PlaceParts, Refused, Replicated, Result, ScriptWorld, slice_cmp, slice_get, slice_index_or, slice_set, Some, state, UnknownNode, Vec, writer_at, ℕ}
+use Rattle.fleet_script.specs.Prelude.{[], Bool, Command, EntryMap, false, Fault, Global, has_writer, held, high_of, IsPlaceFault, IsSaid, IsValid, join, length, List, Memory, nat_cmp, node_named, None, Ok, Option, Outcome, piece_named, place_of, PlaceParts, Profile, Refused, Replicated, Result, ScriptWorld, slice_cmp, slice_get, slice_index_or, slice_set, Some, state, UnknownNode, Vec, writer_at, ℕ}
 use Rattle.fleet_script.specs.{declared.states.Shell.{Shell}, Does.{Does}}
 use Rattle.std.specs.BTreeMap as maps
 use Rattle.std.specs.BTreeSet as sets
 use Rattle.world_law.specs.Worlds as worlds
+use Rattle.profiles.specs.declared.profiles.Profile.TheVariants as profiles
 
 pub record Keeps : Type 0 where
   pub nodes : List Replicated
   pub number_of : List ℕ → Option ℕ
   pub is_taken : ℕ → Bool
   pub piece_of : List ℕ → Option EntryMap
+  pub profile : Profile
 
 abbrev pub kept_in : Shell → Keeps
 kept_in shell = record {
@@ -20,14 +22,16 @@ kept_in shell = record {
   number_of = λ name. maps.get (slice_cmp nat_cmp) shell.numbers name;
   is_taken = λ writer. sets.contains nat_cmp shell.writers writer;
   piece_of = λ name. maps.get (slice_cmp nat_cmp) shell.pieces name;
+  profile = shell.profile;
 }
 
--- the shell is empty
+-- the shell is empty, and loads units as their files say alone
 pub record IsBlank (shell : Keeps) : Type 0 where
   pub nodes : shell.nodes ≡ []
   pub numbers : (name : List ℕ) → shell.number_of name ≡ None
   pub writers : (writer : ℕ) → shell.is_taken writer ≡ false
   pub pieces : (name : List ℕ) → shell.piece_of name ≡ None
+  pub profile : shell.profile ≡ profiles.Files
 
 -- these are the entries of the piece with this index
 pub record IsPiece (world : ScriptWorld) (number : ℕ) (entries : EntryMap) : Type 0 where
@@ -43,7 +47,7 @@ IsNamed world (Some entries) None = ⊥
 IsNamed world (Some entries) (Some number) = IsPiece world number entries
 
 -- the nodes are those of the world, each holds the sum of what it took under its own writer number, and names, writer
--- numbers and pieces are those of the world
+-- numbers, pieces and the profile are those of the world
 pub record Holds (shell : Keeps) (world : ScriptWorld) : Type 0 where
   pub count : length shell.nodes ≡ length world.nodes
   pub writers : (k : ℕ) (node : Replicated) → slice_get shell.nodes k ≡ Some node → writer_at world.nodes k ≡ node.writer
@@ -51,6 +55,7 @@ pub record Holds (shell : Keeps) (world : ScriptWorld) : Type 0 where
   pub numbers : (name : List ℕ) → shell.number_of name ≡ node_named world.nodes name
   pub taken : (writer : ℕ) → shell.is_taken writer ≡ has_writer world.nodes writer
   pub pieces : (name : List ℕ) → IsNamed world (shell.piece_of name) (piece_named world.pieces name)
+  pub profile : shell.profile ≡ world.profile
   pub valid : IsValid world
 
 -- each node has room for a crowd above the counters that it holds

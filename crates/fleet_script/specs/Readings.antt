@@ -23,11 +23,16 @@ of_node name (command.Ask node host inquiry) = command.Ask name host inquiry
 of_node name (command.Crowd node seats edits) = command.Crowd name seats edits
 of_node name other = other
 
+-- a command that asks about units is answered by one profile in both worlds
+abbrev pub IsAskedByOneProfile : Command → ScriptWorld → ScriptWorld → Type 0
+IsAskedByOneProfile (command.Ask node host inquiry) world other_world = world.profile ≡ other_world.profile
+IsAskedByOneProfile other world other_world = Unit {0}
+
 -- If two nodes took the same edits, each at any moment of any script, a command that only reads has one outcome for
--- both.
+-- both, if it is asked by one profile where it is about units.
 abbrev pub SameEditsSameOutcomes : Type 0
 SameEditsSameOutcomes = (world other : ScriptWorld) (left right : List ℕ) (j k : ℕ) → node_named world.nodes left ≡ Some j → node_named other.nodes right ≡ Some k
-    → AreSameEdits (took (state world) j) (took (state other) k) → (command : Command) → IsReading command
+    → AreSameEdits (took (state world) j) (took (state other) k) → (command : Command) → IsReading command → IsAskedByOneProfile command world other
     → (a b : Outcome) (x y : ScriptWorld) → Does world (of_node left command) a x → Does other (of_node right command) b y → a ≡ b
 
 -- If these moments come after some lines of scripts, both nodes hold the same store.

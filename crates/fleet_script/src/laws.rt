@@ -23,8 +23,9 @@ pub fn script_laws()
 {}
 
 /// The main result for scripts: if two nodes took the same edits, each at any moment of any script, each command that only
-/// reads (`files`, `text`, `cat`, `show`, `units`, `list`, `plan`, `crowd`) has one outcome for both. Both then hold the same
-/// store, and it is below exactly those stores that are above each of these edits.
+/// reads (`files`, `text`, `cat`, `show`, `units`, `tree`, `list`, `plan`, `crowd`) has one outcome for both, questions about
+/// units by one profile. Both then hold the same store, and it is below exactly those stores that are above each of these
+/// edits.
 pub fn readings_agree()
     ensures outcomes { SameEditsSameOutcomes }
     ensures stores { SameEditsSameStores }

@@ -4,6 +4,7 @@ ghost use Rattle.std.specs.{Prelude.{◌≡◌, ◌<◌, ℕ, List, Some, length
 use delta_pieces::Piece;
 use fleet_answers::{SnapshotLimit, TrackedReplica};
 use plain_values::Bytes;
+use profiles::Profile;
 use replica_store::Replica;
 use script_answers::WorkerCount;
 use script_commands::{Fault, LineRefusal};
@@ -19,13 +20,14 @@ mod questions;
 type Rendered = Result<Vec<u8>, Fault>;
 
 /// The current replica of each node, in the order in which the nodes were made; by name the indices of the nodes, from
-/// 0, and the current pieces; and the writer numbers in use. Also the worker count, and what each node may have
-/// cached of the last questions, neither of which changes any answer.
+/// 0, and the current pieces; the writer numbers in use; and the profile by which questions about units are answered.
+/// Also the worker count, and what each node may have cached of the last questions, neither of which changes any answer.
 pub(crate) struct Shell {
     nodes: Vec<TrackedReplica>,
     numbers: BTreeMap<Bytes, usize>,
     writers: BTreeSet<u32>,
     pieces: BTreeMap<Bytes, Piece>,
+    profile: Profile,
     workers: WorkerCount,
     snapshots: SnapshotLimit,
 
@@ -41,6 +43,7 @@ impl Drop for Shell {
             numbers: _,
             writers: _,
             pieces: _,
+            profile: _,
             workers: _,
             snapshots: _,
         } = self;
@@ -51,7 +54,7 @@ impl Shell {
     ghost use Rattle.std.specs.Prelude.{IfOk, MatchResult};
     ghost use Rattle.fleet_script.specs.Holds.{HasNoNode, IsBlank, IsNodeNamed, kept_in};
 
-    /// A shell without nodes and pieces.
+    /// A shell without nodes and pieces. Questions about units are answered as their files say alone.
     pub(crate) fn new(alloc: Global) -> Self
         ensures blank { IsBlank (kept_in result) }
     {
@@ -60,6 +63,7 @@ impl Shell {
             numbers: BTreeMap::new(alloc),
             writers: BTreeSet::new(alloc),
             pieces: BTreeMap::new(alloc),
+            profile: Profile::Files,
             workers: WorkerCount::one(),
             snapshots: SnapshotLimit::new(alloc),
         }

@@ -34,6 +34,9 @@ module _ (s t : HostViewMap) where
       ap (λ o. file_lines p (file_bytes o) ++ lines_of s ps) (same p (first_there p ps))
       ∙ ap (λ xs. file_lines p (file_bytes (content_at t p)) ++ xs) (lines_same ps (λ q c. same q (later_there p q ps c)))
 
+one_place : (p q : PlaceParts) → Some p ≡ Some q → p ≡ q
+one_place p q e = cc
+
 module _ (s t : HostViewMap) (same : HaveTheSameFiles s t) (outcome : Outcome) where
   cat_there : (n main : Name) (fragment : PlaceParts) → (resolution s n).choice ≡ choice.Fragment fragment
       → (text : List ℕ) → IsCat s main fragment text → IsCat t main fragment text
@@ -46,8 +49,11 @@ module _ (s t : HostViewMap) (same : HaveTheSameFiles s t) (outcome : Outcome) w
     text_is =
         c.text_is
         ∙ ap (λ lines. lines ++ codes "end\n")
-        (lines_same s t (fragment ∷ c.dropins) (files_show s t same n fragment is c.names c.dropins (λ p. (c.exact p).0)));
+        (lines_same s t (fragment ∷ c.dropins) (files_show s t same n (Some fragment) chosen c.names c.dropins (λ p. (c.exact p).0)));
   }
+    where
+      chosen : (place : PlaceParts) → Some fragment ≡ Some place → (resolution s n).choice ≡ choice.Fragment place
+      chosen place e = is ∙ ap (λ (p : PlaceParts). choice.Fragment p) (one_place fragment place e)
 
   choice_there : (n main : Name) (c : Choice) → (resolution s n).choice ≡ c → RendersChoice s main c outcome → RendersChoice t main c outcome
   choice_there n main choice.NotFound is rendered = rendered

@@ -1,12 +1,16 @@
 -- Answers for the host that a word names, or without one.
 -- Source: this project's own.
 use Rattle.std.proofs.Common.{◌≡◌}
-use Rattle.script_answers.specs.Prelude.{EntryMap, Err, Files, host_asked, HostFault, HostName, List, MatchResult, Option, Outcome, Viewer, ℕ}
+use Rattle.script_answers.specs.Prelude.{EntryMap, Err, Files, host_asked, HostFault, HostName, List, MatchResult, Option, Outcome, Profile, Viewer, ℕ}
 use Rattle.load_places.specs.declared.hosts.HostFault.TheVariants as host
 
--- Who asks in a script: this host, or none. Scripts load units as their files say alone.
+-- Who asks about units in a script: this host, or none, by this profile.
+abbrev pub by_profile : Profile → Option (List ℕ) → Viewer
+by_profile profile host = record { host = host; profile = profile }
+
+-- Who asks for the files of a unit: what is seen is the same by each profile.
 abbrev pub by_files : Option (List ℕ) → Viewer
-by_files host = record { host = host; profile = Files }
+by_files host = by_profile Files host
 
 -- bytes that name no host are refused
 abbrev pub RefusesHost : HostFault → Outcome → Type 0

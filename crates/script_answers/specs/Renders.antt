@@ -1,8 +1,8 @@
 -- The answer to a question about a node's store: how it is written, or why the words make no question.
 -- Source: systemctl(1), "show", "list-dependencies", "start"; the texts are this project's own.
 use Rattle.std.proofs.Common.{◌≡◌}
-use Rattle.script_answers.specs.Prelude.{[], Answer, EntryMap, Err, IsAnswer, LinkedUnit, List, MatchResult, name_of, NameFault, Ok, Option, Outcome, Question, Result, Viewer, viewer_asked, ℕ}
-use Rattle.script_answers.specs.{Files.{RefusesName}, Hosts.{by_files, ForHost}, Plans.{plan_text, RefusesPlan}, PulledLines.{pulled_text}, Requests.{request_of}, TreeTexts.{IsTreeText}, UnitLines.{unit_text, units_text}}
+use Rattle.script_answers.specs.Prelude.{[], Answer, EntryMap, Err, IsAnswer, LinkedUnit, List, MatchResult, name_of, NameFault, Ok, Option, Outcome, Profile, Question, Result, Viewer, viewer_asked, ℕ}
+use Rattle.script_answers.specs.{Files.{RefusesName}, Hosts.{by_profile, ForHost}, Plans.{plan_text, RefusesPlan}, PulledLines.{pulled_text}, Requests.{request_of}, TreeTexts.{IsTreeText}, UnitLines.{unit_text, units_text}}
 use Rattle.script_answers.specs.declared.asking.Form.{Form}
 use Rattle.script_answers.specs.declared.asking.Form.TheVariants as form
 use Rattle.script_commands.specs.declared.commands.LineRefusal.TheVariants as refusal
@@ -43,28 +43,32 @@ asks make (Ok read) = Ok (make read)
 asks make (Err fault) = Err fault
 
 -- which unit a word resolves to
-abbrev pub unit_asked : List ℕ → Option (List ℕ) → Result Question NameFault
-unit_asked word host = asks (question.Unit (by_files host)) (name_of word)
+abbrev pub unit_asked : List ℕ → Viewer → Result Question NameFault
+unit_asked word viewer = asks (question.Unit viewer) (name_of word)
 
 -- what the unit of a word pulls
-abbrev pub pulled_asked : List ℕ → Option (List ℕ) → Result Question NameFault
-pulled_asked word host = asks (question.Pulled (by_files host)) (name_of word)
+abbrev pub pulled_asked : List ℕ → Viewer → Result Question NameFault
+pulled_asked word viewer = asks (question.Pulled viewer) (name_of word)
 
 -- the plan to start the unit of a word while those of other words run
-abbrev pub plan_asked : List ℕ → List (List ℕ) → Option (List ℕ) → Result Question NameFault
-plan_asked unit running host = asks question.Plan (request_of (by_files host) unit running)
+abbrev pub plan_asked : List ℕ → List (List ℕ) → Viewer → Result Question NameFault
+plan_asked unit running viewer = asks question.Plan (request_of viewer unit running)
 
 -- all units
-abbrev pub units_asked : Option (List ℕ) → Result Question NameFault
-units_asked host = Ok (question.Units (by_files host))
+abbrev pub units_asked : Viewer → Result Question NameFault
+units_asked viewer = Ok (question.Units viewer)
 
--- what words ask, for a host or without one
-abbrev pub question_asked : Inquiry → Option (List ℕ) → Result Question NameFault
+-- what words ask for a viewer
+abbrev pub question_asked : Inquiry → Viewer → Result Question NameFault
 question_asked (inquiry.Unit unit) = unit_asked unit
 question_asked (inquiry.List unit) = pulled_asked unit
 question_asked (inquiry.Plan unit running) = plan_asked unit running
 question_asked inquiry.Units = units_asked
 question_asked inquiry.Tree = units_asked
+
+-- what words ask by a profile, for a host or without one
+abbrev pub question_by : Profile → Inquiry → Option (List ℕ) → Result Question NameFault
+question_by profile inquiry host = question_asked inquiry (by_profile profile host)
 
 -- the form in which the answer is written if it is of all units
 abbrev pub form_of : Inquiry → Form
@@ -80,6 +84,6 @@ form_of inquiry.Tree = form.Tree
 abbrev pub RendersFor : Form → (Option (List ℕ) → Result Question NameFault) → Option (List ℕ) → EntryMap → Outcome → Type 0
 RendersFor form asks_for asked = ForHost asked (λ host. RendersWords form (asks_for host))
 
--- the answer to what words ask
-abbrev pub RendersInquiry : Option (List ℕ) → Inquiry → EntryMap → Outcome → Type 0
-RendersInquiry asked inquiry = RendersFor (form_of inquiry) (question_asked inquiry) asked
+-- the answer to what words ask by a profile
+abbrev pub RendersInquiry : Profile → Option (List ℕ) → Inquiry → EntryMap → Outcome → Type 0
+RendersInquiry profile asked inquiry = RendersFor (form_of inquiry) (question_by profile inquiry) asked

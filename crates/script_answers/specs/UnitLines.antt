@@ -2,7 +2,7 @@
 -- Source: this project's own.
 use Rattle.std.proofs.Common.{◌++◌, ◌∷◌}
 use Rattle.fragment_choice.specs.declared.choices.Cause.TheVariants.{Kind}
-use Rattle.unit_loads.specs.declared.units.{Status.TheVariants.{Bad, Masked, NotFound}, UnitNote.TheVariants.{File}}
+use Rattle.unit_loads.specs.declared.units.{Status.TheVariants.{Bad, BuiltIn, Masked, NotFound}, UnitNote.TheVariants.{File}}
 use Rattle.script_answers.specs.Prelude.{[], Cause, codes, decimal, DependencyList, DepKind, flat_map, LinkedUnit, List, Loaded, LoadedUnit, Loop, Name, place_text, PlaceParts, Row, Setting, Shape, Status, Target, UnitNote, word, ℕ}
 use Rattle.script_answers.specs.Texts.{spaced_names}
 use Rattle.section_reader.specs.Words as line_notes
@@ -18,6 +18,7 @@ cause_text Target = codes "B4 Target"
 -- the status of a unit
 abbrev pub status_text : Status → List ℕ
 status_text (Loaded place) = codes "loaded " ++ place_text place
+status_text BuiltIn = codes "built-in"
 status_text NotFound = codes "not-found"
 status_text Masked = codes "masked"
 status_text (Bad cause) = codes "bad " ++ cause_text cause

@@ -12,6 +12,7 @@ use crate::trees::tree_text;
 use crate::unit_lines::{unit_text, units_text};
 use crate::worker_counts::WorkerCount;
 use fleet_answers::{Answer, AnswerFault, LinkedUnit, SnapshotLimit, TrackedReplica};
+use profiles::Profile;
 use replica_store::{Store, Viewer};
 use script_commands::{Fault, Inquiry, LineRefusal, Word, read_host};
 use std::alloc::{AllocError, Global};
@@ -41,10 +42,10 @@ impl Form {
     }
 }
 
-/// Answers an inquiry on the units of a node, for the host that `host` names or for the fleet: loads what must be
-/// loaded of the node's store, and returns the answer as text. It is refused, in this order, for a word that isn't a
-/// host's name; for the first word that isn't a unit's name; for a template; if more than 4,096 names of the store must
-/// be loaded; and for a request without a plan, with the first cause that holds.
+/// Answers an inquiry on the units of a node, for the host that `host` names or for the fleet, by a profile: loads what
+/// must be loaded of the node's store, and returns the answer as text. It is refused, in this order, for a word that
+/// isn't a host's name; for the first word that isn't a unit's name; for a template; if more than 4,096 names of the
+/// store must be loaded; and for a request without a plan, with the first cause that holds.
 ///
 /// It loads all units once, including all names that are asked for, with 1 to 64 workers; their number doesn't affect
 /// the answer. The node caches the load for its next question, which reads again only what was touched since. No
@@ -56,17 +57,19 @@ pub fn render_inquiry<R: Threads + Sync>(
     nodes: &mut [TrackedReplica],
     node: usize,
     host: Option<Word<'_>>,
+    profile: Profile,
     inquiry: Inquiry<'_>,
     workers: &WorkerCount,
 ) -> Result<Vec<u8>, Fault>
     requires within { node < length nodes.old }
     ensures rendered { (d : Replicated) → IsSaid (λ text. text.items) result
-        (RendersInquiry host.entry inquiry.entry (slice_index_or nodes.old node d).store) }
+        (RendersInquiry profile host.entry inquiry.entry (slice_index_or nodes.old node d).store) }
     ensures same { nodes.new ≡ nodes.old }
 {
     let host = read_host(alloc, host)?;
     let form = Form::of(&inquiry);
-    let question = read_question(alloc, host, inquiry)?;
+    let viewer = Viewer { host, profile };
+    let question = read_question(alloc, viewer, inquiry)?;
     let workers = workers.count() as usize;
     match snapshots.answer(rt, alloc, nodes, node, &question, workers, &OpenGate) {
         Ok(answer) => answer_text(alloc, form, nodes[node].store(), question.viewer(), answer),

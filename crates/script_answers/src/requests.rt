@@ -5,27 +5,22 @@ ghost use Rattle.script_answers.specs.{Requests.{IsNameFault, names_in, request_
 
 use fleet_answers::Question;
 use plain_values::Items;
-use profiles::Profile;
-use replica_store::{HostName, Viewer};
+use replica_store::Viewer;
 use script_commands::{Fault, Inquiry, Words};
 use start_plan::Request;
 use std::alloc::Global;
 use unit_name::UnitName;
 
-/// Returns the question that words ask for a host or for the fleet. Fails with the first thing wrong with the first
-/// word that isn't a unit's name, or if memory runs out, which may replace any answer.
+/// Returns the question that words ask for a viewer. Fails with the first thing wrong with the first word that isn't a
+/// unit's name, or if memory runs out, which may replace any answer.
 pub(crate) fn read_question(
     alloc: Global,
-    host: Option<HostName>,
+    viewer: Viewer,
     inquiry: Inquiry<'_>,
 ) -> Result<Question, Fault>
-    ensures read { MatchResult result (λ question. question_asked inquiry.entry host ≡ Ok question)
-        (IsNameFault (question_asked inquiry.entry host)) }
+    ensures read { MatchResult result (λ question. question_asked inquiry.entry viewer ≡ Ok question)
+        (IsNameFault (question_asked inquiry.entry viewer)) }
 {
-    let viewer = Viewer {
-        host,
-        profile: Profile::Files,
-    };
     match inquiry {
         Inquiry::Unit(unit) => {
             let name = read_name(alloc, unit.as_slice())?;

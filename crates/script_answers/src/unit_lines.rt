@@ -33,6 +33,7 @@ fn append_status(out: &mut Vec<u8>, status: &Status) -> Result<(), AllocError>
             out.extend_from_slice(b"loaded ")?;
             place.append_to(out)
         }
+        Status::BuiltIn => out.extend_from_slice(b"built-in"),
         Status::NotFound => out.extend_from_slice(b"not-found"),
         Status::Masked => out.extend_from_slice(b"masked"),
         Status::Bad(cause) => {

@@ -1,8 +1,9 @@
 -- The command that a line asks for.
 -- Source: this project's own.
 use Rattle.std.proofs.Common.{if◌then◌else◌, ◌&&◌, ◌∷◌}
-use Rattle.script_commands.specs.Prelude.{[], bytes_eq, codes, Err, is_name, List, nat_le, None, number_of, Ok, Option, Result, Some, text_after, words_of, ℕ}
-use Rattle.script_commands.specs.{declared.commands.{Command.{Command, TheVariants.{Ask, Cat, Crowd, Files, Link, Merge, Node, Part, Put, Remove, Same, Send, Sweep, Text, Workers}}, Inquiry.{Inquiry}, LineRefusal.{LineRefusal, TheVariants.{Arguments, UnknownCommand}}}, Hosts.{host_in, node_in}}
+use Rattle.script_commands.specs.Prelude.{[], bytes_eq, codes, Err, is_name, List, nat_le, None, number_of, Ok, Option, Profile, Result, Some, text_after, words_of, ℕ}
+use Rattle.script_commands.specs.{declared.commands.{Command.{Command, TheVariants.{Ask, Cat, Crowd, Files, Link, Merge, Node, Part, Put, Remove, Same, Send, Sweep, Text, Workers}}, Inquiry.{Inquiry}, LineRefusal.{LineRefusal, TheVariants.{Arguments, UnknownCommand}}}, Hosts.{host_in, node_in}, Profiles.{profile_of}}
+use Rattle.script_commands.specs.declared.commands.Command.TheVariants as command
 use Rattle.script_commands.specs.declared.commands.Inquiry.TheVariants as inquiry
 
 -- a command with a name and a word
@@ -78,6 +79,14 @@ abbrev pub workers_command : List (List ℕ) → Result Command LineRefusal
 workers_command (count ∷ []) = workers_with (number_of count)
 workers_command words = Err Arguments
 
+abbrev pub profile_with : Option Profile → Result Command LineRefusal
+profile_with None = Err Arguments
+profile_with (Some profile) = Ok (command.Profile profile)
+
+abbrev pub profile_command : List (List ℕ) → Result Command LineRefusal
+profile_command (name ∷ []) = profile_with (profile_of name)
+profile_command words = Err Arguments
+
 -- a 32-bit number, and at most 1,000 edits
 abbrev pub crowd_with : List ℕ → Option ℕ → Option ℕ → Result Command LineRefusal
 crowd_with node None edits = Err Arguments
@@ -105,9 +114,10 @@ question_of verb words =
     if bytes_eq verb (codes "files") then files_command words
     else (if bytes_eq verb (codes "text") then with_name_and_word Text words
     else (if bytes_eq verb (codes "workers") then workers_command words
+    else (if bytes_eq verb (codes "profile") then profile_command words
     else (if bytes_eq verb (codes "same") then with_two_names Same words
     else (if bytes_eq verb (codes "crowd") then crowd_command words
-    else unit_question_of verb words))))
+    else unit_question_of verb words)))))
 
 -- the first word names the command, which brings to one node what another holds, or changes none
 abbrev pub exchange_of : List ℕ → List (List ℕ) → Result Command LineRefusal

@@ -1,7 +1,7 @@
 -- What a line must contain for its next field, and why a field is refused.
 -- Source: this project's own.
 use Rattle.std.proofs.Common.{◌<◌, ◌∷◌, ◌≡◌}
-use Rattle.script_commands.specs.{Hosts.{host_in, node_in}, Prelude.{[], false, is_name, List, None, number_of, Option, Some, true, ℕ}}
+use Rattle.script_commands.specs.{Hosts.{host_in, node_in}, Prelude.{[], false, is_name, List, None, number_of, Option, Profile, Some, true, ℕ}, Profiles.{profile_of}}
 
 -- there are no words, or the first fails
 abbrev FirstFails : (List ℕ → Type 0) → List (List ℕ) → Type 0
@@ -52,3 +52,11 @@ IsNoEditCount (Some edits) = 1000 < edits
 
 abbrev pub AreNotOneEditCount : List (List ℕ) → Type 0
 AreNotOneEditCount = OneFails (λ word. IsNoEditCount (number_of word))
+
+-- there is one word, and it names this profile
+abbrev pub IsOneProfile : Profile → List (List ℕ) → Type 0
+IsOneProfile profile (word ∷ []) = profile_of word ≡ Some profile
+IsOneProfile profile words = ⊥
+
+abbrev pub AreNotOneProfile : List (List ℕ) → Type 0
+AreNotOneProfile = OneFails (λ word. profile_of word ≡ None)

@@ -8,5 +8,6 @@ pub mod HostLaws
 pub mod Hosts
 pub mod Outcomes
 pub mod Places
+pub mod Profiles
 pub mod ReadLaws
 pub mod WrittenLaws

@@ -1,8 +1,9 @@
 -- A line is read as a command exactly if it has that command's words; any other line is refused for what is wrong with
 -- it.
 use Rattle.std.proofs.Common.{◌&&◌, ◌∷◌, ◌≡◌, ◌⊎◌}
-use Rattle.script_commands.specs.Prelude.{[], and_from, and_parts, ap, Bool, bytes_eq, bytes_eq-Decides, codes, cond, cond-true, drop, Err, false, inl, inr, is_name, le-leb, leb-true, List, nat_le, None, number_of, Ok, Option, refl, Result, Some, subst, sym, text_after, true, true≢false, words_of, ℕ, ◌∙◌}
-use Rattle.script_commands.specs.{Commands.{asking, asking_this, command_of_words, crowd_command, crowd_with, files_command, link_command, node_command, node_with, part_command, plan_command, put_command, sweep_command, with_name_and_word, with_node, with_node_and_word, with_two_names, workers_command, workers_with}, declared.commands.{Command.{Command, TheVariants.{Ask, Cat, Crowd, Files, Link, Merge, Node, Part, Put, Remove, Same, Send, Sweep, Text, Workers}}, LineRefusal.{LineRefusal, TheVariants.{Arguments, UnknownCommand}}}, HostLaws.{node_word-read}, Hosts.{host_in, node_in, node_word}, WrittenLaws.{AreWordsOf, BeginsWithVerb, IsName, IsOneOf, JustItsWordsAreRead, node_word_is_cut, OthersAreRefused, verbs}}
+use Rattle.script_commands.specs.Prelude.{[], and_from, and_parts, ap, Bool, bytes_eq, bytes_eq-Decides, codes, cond, cond-true, drop, Err, false, inl, inr, is_name, le-leb, leb-true, List, nat_le, None, number_of, Ok, Option, Profile, refl, Result, Some, subst, sym, text_after, true, true≢false, words_of, ℕ, ◌∙◌}
+use Rattle.script_commands.specs.{Commands.{asking, asking_this, command_of_words, crowd_command, crowd_with, files_command, link_command, node_command, node_with, part_command, plan_command, profile_command, profile_with, put_command, sweep_command, with_name_and_word, with_node, with_node_and_word, with_two_names, workers_command, workers_with}, declared.commands.{Command.{Command, TheVariants.{Ask, Cat, Crowd, Files, Link, Merge, Node, Part, Put, Remove, Same, Send, Sweep, Text, Workers}}, LineRefusal.{LineRefusal, TheVariants.{Arguments, UnknownCommand}}}, HostLaws.{node_word-read}, Hosts.{host_in, node_in, node_word}, Profiles.{profile_of, profile_of-profile_word, profile_word-profile_of}, WrittenLaws.{AreWordsOf, BeginsWithVerb, IsName, IsOneOf, JustItsWordsAreRead, node_word_is_cut, OthersAreRefused, verbs}}
+use Rattle.script_commands.specs.declared.commands.Command.TheVariants as command
 use Rattle.script_commands.specs.declared.commands.Inquiry.TheVariants as inquiry
 
 -- No other words.
@@ -103,6 +104,16 @@ module _ (c : Command) (line : List ℕ) where
       by (Some count) is e = read_where true (Workers count) (codes "workers" ∷ number ∷ []) (λ _. (number, refl, is)) e
   workers_read words e = absurd (never Arguments c e)
 
+  profile_read : (words : List (List ℕ)) → profile_command words ≡ Ok c → AreWordsOf c (codes "profile" ∷ words) line
+  profile_read (name ∷ []) e = by (profile_of name) refl e
+    where
+      by : (o : Option Profile) → profile_of name ≡ o → profile_with o ≡ Ok c → AreWordsOf c (codes "profile" ∷ name ∷ []) line
+      by None is e = absurd (never Arguments c e)
+      by (Some profile) is e =
+          read_where true (command.Profile profile) (codes "profile" ∷ name ∷ [])
+          (λ _. ap (λ v. codes "profile" ∷ v ∷ []) (profile_word-profile_of name profile is)) e
+  profile_read words e = absurd (never Arguments c e)
+
   crowd_read : (words : List (List ℕ)) → crowd_command words ≡ Ok c → AreWordsOf c (codes "crowd" ∷ words) line
   crowd_read (node ∷ first ∷ second ∷ []) e = by (number_of first) (number_of second) refl refl e
     where
@@ -142,21 +153,22 @@ module _ (c : Command) (line : List ℕ) where
       verb_or verb (codes "text") words (with_name_and_word Text words) _ e8
       (name_and_word_read (codes "text") Text (λ node place named. (refl, named)) words) (λ e9.
       verb_or verb (codes "workers") words (workers_command words) _ e9 (workers_read words) (λ e10.
-      verb_or verb (codes "same") words (with_two_names Same words) _ e10
-      (two_names_read (codes "same") Same (λ left right is and. (refl, is, and)) words) (λ e11.
-      verb_or verb (codes "crowd") words (crowd_command words) _ e11 (crowd_read words) (λ e12.
-      verb_or verb (codes "cat") words (with_node_and_word Cat words) _ e12
-      (node_and_word_read (codes "cat") Cat (λ node host unit named. (refl, named)) words) (λ e13.
-      verb_or verb (codes "show") words (with_node_and_word (asking inquiry.Unit) words) _ e13
-      (node_and_word_read (codes "show") (asking inquiry.Unit) (λ node host unit named. (refl, named)) words) (λ e14.
-      verb_or verb (codes "list") words (with_node_and_word (asking inquiry.List) words) _ e14
-      (node_and_word_read (codes "list") (asking inquiry.List) (λ node host unit named. (refl, named)) words) (λ e15.
-      verb_or verb (codes "plan") words (plan_command words) _ e15 (plan_read words) (λ e16.
-      verb_or verb (codes "units") words (with_node (asking_this inquiry.Units) words) _ e16
-      (node_read_alone (codes "units") (asking_this inquiry.Units) (λ node host words same named. (same, named)) words) (λ e17.
-      verb_or verb (codes "tree") words (with_node (asking_this inquiry.Tree) words) _ e17
-      (node_read_alone (codes "tree") (asking_this inquiry.Tree) (λ node host words same named. (same, named)) words) (λ e18.
-      absurd (never UnknownCommand c e18))))))))))))))))))))
+      verb_or verb (codes "profile") words (profile_command words) _ e10 (profile_read words) (λ e11.
+      verb_or verb (codes "same") words (with_two_names Same words) _ e11
+      (two_names_read (codes "same") Same (λ left right is and. (refl, is, and)) words) (λ e12.
+      verb_or verb (codes "crowd") words (crowd_command words) _ e12 (crowd_read words) (λ e13.
+      verb_or verb (codes "cat") words (with_node_and_word Cat words) _ e13
+      (node_and_word_read (codes "cat") Cat (λ node host unit named. (refl, named)) words) (λ e14.
+      verb_or verb (codes "show") words (with_node_and_word (asking inquiry.Unit) words) _ e14
+      (node_and_word_read (codes "show") (asking inquiry.Unit) (λ node host unit named. (refl, named)) words) (λ e15.
+      verb_or verb (codes "list") words (with_node_and_word (asking inquiry.List) words) _ e15
+      (node_and_word_read (codes "list") (asking inquiry.List) (λ node host unit named. (refl, named)) words) (λ e16.
+      verb_or verb (codes "plan") words (plan_command words) _ e16 (plan_read words) (λ e17.
+      verb_or verb (codes "units") words (with_node (asking_this inquiry.Units) words) _ e17
+      (node_read_alone (codes "units") (asking_this inquiry.Units) (λ node host words same named. (same, named)) words) (λ e18.
+      verb_or verb (codes "tree") words (with_node (asking_this inquiry.Tree) words) _ e18
+      (node_read_alone (codes "tree") (asking_this inquiry.Tree) (λ node host words same named. (same, named)) words) (λ e19.
+      absurd (never UnknownCommand c e19)))))))))))))))))))))
 
 -- lines with these words are read
 read_as : (c : Command) (words : List (List ℕ)) (line : List ℕ) → AreWordsOf c words line → command_of_words words line ≡ Ok c
@@ -185,6 +197,7 @@ read_as (Ask node host inquiry.Units) words line (same, named) =
 read_as (Ask node host inquiry.Tree) words line (same, named) =
     ap (λ v. command_of_words v line) same ∙ node_word_is_cut node host (asking_this inquiry.Tree) named
 read_as (Workers count) words line (number, same, is) = ap (λ v. command_of_words v line) same ∙ ap workers_with is
+read_as (command.Profile profile) words line same = ap (λ v. command_of_words v line) same ∙ ap profile_with (profile_of-profile_word profile)
 read_as (Same left right) words line (same, is, and) = ap (λ v. command_of_words v line) same ∙ cond-true _ _ _ (and_from _ _ is and)
 read_as (Crowd node seats edits) words line (first, second, same, is, and, named, few) =
     ap (λ v. command_of_words v line) same ∙ ap (λ v. crowd_with node v (number_of second)) is ∙ ap (crowd_with node (Some seats)) and ∙ cond-true _ _ _ (and_from _ _ named (le-leb edits 1000 few))
@@ -264,6 +277,14 @@ module _ (r : LineRefusal) (line : List ℕ) where
       by (Some count) e = absurd (done (Workers count) r e)
   workers_refused words e = same_refusal r Arguments e
 
+  profile_refused : (words : List (List ℕ)) → profile_command words ≡ Err r → r ≡ Arguments
+  profile_refused (name ∷ []) e = by (profile_of name) e
+    where
+      by : (o : Option Profile) → profile_with o ≡ Err r → r ≡ Arguments
+      by None e = same_refusal r Arguments e
+      by (Some profile) e = absurd (done (command.Profile profile) r e)
+  profile_refused words e = same_refusal r Arguments e
+
   crowd_refused : (words : List (List ℕ)) → crowd_command words ≡ Err r → r ≡ Arguments
   crowd_refused (node ∷ first ∷ second ∷ []) e = by (number_of first) (number_of second) e
     where
@@ -307,15 +328,16 @@ module _ (r : LineRefusal) (line : List ℕ) where
       refused_at verb (codes "files") (drop 9 verbs) (files_command words) _ e7 (files_refused words) (λ e8.
       refused_at verb (codes "text") (drop 10 verbs) (with_name_and_word Text words) _ e8 (name_and_word_refused Text words) (λ e9.
       refused_at verb (codes "workers") (drop 11 verbs) (workers_command words) _ e9 (workers_refused words) (λ e10.
-      refused_at verb (codes "same") (drop 12 verbs) (with_two_names Same words) _ e10 (two_names_refused Same words) (λ e11.
-      refused_at verb (codes "crowd") (drop 13 verbs) (crowd_command words) _ e11 (crowd_refused words) (λ e12.
-      refused_at verb (codes "cat") (drop 14 verbs) (with_node_and_word Cat words) _ e12 (node_and_word_refused Cat words) (λ e13.
-      refused_at verb (codes "show") (drop 15 verbs) (with_node_and_word (asking inquiry.Unit) words) _ e13 (node_and_word_refused (asking inquiry.Unit) words) (λ e14.
-      refused_at verb (codes "list") (drop 16 verbs) (with_node_and_word (asking inquiry.List) words) _ e14 (node_and_word_refused (asking inquiry.List) words) (λ e15.
-      refused_at verb (codes "plan") (drop 17 verbs) (plan_command words) _ e15 (plan_refused words) (λ e16.
-      refused_at verb (codes "units") (drop 18 verbs) (with_node (asking_this inquiry.Units) words) _ e16 (node_refused_alone (asking_this inquiry.Units) words) (λ e17.
-      refused_at verb (codes "tree") (drop 19 verbs) (with_node (asking_this inquiry.Tree) words) _ e17 (node_refused_alone (asking_this inquiry.Tree) words) (λ e18.
-      inr (λ none. none, same_refusal r UnknownCommand e18))))))))))))))))))))
+      refused_at verb (codes "profile") (drop 12 verbs) (profile_command words) _ e10 (profile_refused words) (λ e11.
+      refused_at verb (codes "same") (drop 13 verbs) (with_two_names Same words) _ e11 (two_names_refused Same words) (λ e12.
+      refused_at verb (codes "crowd") (drop 14 verbs) (crowd_command words) _ e12 (crowd_refused words) (λ e13.
+      refused_at verb (codes "cat") (drop 15 verbs) (with_node_and_word Cat words) _ e13 (node_and_word_refused Cat words) (λ e14.
+      refused_at verb (codes "show") (drop 16 verbs) (with_node_and_word (asking inquiry.Unit) words) _ e14 (node_and_word_refused (asking inquiry.Unit) words) (λ e15.
+      refused_at verb (codes "list") (drop 17 verbs) (with_node_and_word (asking inquiry.List) words) _ e15 (node_and_word_refused (asking inquiry.List) words) (λ e16.
+      refused_at verb (codes "plan") (drop 18 verbs) (plan_command words) _ e16 (plan_refused words) (λ e17.
+      refused_at verb (codes "units") (drop 19 verbs) (with_node (asking_this inquiry.Units) words) _ e17 (node_refused_alone (asking_this inquiry.Units) words) (λ e18.
+      refused_at verb (codes "tree") (drop 20 verbs) (with_node (asking_this inquiry.Tree) words) _ e18 (node_refused_alone (asking_this inquiry.Tree) words) (λ e19.
+      inr (λ none. none, same_refusal r UnknownCommand e19)))))))))))))))))))))
 
 pub others_are_refused : OthersAreRefused
 others_are_refused line refusal e = why_refused refusal line (words_of line) e

@@ -1,8 +1,9 @@
 -- A command is read back from its written form: its words, with one space between them.
 use Rattle.std.proofs.Common.{◌&&◌, ◌++◌, ◌<◌, ◌^◌, ◌↔◌, ◌∷◌, ◌≡◌, ◌≢◌, ◌≤◌, ◌⊎◌}
 use Rattle.script_words.specs.Names.{is_name}
-use Rattle.script_commands.specs.Prelude.{[], All, All-append, All-cons, All-from_recursion, AllByRecursion, and_from, and_parts, ap, append_assoc, arith, Bool, codes, cond, cond-true, decimal, decimal_nonempty, digits_decimal, Err, false, is_ascii_alphanumeric, is_ascii_digit, IsDigitsTest, IsWord, join_with_byte, le-leb, length, length-append, length-decimal-le, List, list_all, nat_lt, nat_tests, None, number_of, number_of-decimal, numerals_by_value, Ok, Option, recursion_from_All, refl, Result, rules, Some, spaced, sym, text_after, text_after-last, text_after-spaced, true, true≢false, words_of, words_of-nil, words_of-spaced, words_of-word, words_of-word_space, ℕ, ◌∙◌}
-use Rattle.script_commands.specs.{Commands.{asking, asking_this, command_of, command_of_words, crowd_with, node_with, with_name_and_word, with_node_and_word, with_two_names, workers_with}, declared.commands.{Command.{Command, TheVariants.{Ask, Cat, Crowd, Files, Link, Merge, Node, Part, Put, Remove, Same, Send, Sweep, Text, Workers}}, LineRefusal.{LineRefusal, TheVariants.{Arguments, UnknownCommand}}}, HostLaws.{host_in-node_word, node_in-node_word}, Hosts.{host_in, node_in, node_word}}
+use Rattle.script_commands.specs.Prelude.{[], All, All-append, All-cons, All-from_recursion, AllByRecursion, and_from, and_parts, ap, append_assoc, arith, Bool, codes, cond, cond-true, decimal, decimal_nonempty, digits_decimal, Err, false, Files, is_ascii_alphanumeric, is_ascii_digit, IsDigitsTest, IsWord, join_with_byte, le-leb, length, length-append, length-decimal-le, List, list_all, Manager, nat_lt, nat_tests, None, number_of, number_of-decimal, numerals_by_value, Ok, Option, Profile, recursion_from_All, refl, Result, rules, Some, spaced, sym, text_after, text_after-last, text_after-spaced, true, true≢false, words_of, words_of-nil, words_of-spaced, words_of-word, words_of-word_space, ℕ, ◌∙◌}
+use Rattle.script_commands.specs.{Commands.{asking, asking_this, command_of, command_of_words, crowd_with, node_with, profile_with, with_name_and_word, with_node_and_word, with_two_names, workers_with}, declared.commands.{Command.{Command, TheVariants.{Ask, Cat, Crowd, Files, Link, Merge, Node, Part, Put, Remove, Same, Send, Sweep, Text, Workers}}, LineRefusal.{LineRefusal, TheVariants.{Arguments, UnknownCommand}}}, HostLaws.{host_in-node_word, node_in-node_word}, Hosts.{host_in, node_in, node_word}, Profiles.{profile_of-profile_word, profile_word}}
+use Rattle.script_commands.specs.declared.commands.Command.TheVariants as command
 use Rattle.script_commands.specs.declared.commands.Inquiry.TheVariants as inquiry
 
 -- words with one space between them
@@ -109,6 +110,10 @@ abbrev pub WorkersIsReadBack : Type 0
 WorkersIsReadBack = (count : ℕ) → count < 2 ^ 32
     → command_of (line_of (codes "workers" ∷ decimal count ∷ [])) ≡ Ok (Workers count)
 
+-- the word of a profile
+abbrev pub ProfileIsReadBack : Type 0
+ProfileIsReadBack = (profile : Profile) → command_of (line_of (codes "profile" ∷ profile_word profile ∷ [])) ≡ Ok (command.Profile profile)
+
 abbrev pub SameIsReadBack : Type 0
 SameIsReadBack = TwoNamesAreReadBack (codes "same") Same
 
@@ -139,6 +144,7 @@ AreWordsOf (Ask node host (inquiry.Plan unit running)) words line = (words ≡ c
 AreWordsOf (Ask node host inquiry.Units) words line = (words ≡ codes "units" ∷ node_word node host ∷ []) × IsName node
 AreWordsOf (Ask node host inquiry.Tree) words line = (words ≡ codes "tree" ∷ node_word node host ∷ []) × IsName node
 AreWordsOf (Workers count) words line = (number : List ℕ) × (words ≡ codes "workers" ∷ number ∷ []) × (number_of number ≡ Some count)
+AreWordsOf (command.Profile profile) words line = words ≡ codes "profile" ∷ profile_word profile ∷ []
 AreWordsOf (Same left right) words line = (words ≡ codes "same" ∷ left ∷ right ∷ []) × IsName left × IsName right
 AreWordsOf (Crowd node seats edits) words line =
     (first : List ℕ) × (second : List ℕ) × (words ≡ codes "crowd" ∷ node ∷ first ∷ second ∷ []) × (number_of first ≡ Some seats) × (number_of second ≡ Some edits) × IsName node × (edits ≤ 1000)
@@ -149,7 +155,7 @@ JustItsWordsAreRead = (line : List ℕ) (command : Command) → (command_of line
 
 -- the words that name commands
 abbrev pub verbs : List (List ℕ)
-verbs = codes "node" ∷ codes "put" ∷ codes "link" ∷ codes "remove" ∷ codes "merge" ∷ codes "part" ∷ codes "send" ∷ codes "sweep" ∷ codes "files" ∷ codes "text" ∷ codes "workers" ∷ codes "same" ∷ codes "crowd" ∷ codes "cat" ∷ codes "show" ∷ codes "list" ∷ codes "plan" ∷ codes "units" ∷ codes "tree" ∷ []
+verbs = codes "node" ∷ codes "put" ∷ codes "link" ∷ codes "remove" ∷ codes "merge" ∷ codes "part" ∷ codes "send" ∷ codes "sweep" ∷ codes "files" ∷ codes "text" ∷ codes "workers" ∷ codes "profile" ∷ codes "same" ∷ codes "crowd" ∷ codes "cat" ∷ codes "show" ∷ codes "list" ∷ codes "plan" ∷ codes "units" ∷ codes "tree" ∷ []
 
 -- the word is one of these
 abbrev pub IsOneOf : List ℕ → List (List ℕ) → Type 0
@@ -356,6 +362,15 @@ workers_is_read_back count small =
     let fits : length (decimal count) ≤ 10 = length-decimal-le 10 count (omega arith) (omega arith) (omega arith) in
     read_words (codes "workers" ∷ decimal count ∷ []) (is_verb (codes "workers") refl, (number_is_word count small, tt))
     ∙ ap workers_with (number_of-decimal count 0 small (omega arith))
+
+profile_word_is_word : (profile : Profile) → IsWord (profile_word profile)
+profile_word_is_word Files = is_verb (profile_word Files) refl
+profile_word_is_word Manager = is_verb (profile_word Manager) refl
+
+pub profile_is_read_back : ProfileIsReadBack
+profile_is_read_back profile =
+    read_words (codes "profile" ∷ profile_word profile ∷ []) (is_verb (codes "profile") refl, (profile_word_is_word profile, tt))
+    ∙ ap profile_with (profile_of-profile_word profile)
 
 pub same_is_read_back : SameIsReadBack
 same_is_read_back = two_names_are_read_back (codes "same") Same refl (λ words line. refl)

@@ -7,6 +7,7 @@ use crate::edit_counts::EditCount;
 use edit_sums::ContentFault;
 use load_places::{HostFault, PlaceFault};
 use plain_values::Items;
+use profiles::Profile;
 use replica_store::EditFault;
 use script_words::cut_word;
 use std::alloc::{AllocError, AllocFailed};
@@ -165,6 +166,10 @@ pub enum Command<'a> {
     /// Sets the number of workers for later loads.
     Workers {
         count: u32,
+    },
+    /// Sets the profile by which later questions about units are answered.
+    Profile {
+        profile: Profile,
     },
     /// Asks whether two nodes hold the same.
     Same {

@@ -2,11 +2,13 @@
 ghost use Rattle.std.specs.Prelude.{◌≡◌, ◌≢◌, ◌≤◌, [], ◌∷◌, true, OnOk, MatchResult};
 ghost use Rattle.script_words.specs.{Names.{is_name}, Words.{words_of, after_word, text_after}};
 ghost use Rattle.script_commands.specs.declared.commands.LineRefusal.TheVariants.{Arguments};
-ghost use Rattle.script_commands.specs.Fields.{AreNotOne, AreNotOneEditCount, AreNotOneName, AreNotOneNumber, BeginsWithNoName, BeginsWithNoNode, BeginsWithNoNumber, BeginsWithNode, BeginsWithNumber};
+ghost use Rattle.script_commands.specs.Fields.{AreNotOne, AreNotOneEditCount, AreNotOneName, AreNotOneNumber, AreNotOneProfile, BeginsWithNoName, BeginsWithNoNode, BeginsWithNoNumber, BeginsWithNode, BeginsWithNumber, IsOneProfile};
 
 use crate::commands::{LineRefusal, Word, Words};
 use crate::edit_counts::EditCount;
 use crate::host_words::cut_host;
+use crate::profile_words::profile_of;
+use profiles::Profile;
 use script_words::{cut_word, is_name, parse_number, text_of_rest};
 use std::marker::Model;
 
@@ -134,6 +136,16 @@ impl<'a> Fields<'a> {
             (λ refusal. (refusal ≡ Arguments) × AreNotOneEditCount (words_of self.entry)) }
     {
         EditCount::of(self.last_number()?).ok_or(LineRefusal::Arguments)
+    }
+
+    /// Reads the only remaining word, which must name a profile.
+    pub(crate) fn last_profile(self) -> Result<Profile, LineRefusal>
+        ensures profile { MatchResult result
+            (λ profile. IsOneProfile profile (words_of self.entry))
+            (λ refusal. (refusal ≡ Arguments) × AreNotOneProfile (words_of self.entry)) }
+    {
+        let word = self.last_word()?;
+        profile_of(word.as_slice()).ok_or(LineRefusal::Arguments)
     }
 
     /// Returns all remaining words.

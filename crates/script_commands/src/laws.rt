@@ -1,10 +1,10 @@
 //! Laws of commands: each is read back from its written form.
-ghost use Rattle.script_commands.specs.WrittenLaws.{CatIsReadBack, CrowdIsReadBack, EmptyPutIsReadBack, FilesIsReadBack, JustItsWordsAreRead, LinkIsReadBack, ListIsReadBack, MergeIsReadBack, NodeIsReadBack, OthersAreRefused, PartIsReadBack, PlanIsReadBack, PutIsReadBack, RemoveIsReadBack, SameIsReadBack, SendIsReadBack, ShowIsReadBack, SweepIsReadBack, TextIsReadBack, TreeIsReadBack, UnitsIsReadBack, WorkersIsReadBack};
+ghost use Rattle.script_commands.specs.WrittenLaws.{CatIsReadBack, CrowdIsReadBack, EmptyPutIsReadBack, FilesIsReadBack, JustItsWordsAreRead, LinkIsReadBack, ListIsReadBack, MergeIsReadBack, NodeIsReadBack, OthersAreRefused, PartIsReadBack, PlanIsReadBack, ProfileIsReadBack, PutIsReadBack, RemoveIsReadBack, SameIsReadBack, SendIsReadBack, ShowIsReadBack, SweepIsReadBack, TextIsReadBack, TreeIsReadBack, UnitsIsReadBack, WorkersIsReadBack};
 
 /// Each command is read back from its words, written with one space between them. Names are valid names; numbers are in
-/// decimal; places, targets and units are any words. A node whose units are asked for is written with or without an at
-/// sign and a host, which is any bytes other than spaces. The text of `put` is everything after the place and one
-/// space.
+/// decimal; places, targets and units are any words; a profile is its own word. A node whose units are asked for is
+/// written with or without an at sign and a host, which is any bytes other than spaces. The text of `put` is everything
+/// after the place and one space.
 pub fn commands_read_back()
     ensures node { NodeIsReadBack }
     ensures put { PutIsReadBack }
@@ -24,6 +24,7 @@ pub fn commands_read_back()
     ensures units { UnitsIsReadBack }
     ensures tree { TreeIsReadBack }
     ensures workers { WorkersIsReadBack }
+    ensures profile { ProfileIsReadBack }
     ensures same { SameIsReadBack }
     ensures crowd { CrowdIsReadBack }
 

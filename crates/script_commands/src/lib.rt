@@ -16,6 +16,7 @@ mod host_words;
 mod laws;
 mod parsing;
 mod place_words;
+mod profile_words;
 
 pub use commands::{Command, Fault, Inquiry, LineRefusal, Word, Words};
 pub use edit_counts::EditCount;

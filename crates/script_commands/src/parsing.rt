@@ -101,6 +101,10 @@ fn question<'a>(verb: &[u8], mut fields: Fields<'a>) -> Result<Command<'a>, Line
         Ok(Command::Workers {
             count: fields.last_number()?,
         })
+    } else if is_same(verb, b"profile") {
+        Ok(Command::Profile {
+            profile: fields.last_profile()?,
+        })
     } else if is_same(verb, b"same") {
         Ok(Command::Same {
             left: fields.name()?,

@@ -1,7 +1,7 @@
 -- Worlds of scripts: what nodes hold after each event, and that no version belongs to two edits.
 use Rattle.std.proofs.Common.{◌++◌, ◌+◌, ◌<◌, ◌==◌, ◌||◌, ◌∷◌, ◌≡◌, ◌≢◌, ◌≤◌, ◌⊎◌}
-use Rattle.script_worlds.specs.Prelude.{[], ap, AreWithin, arith, Ask, Bool, Content, counter_among, Cut, Edit, EntryMap, eq-eqb, eqb-true, Event, false, Give, given_is_joined, happens, high_among, high_among-least, high_of, high_of-sum_of, inl, inr, IsAmong, IsAmong-append_right, join, length, List, merge_is_joined, node_count, None, one_node_more, Option, PlaceParts, Put, puts_of, puts_of-one_more, puts_of-Put, refl, slice_get, slice_get_past, Some, subst, suc, sum_of, sum_of-push, sym, took, took-Ask, took-Cut, took-Give_elsewhere, took-Put, took-Put_elsewhere, took-with_new_node, took_by, took_stays, true, true≢false, with_edit, with_new_node, within_more, world_of, zero, ℕ, ◌∙◌}
-use Rattle.script_worlds.specs.{Validity.{IsOwn, IsValid, puts}, Worlds.{answered, blank, happened, has_writer, held, Member, merged, next_ask, next_edit, next_piece, ScriptWorld, state, with_node, writer_at}}
+use Rattle.script_worlds.specs.Prelude.{[], ap, AreWithin, arith, Ask, Bool, Content, counter_among, Cut, Edit, EntryMap, eq-eqb, eqb-true, Event, false, Give, given_is_joined, happens, high_among, high_among-least, high_of, high_of-sum_of, inl, inr, IsAmong, IsAmong-append_right, join, length, List, merge_is_joined, node_count, None, one_node_more, Option, PlaceParts, Profile, Put, puts_of, puts_of-one_more, puts_of-Put, refl, slice_get, slice_get_past, Some, subst, suc, sum_of, sum_of-push, sym, took, took-Ask, took-Cut, took-Give_elsewhere, took-Put, took-Put_elsewhere, took-with_new_node, took_by, took_stays, true, true≢false, with_edit, with_new_node, within_more, world_of, zero, ℕ, ◌∙◌}
+use Rattle.script_worlds.specs.{Validity.{IsOwn, IsValid, puts}, Worlds.{answered, blank, happened, has_writer, held, Member, merged, next_ask, next_edit, next_piece, ScriptWorld, state, with_node, with_profile, writer_at}}
 use Rattle.world_law.specs.Worlds as worlds
 
 -- What nodes hold after an event.
@@ -109,6 +109,15 @@ valid_given world p k valid lt = valid_quiet world (Give p k) valid (lt, valid.w
 
 pub valid_merged : (world : ScriptWorld) (from to : ℕ) → IsValid world → from < length world.nodes → to < length world.nodes → IsValid (merged world from to)
 valid_merged world from to valid lt_from lt_to = valid_given (answered world from to None) (next_piece world) to (valid_answered world from to None valid lt_from lt_to) lt_to
+
+-- the profile is none of the nodes'
+pub valid_with_profile : (world : ScriptWorld) (profile : Profile) → IsValid world → IsValid (with_profile world profile)
+valid_with_profile world profile valid = record {
+  within = valid.within;
+  apart = valid.apart;
+  own = λ e a. let own = valid.own e a in record { node = own.node; within = own.within; writer = own.writer; counter = own.counter };
+  honest = valid.honest;
+}
 
 pub valid_blank : IsValid blank
 valid_blank = record { within = tt; apart = λ j k lt _ _. absurd (omega arith); own = λ e a. absurd a; honest = λ e f a b same. absurd a }

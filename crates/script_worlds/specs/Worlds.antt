@@ -1,7 +1,7 @@
 -- The world that a script builds: its nodes, the events so far, and the named pieces.
 -- Source: The events are those of `world_law`; names and writer numbers are this project's own.
 use Rattle.std.proofs.Common.{if◌then◌else◌, ◌++◌, ◌+◌, ◌-◌, ◌==◌, ◌∷◌}
-use Rattle.script_worlds.specs.Prelude.{[], Ask, Bool, bytes_eq, Content, Cut, Edit, EntryMap, Event, Give, high_of, length, List, list_any, map, None, Option, option_map, PlaceParts, position, slice_get, Some, suc, sum_of, took, unwrap_or, world_of, zero, ℕ}
+use Rattle.script_worlds.specs.Prelude.{[], Ask, Bool, bytes_eq, Content, Cut, Edit, EntryMap, Event, Files, Give, high_of, length, List, list_any, map, None, Option, option_map, PlaceParts, position, Profile, slice_get, Some, suc, sum_of, took, unwrap_or, world_of, zero, ℕ}
 use Rattle.world_law.specs.Worlds as worlds
 
 -- a node: its name, and its writer number
@@ -9,15 +9,17 @@ pub record Member : Type 0 where
   pub name : List ℕ
   pub writer : ℕ
 
--- the nodes in the order of their creation; the events, the latest first; and the pieces by name with their indices,
--- the latest first
+-- the nodes in the order of their creation; the events, the latest first; the pieces by name with their indices, the
+-- latest first; and the profile by which questions about units are answered
 pub record ScriptWorld : Type 0 where
   pub nodes : List Member
   pub events : List Event
   pub pieces : List (List ℕ × ℕ)
+  pub profile : Profile
 
+-- the world at first, whose units are as their files say alone
 abbrev pub blank : ScriptWorld
-blank = record { nodes = []; events = []; pieces = [] }
+blank = record { nodes = []; events = []; pieces = []; profile = Files }
 
 -- the world after the events: what each node took, and every ask and piece ever made
 abbrev pub state : ScriptWorld → worlds.EventWorld
@@ -34,6 +36,10 @@ happened world event = record world { events = event ∷ world.events }
 -- one more node
 abbrev pub with_node : ScriptWorld → List ℕ → ℕ → ScriptWorld
 with_node world name writer = record world { nodes = world.nodes ++ record { name = name; writer = writer } ∷ [] }
+
+-- another profile
+abbrev pub with_profile : ScriptWorld → Profile → ScriptWorld
+with_profile world profile = record world { profile = profile }
 
 -- the index of the node with a name
 abbrev pub node_named : List Member → List ℕ → Option ℕ

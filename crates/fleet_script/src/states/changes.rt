@@ -1,6 +1,7 @@
-//! Commands that change one node, or the worker count.
+//! Commands that change one node, the worker count, or the profile.
 ghost use Rattle.std.specs.Prelude.{◌≡◌, ◌<◌, length, vec_len, IfOk, OnOk, OnErr, MatchResult};
 ghost use Rattle.script_commands.specs.declared.commands.Command.TheVariants.{Node, Put, Link, Remove, Workers};
+ghost use Rattle.script_commands.specs.declared.commands.Command.TheVariants as command;
 ghost use Rattle.fleet_script.specs.{Does.{Writes}, Holds.{Executes, Goes, HasNoSite, IsSite, kept_in}};
 
 use crate::states::{Rendered, Shell};
@@ -8,6 +9,7 @@ use edit_sums::Content;
 use fleet_answers::TrackedReplica;
 use load_places::Place;
 use plain_values::Bytes;
+use profiles::Profile;
 use replica_store::Replica;
 use script_answers::{WorkerCount, put_done};
 use script_commands::{Fault, LineRefusal, read_file, read_link, read_place};
@@ -78,6 +80,15 @@ impl Shell {
         };
         let text = Vec::from_slice(alloc, b"ok\n")?;
         self.workers = workers;
+        Ok(text)
+    }
+
+    pub(super) fn profile(&mut self, alloc: Global, profile: Profile) -> Rendered
+        ensures done { Executes self.old self.new (command.Profile profile) result }
+        ensures worker_count { self.new.workers ≡ self.old.workers }
+    {
+        let text = Vec::from_slice(alloc, b"ok\n")?;
+        self.profile = profile;
         Ok(text)
     }
 

@@ -67,6 +67,7 @@ impl Shell {
                 inquiry,
             } => self.ask(rt, alloc, node.as_slice(), host, inquiry),
             Command::Workers { count } => self.workers(alloc, count),
+            Command::Profile { profile } => self.profile(alloc, profile),
             Command::Same { left, right } => self.same(alloc, left.as_slice(), right.as_slice()),
             Command::Crowd { node, seats, edits } => {
                 self.crowd(rt, alloc, node.as_slice(), seats, edits)

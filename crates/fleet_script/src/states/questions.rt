@@ -40,7 +40,7 @@ impl Shell {
         render_files(alloc, replica.store(), host, unit)
     }
 
-    // The answer to a question about the units of a node, from all that must be loaded of it.
+    // The answer to a question about the units of a node, from all that must be loaded of it by the shell's profile.
     pub(super) fn ask<R: Threads + Sync>(
         &mut self,
         rt: &R,
@@ -50,7 +50,7 @@ impl Shell {
         inquiry: Inquiry<'_>,
     ) -> Rendered
         ensures done { Goes (kept_in self.old) (kept_in self.new) (λ before outcome after.
-            Reads before outcome after node.now (RendersInquiry host.entry inquiry.entry)) result }
+            Reads before outcome after node.now (RendersInquiry before.profile host.entry inquiry.entry)) result }
     {
         let at = self.node_at(alloc, node)?;
         render_inquiry(
@@ -60,6 +60,7 @@ impl Shell {
             &mut self.nodes,
             at,
             host,
+            self.profile,
             inquiry,
             &self.workers,
         )

@@ -1,11 +1,11 @@
-use Rattle.script_answers.proofs.{Prelude.{ap, EntryMap, Form, form_of, get_or, get_or_default, IsOutcomeOf, List, Option, question_asked, RendersWords, Replicated, subst, Viewer, viewer_asked, ℕ, ◌∙◌}, Rendered.{answer_rendered, for_host, IsRendered, question_rendered}}
+use Rattle.script_answers.proofs.{Prelude.{ap, EntryMap, Form, form_of, get_or, get_or_default, IsOutcomeOf, List, Option, question_by, RendersWords, Replicated, subst, Viewer, viewer_asked, ℕ, ◌∙◌}, Rendered.{answer_rendered, for_host, IsRendered, question_rendered}}
 use Rattle.script_answers.proofs.asking.render_inquiry.Goals as goal
 
 pub returns-in-Ok-clause-rendered : goal.returns-in-Ok-clause-rendered
 returns-in-Ok-clause-rendered g c = λ d.
     let s = (get_or c.args.nodes.now c.args.node d).store in
     let form = form_of c.args.inquiry in
-    let asked = question_asked c.args.inquiry in
+    let asked = question_by c.args.profile c.args.inquiry in
     let question = c.in_ok-question.question in
     let text = c.answer_text.result in
     let node = c.index-nodes-node.result in

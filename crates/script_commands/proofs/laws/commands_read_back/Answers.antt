@@ -1,4 +1,4 @@
-use Rattle.script_commands.proofs.Prelude.{cat_is_read_back, crowd_is_read_back, empty_put_is_read_back, files_is_read_back, just_its_words_are_read, link_is_read_back, list_is_read_back, merge_is_read_back, node_is_read_back, others_are_refused, part_is_read_back, plan_is_read_back, put_is_read_back, remove_is_read_back, same_is_read_back, send_is_read_back, show_is_read_back, sweep_is_read_back, text_is_read_back, tree_is_read_back, units_is_read_back, workers_is_read_back}
+use Rattle.script_commands.proofs.Prelude.{cat_is_read_back, crowd_is_read_back, empty_put_is_read_back, files_is_read_back, just_its_words_are_read, link_is_read_back, list_is_read_back, merge_is_read_back, node_is_read_back, others_are_refused, part_is_read_back, plan_is_read_back, profile_is_read_back, put_is_read_back, remove_is_read_back, same_is_read_back, send_is_read_back, show_is_read_back, sweep_is_read_back, text_is_read_back, tree_is_read_back, units_is_read_back, workers_is_read_back}
 use Rattle.script_commands.proofs.laws.commands_read_back.Goals as goal
 
 pub returns : goal.returns
@@ -21,6 +21,7 @@ returns c = record {
   units = units_is_read_back;
   tree = tree_is_read_back;
   workers = workers_is_read_back;
+  profile = profile_is_read_back;
   same = same_is_read_back;
   crowd = crowd_is_read_back;
   words = just_its_words_are_read;

@@ -1,5 +1,6 @@
 use Rattle.fleet_script.proofs.{Lines.{executed}, Prelude.{ap, Ask, Cat, Crowd, Files, kept_in, Link, Merge, Node, Ok, Part, Put, Remove, rules, Same, Send, Sweep, sym, Text, Workers, ◌∙◌}}
 use Rattle.fleet_script.proofs.states.Shell.execute.Goals as goal
+use Rattle.script_commands.specs.declared.commands.Command.TheVariants as command
 
 pub returns-in-Node : goal.returns-in-Node
 returns-in-Node g c = record { done = executed (kept_in c.args.self.now) (kept_in c.node.new.self) c.args.line.now (Node c.in-Node.name c.in-Node.writer) c.node.result (ap Ok (sym c.in-Node.is) ∙ c.in_ok-name.ensures.command) (rw c.as_slice.ensures.bytes at c.node.ensures.done) }
@@ -42,6 +43,9 @@ returns-in-Ask g c = record { done = executed (kept_in c.args.self.now) (kept_in
 
 pub returns-in-Workers : goal.returns-in-Workers
 returns-in-Workers g c = record { done = executed (kept_in c.args.self.now) (kept_in c.workers.new.self) c.args.line.now (Workers c.in-Workers.count) c.workers.result (ap Ok (sym c.in-Workers.is) ∙ c.in_ok-name.ensures.command) c.workers.ensures.done }
+
+pub returns-in-Profile : goal.returns-in-Profile
+returns-in-Profile g c = record { done = executed (kept_in c.args.self.now) (kept_in c.profile.new.self) c.args.line.now (command.Profile c.in-Profile.profile) c.profile.result (ap Ok (sym c.in-Profile.is) ∙ c.in_ok-name.ensures.command) c.profile.ensures.done }
 
 pub returns-in-Crowd : goal.returns-in-Crowd
 returns-in-Crowd g c = record { done = executed (kept_in c.args.self.now) (kept_in c.args.self.now) c.args.line.now (Crowd c.in-Crowd.node c.in-Crowd.seats c.in-Crowd.edits) c.crowd.result (ap Ok (sym c.in-Crowd.is) ∙ c.in_ok-name.ensures.command) (rw c.as_slice-in-Crowd.ensures.bytes at c.crowd.ensures.done) }

@@ -11,4 +11,4 @@ returns-clause-done c =
     (ap shell.number_of (sym copy) ∙ is_none _ c.if-contains_key.ensures) (sym c.if-contains.ensures)
     (ap (λ (r : Replicated). r.writer) (c.new-2.ensures.given ∙ c.new.ensures.empty)) (ap (λ (r : Replicated). r.store) (c.new-2.ensures.given ∙ c.new.ensures.empty)) c.in_ok-text.ensures.items c.in_ok-push.ensures.items
     (λ other. key_updated c.args.name.now c.in_ok-name.name other c.len-number.result _ (shell.number_of other) _ copy count ((c.in_ok-insert-2.ensures.updates).0 other))
-    (λ other. number_added c.args.writer other _ _ ((c.in_ok-insert.ensures.updates).0 other)) refl
+    (λ other. number_added c.args.writer other _ _ ((c.in_ok-insert.ensures.updates).0 other)) refl refl
