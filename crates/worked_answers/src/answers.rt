@@ -1,17 +1,18 @@
 //! The answers to lines.
 use crate::asking::{ask, world};
-use crate::edits::{Asked, Done, asked_of, by_files};
+use crate::edits::{Asked, Done, asked_of};
 use crate::graphs::graph;
 use crate::refreshing::{footprint, refresh};
 use crate::rendering::{append_load, append_looked_up, append_unit, is_same_load};
 use crate::tracking::{Taking, again, far};
 use parallel_load::{LoadFault, Loaded, load_fleet, load_here, load_one};
+use profiles::Profile;
 use replica_store::Viewer;
 use std::alloc::Global;
 use std::thread::Threads;
 use std::time::Clock;
 use unit_name::UnitName;
-use worked_lines::{Answer, CountingGate, Meeting, Words, asked_of as call_of, match_word};
+use worked_lines::{Answer, CountingGate, Meeting, Words, asked_of as call_of, is, match_word};
 use worker_rounds::{Gate, OpenGate};
 
 // Writes a load with what it has for some names, or why there is no load.
@@ -141,10 +142,27 @@ fn one(words: &mut Words, viewer: Viewer, out: &mut Answer) -> Done {
     Ok(())
 }
 
-/// Writes the answer to a line.
+/// Writes the answer to a line. A line that begins with `manager` is for systemd's manager, any other for one that takes
+/// units as their files say alone.
 pub fn answer<R: Threads + Clock + Sync>(rt: &R, words: &mut Words, out: &mut Answer) -> Done {
-    let (call, host) = call_of(words.alloc, words.word()?)?;
-    let viewer = by_files(host);
+    let first = words.word()?;
+    if is(first, b"manager") {
+        let call = words.word()?;
+        return answer_by(rt, Profile::Manager, call, words, out);
+    }
+    answer_by(rt, Profile::Files, first, words, out)
+}
+
+// Writes the answer to a line after its profile and its call.
+fn answer_by<R: Threads + Clock + Sync>(
+    rt: &R,
+    profile: Profile,
+    call: &[u8],
+    words: &mut Words,
+    out: &mut Answer,
+) -> Done {
+    let (call, host) = call_of(words.alloc, call)?;
+    let viewer = Viewer { host, profile };
     match_word!(call;
         b"graph" => graph(words, viewer, out),
         b"load" => load(rt, words, viewer, out),

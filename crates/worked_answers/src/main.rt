@@ -28,7 +28,7 @@
 //!   what the first put: at a moment before the last edit, and at one behind it; and that there is no third node.
 //!
 //! A question is `unit NAME`, `pulled NAME`, `plan TARGET RUNNING..`, or `units`. A call may have `@HOST` behind its word:
-//! then it is made for this host.
+//! then it is made for this host. A line that begins with `manager` is for systemd's manager.
 //!
 //! An edit is `PATH=TEXT` for a file and `PATH>TARGET` for a link, its directory as `E`, `R`, `L` or `U`. In a text `\n`
 //! and `\xHH` are read. A line that is refused memory is answered by `memory`. Lines that are empty or begin with `#` are

@@ -72,6 +72,7 @@ pub fn append_status(out: &mut Answer, status: &Status) {
             out.write(b"loaded from ");
             out.place_in_full(place);
         }
+        Status::BuiltIn => out.write(b"built in"),
         Status::NotFound => out.write(b"not found"),
         Status::Masked => out.write(b"masked"),
         Status::Bad(cause) => {
@@ -98,6 +99,18 @@ pub fn append_unit(out: &mut Answer, unit: &Unit) {
         out.write(b", drop-ins");
     }
     append_places(out, unit.dropins.as_slice());
+    append_additions(out, unit);
+}
+
+// Writes what a manager adds to a unit besides names.
+fn append_additions(out: &mut Answer, unit: &Unit) {
+    if unit.has_defaults {
+        out.write(b", with defaults");
+    }
+    if !unit.mounts.as_slice().is_empty() {
+        out.write(b", after mounts");
+        out.names(unit.mounts.as_slice());
+    }
 }
 
 /// Writes the main name of a name of a load, and the unit whose main name it is.
