@@ -260,9 +260,9 @@ def tree(store, host):
     return [(path, next((it for it in found[path] if not is_passed_over(path, it)), found[path][0])) for path in sorted(paths, key=parts)]
 
 
-def crossed(store, host):
+def crossed(store, host, profile="files"):
     """The units that have other drop-ins or links in the tree of a host, read alone, than for the host."""
-    seen, alone = Units(store, host), Units(dict(tree(store, host)), None)
+    seen, alone = Units(store, host, profile), Units(dict(tree(store, host)), None, profile)
     _, units = seen.load([])
     return [main for main, unit in sorted(units.items()) if seen.contents(unit["names"]) != alone.contents(unit["names"])]
 
@@ -358,7 +358,7 @@ def shown_lines(place, content):
     return [f"{place} link {content}"] if isinstance(content, Link) else file_lines(place, content)
 
 
-def whole_tree(store, host):
+def whole_tree(store, host, profile="files"):
     """The tree of a host, and the units that read otherwise in it."""
-    names = crossed(store, host)
+    names = crossed(store, host, profile)
     return [*[line for path, content in tree(store, host) for line in shown_lines(path, content)], *[f"crossed {it}" for it in names], "end"]
