@@ -5,8 +5,11 @@ import xml.etree.ElementTree as xml
 
 import unit_model as model
 
+from repository import ROOT
+
 from .bench import TREES, U, same
-from .told import store_of
+from .profiled import SMALL
+from .told import FILES, HEADS, store_of
 
 DEBIAN, BROKEN = (os.path.join(TREES, it) for it in ("debian", "broken"))
 SVG = "{http://www.w3.org/2000/svg}"
@@ -52,7 +55,7 @@ def steps(bench):
         f"{U}/a.service": "[Unit]\nAfter=b.service\n",
         f"{U}/b.service": "[Unit]\nConflicts=old.service\n", f"{U}/c.service": "[Unit]\n", f"{U}/old.service": "[Unit]\n",
     })
-    text = bench.fleet("draw", root, "t.target", "old.service").out.decode()
+    text = bench.fleet("draw", root, "t.target", "old.service", *FILES).out.decode()
     boxes = look(text)
     same({name: sort for name, (sort, _) in boxes.items()},
          {"old.service": "stops", "a.service": "starts", "b.service": "starts", "c.service": "starts", "t.target": "asked"})
@@ -60,8 +63,8 @@ def steps(bench):
     same(sorted(left, key=lambda it: (left[it], it)), ["old.service", "b.service", "c.service", "a.service", "t.target"])
     same(left["b.service"], left["c.service"])
     same(lines_of(text), {"needs": 1, "wishes": 2, "order": 1, "conflict": 1})
-    same(bench.fleet("draw", root, "t.target", "old.service", "--dot").lines(), [
-        "digraph plan {", '  label="t.target: 4 to start, 1 to stop";', "  rankdir=LR;", "  node [shape=box, fontname=monospace];",
+    same(bench.fleet("draw", root, "t.target", "old.service", "--dot", *FILES).lines(), [
+        "digraph plan {", '  label="t.target: 4 to start, 1 to stop (profile files)";', "  rankdir=LR;", "  node [shape=box, fontname=monospace];",
         '  "old.service" [label="old.service", color=red, fontcolor=red];', '  { rank=same; "old.service"; }',
         '  "b.service" [label="b.service"];', '  "c.service" [label="c.service"];', '  { rank=same; "b.service"; "c.service"; }',
         '  "a.service" [label="a.service"];', '  { rank=same; "a.service"; }', '  "t.target" [label="t.target", penwidth=2];',
@@ -73,26 +76,42 @@ def steps(bench):
     ])
 
 
+def triggers(bench):
+    """A plan by manager, worked by hand: what triggers another unit has a line to it, a slice has those of what requires it."""
+    root = bench.tree("a", {**SMALL, f"{U}/t.target": "[Unit]\nWants=a.service a.socket\n"})
+    text = bench.fleet("draw", root, "t.target").out.decode()
+    left = {name: spot[0] for name, (_, spot) in look(text).items()}
+    steps = [["b.service", "own.slice", "sysinit.target"], ["a.socket"], ["a.service"], ["t.target"]]
+    middle = {name: (spot[0] + spot[2]) / 2 for name, (_, spot) in look(text).items()}
+    same(sorted(left, key=lambda it: (round(middle[it]), it)), [it for step in steps for it in step])
+    same(lines_of(text), {"needs": 3, "wishes": 3, "triggers": 1})
+    same("t.target: 6 to start (profile manager)" in text, True)
+    dot = bench.fleet("draw", root, "t.target", "--dot").lines()
+    same([it for it in dot if '"triggers"' in it], ['  "a.socket" -> "a.service" [color="#8a5aa8", style=dashed, tooltip="triggers"];'])
+
+
 def behind_all(bench):
     """In the pictures of a tree and of 200 units each unit stands behind all for which it waits, in the order of the plan."""
     text = "[Unit]\nWants=u{0:03}.service\nAfter=u{0:03}.service u{1:03}.service\n"
     entries = {f"{U}/u{number:03}.service": text.format(number // 3, number * 7 // 11) for number in range(200)}
     many = bench.tree("many", {**entries, f"{U}/t.target": f"[Unit]\nWants={' '.join(f'u{it:03}.service' for it in range(200))}\n"})
-    for root, target, count in ((DEBIAN, "multi-user.target", 38), (many, "t.target", 201)):
-        boxes = look(bench.fleet("draw", root, target).out.decode())
-        plan = [it.partition(" ")[2] for it in bench.fleet("plan", root, target).lines()]
-        same((sorted(boxes), len(boxes)), (sorted(plan), count))
-        graph = model.asked_graph(store_of(root), None, [target])
+    for root, target, profile, count in ((DEBIAN, "multi-user.target", "files", 38), (DEBIAN, "multi-user.target", "manager", None),
+                                         (many, "t.target", "files", 201)):
+        boxes = look(bench.fleet("draw", root, target, "--profile", profile).out.decode())
+        head, *plan = bench.fleet("plan", root, target, "--profile", profile).lines()
+        plan = [it.partition(" ")[2] for it in plan]
+        same((sorted(boxes), len(boxes), head), (sorted(plan), count or len(plan), HEADS[profile]))
+        graph = model.asked_graph(store_of(root), None, [target], profile)
         for name in plan:
             same([it for it in graph.to(["After"], name) if it in boxes and boxes[it][1][2] >= boxes[name][1][0]], [], name)
 
 
 def faults(bench):
     """Where there is no plan, what is at fault is drawn: a cycle as a ring, a conflict with the ways that lead to it. Status 1."""
-    cycle = bench.fleet("draw", BROKEN, "multi-user.target", status=1).out.decode()
+    cycle = bench.fleet("draw", BROKEN, "multi-user.target", *FILES, status=1).out.decode()
     same({name: sort for name, (sort, _) in look(cycle).items()}, {f"{it}.service": "faulty" for it in ("first", "second", "third")})
     same(lines_of(cycle), {"waited": 3, "needs": 1, "wishes": 1})
-    conflict = bench.fleet("draw", BROKEN, "both.target", "--output", bench.path("both.svg"), status=1)
+    conflict = bench.fleet("draw", BROKEN, "both.target", "--output", bench.path("both.svg"), *FILES, status=1)
     with open(bench.path("both.svg"), encoding="utf-8") as file:
         text = file.read()
     same((conflict.out, {name: sort for name, (sort, _) in look(text).items()}),
@@ -102,8 +121,14 @@ def faults(bench):
         ("lacks", {"lacks.service": "asked", "gone.service": "faulty"}, {"needs": 1}), ("kind", {"kind.service": "faulty"}, {}),
         ("escape@.service", {"escape@.service": "faulty"}, {}),
     ):
-        text = bench.fleet("draw", BROKEN, name, status=1).out.decode()
+        text = bench.fleet("draw", BROKEN, name, *FILES, status=1).out.decode()
         same(({it: sort for it, (sort, _) in look(text).items()}, lines_of(text)), (boxes, lines), name)
+    # by manager the way to what most units require
+    ran = bench.fleet("draw", BROKEN, "multi-user.target", status=1)
+    same({it: sort for it, (sort, _) in look(ran.out.decode()).items()},
+         {"multi-user.target": "asked", "first.service": "starts", "sysinit.target": "faulty"})
+    same("multi-user.target: no plan: P2 NotFound sysinit.target: it has no file (profile manager)" in ran.out.decode(), True)
+    same(ran.told()[-1].startswith("plan of multi-user.target (profile manager): P2 NotFound sysinit.target: it has no file; "), True)
     text = bench.fleet("draw", DEBIAN, "example-broker", status=1).out.decode()
     boxes = look(text)
     same((sorted(boxes), lines_of(text)), (["dbus.service", "example-broker.service"], {"requisite": 1}))
@@ -116,17 +141,23 @@ def rings(bench):
         names = [f"unit-with-a-name-that-is-long-{number:02}.service" for number in range(count)]
         before = zip(names, [names[-1], *names])
         root = bench.tree(f"ring{count}", {f"{U}/{name}": f"[Unit]\nRequires={other}\nAfter={other}\n" for name, other in before})
-        text = bench.fleet("draw", root, names[0], status=1).out.decode()
+        text = bench.fleet("draw", root, names[0], *FILES, status=1).out.decode()
         same((sorted(look(text)), lines_of(text)), (names, {"waited": count, "needs": count}))
 
 
 def spelled(bench):
     """Names of any bytes stand in a picture as text."""
     root = bench.tree("a", {f"{U}/a\\x2d&.service": "x", f"{U}/a\\x2db.service": "[Unit]\nDescription=<&>\n"})
-    text = bench.fleet("draw", root, "a\\x2db.service").out.decode()
+    text = bench.fleet("draw", root, "a\\x2db.service", *FILES).out.decode()
     same((list(boxes_of(text)), re.findall("<title>.*</title>", text)), (["a\\x2db.service"], ["<title>a\\x2db.service</title>"]))
     same(list(boxes_of(bench.fleet("draw", root, "a<&b", status=1).out.decode())), ["a<&b.service"])
-    same('"a\\\\x2db.service"' in bench.fleet("draw", root, "a\\x2db.service", "--dot").out.decode(), True)
+    same('"a\\\\x2db.service"' in bench.fleet("draw", root, "a\\x2db.service", "--dot", *FILES).out.decode(), True)
 
 
-CASES = [steps, behind_all, faults, rings, spelled]
+def front(bench):
+    """The picture of README.md is what the tool draws."""
+    with open(os.path.join(ROOT, "docs", "plan.svg"), "rb") as picture:
+        same(bench.fleet("draw", DEBIAN, "app-wiki.service").out, picture.read())
+
+
+CASES = [steps, triggers, behind_all, faults, rings, spelled, front]

@@ -11,6 +11,10 @@ from .bench import FLEET, TREES, E, L, Link, R, U, same
 
 DEBIAN, WEB1, BROKEN = (os.path.join(TREES, it) for it in ("debian", "web1", "broken"))
 
+# The line at the head of what is printed by each profile, and the words that ask by files where a manager comes first.
+HEADS = {"files": "# profile files: what unit files say alone", "manager": "# profile manager: what unit files say and systemd's manager adds"}
+FILES = ("--profile", "files")
+
 
 def store_of(root, host=""):
     """What stands in a tree of tests/trees, read for the model."""
@@ -37,20 +41,23 @@ def modelled(call, *words):
 
 
 def as_the_model_says(bench):
-    """Each question about the tree of tests/trees is answered as the rules say, for the fleet and for a host."""
+    """Each question about the tree of tests/trees is answered as the rules say, for the fleet and for a host, by each profile."""
     store = {**store_of(DEBIAN), **store_of(WEB1, "web1:")}
     more = ["--with", f"web1={WEB1}"]
     asked = {None: ["app-shop-web.service", "default.target", "sshd.service"], "web1": ["nginx.service", "autovt@tty2.service"]}
+    plans = (("default.target", []), ("multi-user.target", ["rescue.service", "ssh.socket"]), ("app-wiki.service", ["postgresql.service"]))
     for host, words in ((None, more), ("web1", [*more, "--host", "web1"])):
         for name in asked[host]:
-            same(bench.fleet("show", DEBIAN, name, *words).lines(), modelled(model.show, store, host, name), f"show {name}")
             same(bench.fleet("cat", DEBIAN, name, *words).lines(), modelled(model.cat, store, host, name), f"cat {name}")
-        same(bench.fleet("list", DEBIAN, "graphical.target", *words, "--workers", "4").lines(),
-             modelled(model.list_pulled, store, host, "graphical.target"))
-        for name, running in (("default.target", []), ("multi-user.target", ["rescue.service", "ssh.socket"]),
-                              ("app-wiki.service", ["postgresql.service"])):
-            found = bench.fleet("plan", DEBIAN, name, *running, *words).lines()
-            same(found, modelled(model.plan, store, host, name, running), f"plan {name}")
+        for profile, head in HEADS.items():
+            by, graph = [*words, "--profile", profile], model.asked_graph(store, host, asked[host], profile)
+            for name in asked[host]:
+                same(bench.fleet("show", DEBIAN, name, *by).lines(), model.shown(graph, graph.mains[name])[:-1], f"show {name} {profile}")
+            same(bench.fleet("list", DEBIAN, "graphical.target", *by, "--workers", "4").lines(),
+                 modelled(model.list_pulled, store, host, "graphical.target", profile))
+            for name, running in plans if profile == "manager" or not host else plans[:1]:
+                found = bench.fleet("plan", DEBIAN, name, *running, *by).lines()
+                same(found, [head, *modelled(model.plan, store, host, name, running, profile)], f"plan {name} {profile}")
 
 
 def worked_by_hand(bench):
@@ -62,11 +69,11 @@ def worked_by_hand(bench):
         "Service.ProtectSystem=full", "Service.LimitNOFILE=262144", "After: network-online.target", "Wants: network-online.target",
         "WantedBy: multi-user.target",
     ])
-    same(bench.fleet("plan", DEBIAN, "app-wiki.service").lines(),
-         ["start postgresql@15-main.service", "start postgresql.service", "start app-wiki.service"])
-    same(bench.fleet("plan", DEBIAN, "ssh.service", "ssh.socket").lines(), ["stop ssh.socket", "start ssh.service"])
+    same(bench.fleet("plan", DEBIAN, "app-wiki.service", *FILES).lines(),
+         [HEADS["files"], "start postgresql@15-main.service", "start postgresql.service", "start app-wiki.service"])
+    same(bench.fleet("plan", DEBIAN, "ssh.service", "ssh.socket", *FILES).lines(), [HEADS["files"], "stop ssh.socket", "start ssh.service"])
     same(bench.fleet("cat", f"web1={WEB1}", "nginx").lines()[0], f"# web1:{E}/nginx.service")
-    starts = bench.fleet("plan", DEBIAN, "multi-user.target", *web1).lines()
+    starts = bench.fleet("plan", DEBIAN, "multi-user.target", *web1, *FILES).lines()
     same([it in starts for it in ("start cron.service", "start app-shop-worker.service", "start app-shop-web.service")], [False, False, True])
     same(bench.fleet("cat", DEBIAN, "autovt@tty2").lines()[-3:],
          [f"# {E}/getty@tty2.service.d/noclear.conf", "[Service]", "TTYVTDisallocate=no"])
@@ -75,17 +82,17 @@ def worked_by_hand(bench):
 def refusals(bench):
     """A refusal ends with status 1, is told in words, and prints nothing."""
     for words, told in (
-        (["plan", BROKEN, "first"], "plan of first.service: P8 Cycle first.service third.service second.service: they wait for each other: "
-         "first.service before third.service, third.service before second.service, second.service before first.service"),
-        (["plan", BROKEN, "both.target"], "plan of both.target: P7 Conflict day.service night.service: day.service and night.service conflict, "
-         "and both are required"),
-        (["plan", BROKEN, "lacks"], "plan of lacks.service: P2 NotFound gone.service: it has no file"),
+        (["plan", BROKEN, "first", *FILES], "plan of first.service (profile files): P8 Cycle first.service third.service second.service: they "
+         "wait for each other: first.service before third.service, third.service before second.service, second.service before first.service"),
+        (["plan", BROKEN, "both.target", *FILES], "plan of both.target (profile files): P7 Conflict day.service night.service: day.service and "
+         "night.service conflict, and both are required"),
+        (["plan", BROKEN, "lacks", *FILES], "plan of lacks.service (profile files): P2 NotFound gone.service: it has no file"),
         (["cat", BROKEN, "masked"], "cat of masked.service: P3 Masked masked.service: it is masked"),
         (["cat", BROKEN, "kind"], "cat of kind.service: P4 Bad kind.service: its link is bad"),
         (["show", BROKEN, "escape@.service"], "show of escape@.service: P1 Template: a template: ask for an instance of it"),
         (["list", BROKEN, "a!.service"], "list of a!.service: N4 BadByte 1"),
-        (["plan", DEBIAN, "shutdown.target"], "plan of shutdown.target: P5 ManualStart: it refuses to be started by hand"),
-        (["plan", DEBIAN, "example-broker"], "plan of example-broker.service: P6 Requisite example-broker.service dbus.service: "
+        (["plan", DEBIAN, "shutdown.target"], "plan of shutdown.target (profile manager): P5 ManualStart: it refuses to be started by hand"),
+        (["plan", DEBIAN, "example-broker"], "plan of example-broker.service (profile manager): P6 Requisite example-broker.service dbus.service: "
          "example-broker.service starts only where dbus.service runs already"),
     ):
         ran = bench.fleet(*words, status=1)
@@ -99,16 +106,17 @@ def what_runs(bench):
                             **{f"{U}/{it}.service": "[Unit]\n" for it in "abc"}})
     with open(bench.path("running"), "w", encoding="utf-8") as file:
         file.write("# what runs\nb.service loaded active running A service\n\n  n.service\n")
-    same(bench.fleet("plan", root, "t.target", "a", "--running-from", bench.path("running")).lines(), ["start c.service", "start t.target"])
-    same(bench.fleet("plan", root, "t.target", "--running-from", "-", input=b"c.service\n").lines(),
+    same(bench.fleet("plan", root, "t.target", "a", "--running-from", bench.path("running"), *FILES).lines()[1:],
+         ["start c.service", "start t.target"])
+    same(bench.fleet("plan", root, "t.target", "--running-from", "-", *FILES, input=b"c.service\n").lines()[1:],
          ["start a.service", "start b.service", "start t.target"])
 
 
 def wrong_units(bench):
-    """All that is wrong with a tree is told, a line each, with status 1."""
+    """All that is wrong with a tree is told, a line each, with status 1. By manager most units require what the tree lacks: that is one line."""
     notes = f"{U}/notes.service"
     cycle = "first.service before third.service, third.service before second.service, second.service before first.service"
-    same(bench.fleet("check", BROKEN, status=1).lines(), [
+    wrong = [
         "away.service: B4 Target: the link leads to no unit name",
         "escape@a\\x2.service: Unit.Description: K5 BadEscape: a specifier for what can't be unescaped; the value is passed over",
         "kind.service: B1 Kind: the link leads to another kind of unit, or is of a kind without aliases",
@@ -120,35 +128,69 @@ def wrong_units(bench):
         "notes.service: Unit.RefuseManualStart: K4 BadBoolean: neither yes nor no",
         "notes.service: Unit.Wants: K6 BadName: a word that is no unit name; it is passed over",
         "shape.service: B2 Shape: the link leads from a plain name, a template or an instance to one that doesn't fit",
-        f"multi-user.target: no plan: P8 Cycle first.service third.service second.service: they wait for each other: {cycle}",
+    ]
+    last = "what isn't modelled, and what to expect of it: docs/SYSTEMD.md"
+    same(bench.fleet("check", BROKEN, *FILES, status=1).lines(), [
+        HEADS["files"], *wrong, f"multi-user.target: no plan: P8 Cycle first.service third.service second.service: they wait for each other: {cycle}",
         "not modelled: DefaultDependencies= never off: 11 units", "not modelled: targets that systemd starts after all that they pull: 2 units",
-        "18 units, 15 things wrong", "what isn't modelled, and what to expect of it: docs/SYSTEMD.md",
+        "18 units, 15 things wrong", last,
     ])
-    same(bench.fleet("check", BROKEN, "both.target", status=1).lines()[14][:57], "both.target: no plan: P7 Conflict day.service night.servi")
+    same(bench.fleet("check", BROKEN, "both.target", *FILES, status=1).lines()[15][:57], "both.target: no plan: P7 Conflict day.service night.servi")
+    # beside the 18 units: -.slice, system.slice and -.mount, the slice of an instance, the journal's socket, and three targets
+    same(bench.fleet("check", BROKEN, status=1).lines(), [
+        HEADS["manager"], *wrong, "sysinit.target: P2 NotFound: it has no file, and 9 units require it; it is of systemd's own package, and most "
+        "units require it by default, which --profile files leaves out", "multi-user.target: no plan: P2 NotFound sysinit.target: it has no file",
+        "not modelled: settings by which systemd refuses a unit, as a service without ExecStart=: 8 units", "26 units, 16 things wrong", last,
+    ])
 
 
 def nothing_wrong(bench):
     """The tree of tests/trees has nothing wrong; what it uses that isn't modelled is counted."""
-    found = bench.fleet("check", DEBIAN)
-    units = model.Units(store_of(DEBIAN), None).load([])[1]
-    same((found.err, found.lines()[-2]), (b"", f"{len(units)} units, 0 things wrong"))
-    same([it for it in found.lines() if not it.startswith("not modelled: ")], found.lines()[-2:])
-    counted = dict(it.removeprefix("not modelled: ").rsplit(": ", 1) for it in found.lines()[:-2])
-    same(counted["DefaultDependencies= never off"], "45 units")
-    same(counted["specifiers of the machine, which stay as they are written"], "1 file")
-    same(counted["what stands in .upholds folders"], "1 place")
+    counts = {}
+    for profile, head in HEADS.items():
+        found = bench.fleet("check", DEBIAN, "--profile", profile)
+        units = model.Units(store_of(DEBIAN), None, profile).load([])[1]
+        same((found.err, found.lines()[0], found.lines()[-2]), (b"", head, f"{len(units)} units, 0 things wrong"))
+        same([it for it in found.lines()[1:] if not it.startswith("not modelled: ")], found.lines()[-2:])
+        counts[profile] = dict(it.removeprefix("not modelled: ").rsplit(": ", 1) for it in found.lines()[1:-2])
+    same(counts["files"]["DefaultDependencies= never off"], "45 units")
+    same(counts["files"]["specifiers of the machine, which stay as they are written"], "1 file")
+    same(counts["files"]["what stands in .upholds folders"], "1 place")
+    same(counts["manager"], {
+        "devices of the machine, which start at once here": "2 units", "specifiers of the machine, which stay as they are written": "1 file",
+        "StopPropagatedFrom=, PropagatesStopTo=, OnSuccess= and JoinsNamespaceOf=": "1 unit",
+    })
+
+
+def without_a_file(bench):
+    """What systemd makes without a file isn't there by files and is by manager, and nothing is wrong with it."""
     made = {f"{U}/t.target": "[Unit]\nDefaultDependencies=no\nRequires=a.device\n", f"{U}/u.service": "[Unit]\nBindsTo=a.device b.slice\n"}
-    ran = bench.fleet("check", bench.tree("made", made), "t.target", status=1)
-    same(ran.lines()[:3], ["t.target: no plan: P2 NotFound a.device: it has no file", "not modelled: DefaultDependencies= never off: 1 unit",
-                           "not modelled: requirements of devices or slices without a file: 2 units"])
+    root = bench.tree("made", made)
+    same(bench.fleet("check", root, "t.target", *FILES, status=1).lines()[1:4], [
+        "t.target: no plan: P2 NotFound a.device: it has no file", "not modelled: DefaultDependencies= never off: 1 unit",
+        "not modelled: requirements of devices or slices without a file: 2 units",
+    ])
+    off = {f"{E}/u.service.d/off.conf": "[Unit]\nDefaultDependencies=no\n[Service]\nExecStart=/u\n"}
+    # beside these four what always runs, the journal's socket, and the target before which a slice stops
+    same(bench.fleet("check", bench.tree("made", off), "t.target").lines(), [
+        HEADS["manager"], "not modelled: devices of the machine, which start at once here: 1 unit", "9 units, 0 things wrong",
+        "what isn't modelled, and what to expect of it: docs/SYSTEMD.md",
+    ])
+    same(bench.fleet("plan", root, "u").lines()[1:], ["start a.device", "start b.slice", "start u.service"])
+    # no slice is made of a name that is no way down from the root slice
+    odd = bench.tree("odd", {f"{U}/t.target": "[Unit]\nDefaultDependencies=no\nRequires=a--b.slice\n"})
+    same(bench.fleet("check", odd, "t.target", status=1).lines()[1], "t.target: Requires=a--b.slice: P2 NotFound: it has no file")
+    same(bench.fleet("check", odd, "t.target", *FILES, status=1).lines()[1:3], [
+        "t.target: no plan: P2 NotFound a--b.slice: it has no file", "not modelled: requirements of devices or slices without a file: 1 unit",
+    ])
     plain = bench.tree("plain", {f"{U}/a.service": "[Unit]\nDefaultDependencies=no\nDescription=100%%Hosts %n\n# %H\n"})
-    ran = bench.fleet("check", plain)
-    same((ran.lines(), ran.told()), (["1 unit, 0 things wrong"],
+    ran = bench.fleet("check", plain, *FILES)
+    same((ran.lines(), ran.told()), ([HEADS["files"], "1 unit, 0 things wrong"],
                                      ["neither default.target nor multi-user.target is there, and no target is named: no plan is looked at"]))
 
 
 def what_is_counted(bench):
-    """Of each thing that isn't modelled it is told how many units, files or places have it."""
+    """Of each thing that isn't modelled by files it is told how many units, files or places have it."""
     off = "[Unit]\nDefaultDependencies=off\n"
     root = bench.tree("a", {
         f"{U}/a.service": off + "Upholds=b.service\nDescription=%%H %n\n[Service]\nBusName=x\nWorkingDirectory=%S/x\n", f"{U}/b.service": off,
@@ -157,7 +199,7 @@ def what_is_counted(bench):
         f"{E}/a.service.upholds/b.service": Link("../b.service"), f"{E}/service.wants/b.service": Link("../b.service"),
         f"{E}/a.service.d/x.conf": Link("y.conf"), "/run/systemd/transient/t.service": "",
     })
-    same(bench.fleet("check", root, "a", status=1).lines()[1:-2], [f"not modelled: {it}" for it in (
+    same(bench.fleet("check", root, "a", *FILES, status=1).lines()[2:-2], [f"not modelled: {it}" for it in (
         "DefaultDependencies= never off: 1 unit", "targets that systemd starts after all that they pull: 1 unit",
         "settings that pull, stop or order and aren't read, as Upholds= or RequiresMountsFor=: 2 units",
         "settings that imply dependencies, as Slice= or BusName=: 1 unit",
@@ -170,19 +212,20 @@ def what_is_counted(bench):
 
 
 def asked_once(bench):
-    """A check of 400 units, instances among them, runs the program once; units that only a specifier names take another run."""
+    """A check of 400 units, instances among them, runs the program once, also where a specifier alone names units."""
     entries = {f"{U}/u{number}.service": f"[Unit]\nAfter=u{number - 1}.service\nWants=i@{number % 99}.service\n" for number in range(299)}
     root = bench.tree("a", {**entries, f"{U}/i@.service": "[Unit]\n", f"{U}/multi-user.target": "[Unit]\nWants=u5.service\n",
                             f"{E}/multi-user.target.wants/i@x.service": Link("../i@.service")})
     program, count = bench.counting()
-    ran = bench.fleet("check", root, env={"FLEET_SHELL": program})
-    with open(count, encoding="utf-8") as file:
-        same(file.read(), "run\n")
+    ran = bench.fleet("check", root, *FILES, env={"FLEET_SHELL": program})
     # u-1.service has no file, and is nothing that a unit requires
     same(ran.lines()[-2], f"{299 + 99 + 1 + 1 + 1} units, 0 things wrong")
+    wanted = len(model.Units(store_of(root), None, "manager").load([])[1])
+    ran = bench.fleet("check", root, env={"FLEET_SHELL": program}, status=1)
+    same(ran.lines()[-2], f"{wanted} units, 1 thing wrong")
     more = bench.tree("b", {f"{U}/a@.service": "[Unit]\nRequires=b@%i.service\n", f"{U}/t.target": "[Unit]\nWants=a@1.service\n"})
-    ran = bench.fleet("check", more, "t.target", env={"FLEET_SHELL": program}, status=1)
-    same(ran.lines()[0], "a@1.service: Requires=b@1.service: P2 NotFound: it has no file")
+    ran = bench.fleet("check", more, "t.target", *FILES, env={"FLEET_SHELL": program}, status=1)
+    same(ran.lines()[1], "a@1.service: Requires=b@1.service: P2 NotFound: it has no file")
     with open(count, encoding="utf-8") as file:
         same(file.read(), "run\n" * 3)
 
@@ -191,11 +234,11 @@ def progress_of_answers(bench):
     """Where standard error is a terminal, a line there tells how many questions are asked, and goes."""
     root = bench.many("a", 300, "[Unit]\n" + "Description=a long line\n" * 20)
     terminal, end = os.openpty()
-    ran = bench.fleet("check", root, "u00001", stderr=end)
+    ran = bench.fleet("check", root, "u00001", *FILES, stderr=end)
     os.close(end)
     shown = os.read(terminal, 100_000).decode()
     os.close(terminal)
-    same((ran.lines()[-2], shown.startswith("\r\x1b[Kasking the program: 301 questions"), shown.endswith("\r\x1b[K")),
+    same((ran.lines()[-2], shown.startswith("\r\x1b[Kasking the program: 2 questions"), shown.endswith("\r\x1b[K")),
          ("300 units, 0 things wrong", True, True), repr(shown))
 
 
@@ -215,7 +258,8 @@ def differences(bench):
         f"{L}/a.service": "[Unit]\nAfter=b.service\nWants=n.service\nDescription=other\n[Service]\nE=2\nE=1\n", f"{E}/b.service": "",
         f"{U}/c.service": "[Unit]\n", f"{U}/same.service": "\n[Unit]\nDescription = same\n", f"{R}/a.service.d/x.conf": "[X]\nY=Z\n",
     })
-    same(bench.fleet("diff", one, other, status=1).lines(), [
+    same(bench.fleet("diff", one, other, *FILES, status=1).lines(), [
+        HEADS["files"],
         "a.service", f"  - status: loaded {U}/a.service", f"  + status: loaded {L}/a.service", "  + drop-ins: " + f"{R}/a.service.d/x.conf",
         "  - Unit.Description: one", "  + Unit.Description: other", "  - Service.E: 1, 2", "  + Service.E: 2, 1", "  + X.Y: Z",
         "  - After: c.service", "  + Wants: n.service",
@@ -234,6 +278,7 @@ def words_that_are_no_words(bench):
         (["frob"], "invalid choice"),
         (["plan", DEBIAN], "required: UNIT"), (["show", DEBIAN, "x", "--host", "a_b"], "no host's name"),
         (["import", DEBIAN, "--node", "a-b"], "no node's name"), (["import", DEBIAN, "--writer", "4294967296"], "over 4294967295"),
+        (["plan", DEBIAN, "x", "--profile", "none"], "invalid choice"), (["cat", DEBIAN, "x", "--profile", "files"], "unrecognized arguments"),
         (["merge", "a-b=x"], "a-b: no node's name"), (["merge", "n=x", "n=y"], "n: two nodes of this name"),
     ):
         ran = bench.fleet(*words, status=2)
@@ -278,5 +323,5 @@ def unproved(bench):
     same(ran.told(), ["list: --unproved needs Rattle's `rt` on the path"])
 
 
-CASES = [as_the_model_says, worked_by_hand, refusals, what_runs, wrong_units, nothing_wrong, what_is_counted, asked_once, progress_of_answers,
-         too_many_units, differences, words_that_are_no_words, without_the_program, unproved]
+CASES = [as_the_model_says, worked_by_hand, refusals, what_runs, wrong_units, nothing_wrong, without_a_file, what_is_counted, asked_once,
+         progress_of_answers, too_many_units, differences, words_that_are_no_words, without_the_program, unproved]

@@ -9,8 +9,10 @@ from .refusals import Refusal, refusal_of
 
 # The kinds of dependencies in the order in which the program prints them, and those that units name.
 EDGE_KINDS = ("Before", "After", "Wants", "WantedBy", "Requires", "RequiredBy", "Requisite", "RequisiteOf", "BindsTo", "BoundBy", "PartOf",
-              "ConsistsOf", "Conflicts", "ConflictedBy", "OnFailure", "OnFailureOf", "PropagatesReloadTo", "ReloadPropagatedFrom")
+              "ConsistsOf", "Conflicts", "ConflictedBy", "OnFailure", "OnFailureOf", "PropagatesReloadTo", "ReloadPropagatedFrom",
+              "Upholds", "UpheldBy", "Triggers", "TriggeredBy", "InSlice", "SliceOf")
 NEEDING = ("Requires", "BindsTo")
+WISHING = ("Wants", "Upholds")
 
 NAME = r"[A-Za-z0-9:\-_.\\@]+"
 EDGE_LINE = re.compile("(" + "|".join(EDGE_KINDS) + f"): ({NAME}(?: {NAME})*)")
@@ -22,6 +24,7 @@ class UnitStatus(Enum):
     """What stands for a unit's name."""
 
     LOADED = "loaded"
+    BUILT_IN = "built-in"  # without a file, as a manager has devices, slices and the root mount
     NOT_FOUND = "not-found"
     MASKED = "masked"
     BAD = "bad"
@@ -58,6 +61,10 @@ class Unit:
         for setting, value in self.values:
             found.setdefault(setting, []).append(value)
         return found
+
+    def is_loaded(self):
+        """Whether it is there, by a file or without one."""
+        return self.status in (UnitStatus.LOADED, UnitStatus.BUILT_IN)
 
     def status_words(self):
         """Its status as the program prints it."""
@@ -122,6 +129,18 @@ class Answers:
         """A unit, or a refusal."""
         lines = self.block()
         return lines if isinstance(lines, Refusal) else unit_of(lines)
+
+    def units(self):
+        """All units that are loaded, by name, or a refusal."""
+        found = {}
+        while True:
+            unit = self.block()
+            if isinstance(unit, Refusal):
+                return unit
+            if not unit:
+                return found
+            unit = unit_of(unit)
+            found[unit.name] = unit
 
     def plan(self):
         """A plan, or a refusal."""

@@ -8,6 +8,7 @@ from . import verbs
 from .checks import TARGETS
 from .faults import Fault, Status, printable
 from .places import HOST, HOST_RULE, NODE, NODE_RULE, WORD, unit_asked
+from .profiles import Profile
 from .progress import Progress
 
 ABOUT = """Reads the unit load path below each ROOT (/etc, /run, /usr/local/lib and /usr/lib/systemd/system), puts it into a store,
@@ -76,6 +77,13 @@ def of_tree():
     return made
 
 
+def add_profile(made, first):
+    """Adds the word that says the profile, and which one comes first."""
+    made.add_argument("--profile", choices=[it.value for it in Profile], default=first.value,
+                      help="manager: what files say and what systemd's manager adds, as default dependencies; files: what files say alone "
+                           f"({first.value})")
+
+
 def add_running(made):
     """Adds the words that say what runs."""
     made.add_argument("running", nargs="*", type=unit, metavar="RUNNING", help="units that run already")
@@ -119,26 +127,34 @@ def add_verbs_of_units(found):
                         ("cat", "print a unit's file and its drop-ins"), ("list", "print what a unit pulls, each with its distance")):
         made = add(found, name, verbs.ask, [of_tree(), asking()], about)
         made.add_argument("unit", type=unit, metavar="UNIT", help="a unit; without a kind a service")
+        if name == "cat":
+            made.set_defaults(profile=Profile.FILES.value)
+        else:
+            add_profile(made, Profile.FILES)
 
     made = add(found, "plan", verbs.plan, [of_tree(), asking()], "print what stops and what starts, in order, where a unit is to start",
-               "docs/SYSTEMD.md says what plans leave out.")
+               "A line at the head says by which profile. docs/SYSTEMD.md says what plans leave out.")
     made.add_argument("unit", type=unit, metavar="UNIT", help="the unit that is to start")
     add_running(made)
+    add_profile(made, Profile.MANAGER)
 
     made = add(found, "check", verbs.check, [of_tree(), asking()], "print what is wrong with a tree's units, a line each",
                "Notes on files and settings, bad links, requirements that can't be met, and why a target has no plan; "
                "then what isn't modelled, counted.")
+    add_profile(made, Profile.MANAGER)
     made.add_argument("target", nargs="?", type=unit, metavar="TARGET", help=f"whose plan is looked at ({', else '.join(TARGETS)})")
 
     made = add(found, "diff", verbs.diff, [of_store(), asking()], "print which units differ between two trees, field by field",
                "Status 1 where some do.")
     made.add_argument("root", metavar="ROOT", help="a tree")
     made.add_argument("other", metavar="ROOT", help="another")
+    add_profile(made, Profile.MANAGER)
 
     made = add(found, "draw", verbs.draw, [of_tree(), asking()], "draw the plan of a unit as SVG, a column for each step",
                "Where there is no plan, the cycle or the conflict is drawn. Lay the pointer on a unit to read its ties.")
     made.add_argument("unit", type=unit, metavar="TARGET", help="the unit that is to start")
     add_running(made)
+    add_profile(made, Profile.MANAGER)
     made.add_argument("--dot", action="store_true", help="write DOT text instead, for Graphviz")
     made.add_argument("--output", metavar="FILE", help="where to write it, instead of standard output")
 

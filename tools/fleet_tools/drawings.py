@@ -13,17 +13,19 @@ text { font: 12px "DejaVu Sans Mono", Menlo, Consolas, monospace; fill: #1b2733 
 rect.box { fill: #ffffff; stroke: #54687a } .asked rect.box { fill: #dcebfb; stroke: #1d5fa8; stroke-width: 2 }
 .stops rect.box, .faulty rect.box { fill: #fdeaea; stroke: #c62828; stroke-width: 1.5 } .stops text, .faulty text { fill: #a31515 }
 path { fill: none } .needs { stroke: #2c4a68; stroke-width: 1.3 } .wishes { stroke: #5f8f5a; stroke-dasharray: 5 3 }
-.order { stroke: #9aa6b2; stroke-dasharray: 1 3 } .conflict, .waited, .requisite { stroke: #c62828; stroke-width: 2 }
+.order { stroke: #9aa6b2; stroke-dasharray: 1 3 } .triggers { stroke: #8a5aa8; stroke-dasharray: 8 3 }
+.conflict, .waited, .requisite { stroke: #c62828; stroke-width: 2 }
 .many path { opacity: 0.6 } .many path.pale { opacity: 0.25 }
 """
-ARROWS = {Tie.NEEDS: "#2c4a68", Tie.WISHES: "#5f8f5a", Tie.ORDER: "#9aa6b2", Tie.WAITED: "#c62828", Tie.REQUISITE: "#c62828"}
+ARROWS = {Tie.NEEDS: "#2c4a68", Tie.WISHES: "#5f8f5a", Tie.ORDER: "#9aa6b2", Tie.WAITED: "#c62828", Tie.REQUISITE: "#c62828",
+          Tie.TRIGGERS: "#8a5aa8"}
 A_GREAT_MANY = 60  # lines: where a picture has more, all are paler
 BEND = 26  # between the lines of two units in a ring
 MOST_WISHES = 12  # of one unit: where it has more, they are paler still
 
 DOT_STYLES = {
     Tie.NEEDS: 'color="#2c4a68"', Tie.WISHES: 'color="#5f8f5a", style=dashed', Tie.ORDER: 'color="#9aa6b2", style=dotted',
-    Tie.CONFLICT: 'color=red, dir=none', Tie.WAITED: "color=red", Tie.REQUISITE: "color=red",
+    Tie.TRIGGERS: 'color="#8a5aa8", style=dashed', Tie.CONFLICT: "color=red, dir=none", Tie.WAITED: "color=red", Tie.REQUISITE: "color=red",
 }
 
 

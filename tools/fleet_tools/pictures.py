@@ -3,7 +3,7 @@ from dataclasses import dataclass
 from enum import Enum
 from typing import Tuple
 
-from .answers import NEEDING
+from .answers import NEEDING, WISHING
 
 TYING = ("Requires", "Requisite", "BindsTo", "PartOf")
 # Refusals that are about the way from the target to some units.
@@ -24,6 +24,7 @@ class Tie(Enum):
 
     NEEDS = "requires"
     WISHES = "wishes for"
+    TRIGGERS = "triggers"
     ORDER = "starts before"
     CONFLICT = "conflicts with"
     WAITED = "must start before"
@@ -99,12 +100,14 @@ def orders_of(start, units):
 
 
 def lines_of(names, units):
-    """The lines of requirement and wish among these units."""
+    """The lines of requirement and wish among these units, and of what triggers another one that isn't tied to it so. What is in a slice
+    requires it, so that slices have lines too."""
     found = {}
-    for tie, kinds in ((Tie.NEEDS, NEEDING), (Tie.WISHES, ("Wants",))):
+    for tie, kinds in ((Tie.NEEDS, NEEDING), (Tie.WISHES, WISHING), (Tie.TRIGGERS, ("Triggers",))):
         for name in names:
             for other in (it for kind in kinds for it in units[name].to(kind) if it in names):
-                found.setdefault((name, other), Line(name, other, tie))
+                if tie is not Tie.TRIGGERS or (other, name) not in found:
+                    found.setdefault((name, other), Line(name, other, tie))
     return list(found.values())
 
 

@@ -68,6 +68,18 @@ def is_template(name):
     return stem.find("@") == len(stem) - 1
 
 
+def path_named(name):
+    """The path after which a mount, an automount, a swap or a device is named."""
+    stem = name.rpartition(".")[0]
+    return "/" + re.sub(r"\\x([0-9A-Fa-f]{2})|-", lambda it: chr(int(it[1], 16)) if it[1] else "/", stem)
+
+
+def whole_path(path):
+    """A path without empty parts and dots, a character for each byte of it."""
+    spelled = path.encode("utf-8", "surrogateescape").decode("latin-1") if not path.isascii() else path
+    return [it for it in spelled.split("/") if it not in ("", ".")]
+
+
 def is_asked(name):
     """Whether one may ask what this name comes to: a unit name, and no template's."""
     return is_unit_name(name) and not is_template(name)

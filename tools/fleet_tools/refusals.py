@@ -2,6 +2,8 @@
 from dataclasses import dataclass
 from typing import Tuple
 
+from .profiles import hint
+
 
 @dataclass(frozen=True)
 class Refusal:
@@ -10,6 +12,11 @@ class Refusal:
     code: str
     name: str
     told: Tuple[str, ...]
+
+    def reason(self, profile):
+        """The refusal, and what helps a reader to whom it comes by this profile."""
+        more = hint(profile, self.told[0]) if self.code in ("P2", "P3", "P4") else ""
+        return f"{self}; {more}" if more else str(self)
 
     def __str__(self):
         words = SENTENCES.get(self.code)
@@ -33,6 +40,7 @@ SENTENCES = {
     "P6": lambda name, other: f"{name} starts only where {other} runs already",
     "P7": lambda one, other: f"{one} and {other} conflict, and both are required",
     "P8": cycle_words,
+    "X1": lambda: "the program is older than these tools: build it anew",
 }
 
 # Why the link of a unit is bad.

@@ -1,28 +1,49 @@
-"""What of a tree this store's rules leave out, counted; docs/SYSTEMD.md says what a reader of a plan must expect of each."""
+"""What of a tree the program's rules leave out or read otherwise, counted; docs/SYSTEMD.md says what a reader of a plan must expect of each.
+What the rules leave out by a profile is a table of it."""
 import re
 
 from .answers import NEEDING, UnitStatus
-from .places import KINDS, Link
+from .places import KINDS, Link, path_named, whole_path
+from .profiles import Profile
+from .refusals import Refusal
+from .trees import Grade
 
 PAGE = "docs/SYSTEMD.md"
 
-# Settings that pull, stop or order units for systemd, and are ordinary values here.
+# Settings that pull, stop or order units for systemd, and by files are ordinary values.
 FURTHER = ("Upholds", "OnSuccess", "PropagatesStopTo", "StopPropagatedFrom", "JoinsNamespaceOf", "RequiresMountsFor", "BindTo",
            "PropagateReloadTo", "PropagateReloadFrom")
+# Those of them that are also left out by manager, and the old spellings of others.
+PROPAGATING = ("StopPropagatedFrom", "PropagatesStopTo", "OnSuccess", "JoinsNamespaceOf")
+OLD_SPELLINGS = ("BindTo", "PropagateReloadTo", "PropagateReloadFrom")
 # Settings that give a unit dependencies of their own accord, beside those that come by default.
 IMPLYING = ("Slice", "BusName", "PAMName", "WorkingDirectory", "RootDirectory", "RootImage", "StateDirectory", "CacheDirectory",
             "LogsDirectory", "RuntimeDirectory", "ConfigurationDirectory", "PrivateTmp", "StandardInput", "StandardOutput", "StandardError",
             "TTYPath", "Sockets", "Socket", "Service", "Unit")
 TRIGGERING = (".socket", ".timer", ".path", ".automount")
+PROCESSES = ("service", "socket", "mount", "swap")
 
 OFF = ("0", "no", "false", "off")
 # A specifier that isn't one of those that are read.
 MACHINE = re.compile(rb"(?<!%)(?:%%)*%(?![nNpPiIjJ])[A-Za-z]")
-DEPENDENCY = re.compile(
-    rb"(?m)^[ \t]*(?:Before|After|Wants|Requires|Requisite|BindsTo|PartOf|Conflicts|OnFailure|PropagatesReloadTo|ReloadPropagatedFrom)"
-    rb"[ \t]*=(?:[^\n]*\\\n)*[^\n]*[\"']"
-)
+# A list of units, or by manager of paths too, with a quote.
+LISTS = b"Before|After|Wants|Requires|Requisite|BindsTo|PartOf|Conflicts|OnFailure|PropagatesReloadTo|ReloadPropagatedFrom"
+LISTS_OF_MANAGER = LISTS + b"|Upholds|RequiresMountsFor"
+QUOTED = rb"(?m)^[ \t]*(?:%b)[ \t]*=(?:[^\n]*\\\n)*[^\n]*[\"']"
 COMMENT = re.compile(rb"(?m)^[ \t]*[#;].*$")
+
+# ---- of units
+
+
+def kind_of(unit):
+    """The type of a unit."""
+    return unit.name.rpartition(".")[2]
+
+
+def values_of(unit, *keys):
+    """The values of keys in the section of the unit's type."""
+    settings = unit.settings()
+    return [it for key in keys for it in settings.get(f"{kind_of(unit).capitalize()}.{key}", [])]
 
 
 def has_defaults(unit):
@@ -46,7 +67,66 @@ def is_ordering_target(unit):
     return unit.name.endswith(".target") and has_defaults(unit) and any(unit.to(kind) for kind in ("Wants", "Requires"))
 
 
-OF_UNITS = (
+def is_made(unit):
+    """Whether no file stands for a unit that systemd makes without one."""
+    return unit.status is UnitStatus.NOT_FOUND and unit.name.endswith((".device", ".slice"))
+
+
+def is_device(unit):
+    """Whether a unit is a device, for which no file stands."""
+    return unit.status is UnitStatus.BUILT_IN and unit.name.endswith(".device")
+
+
+def is_of_initrd(unit):
+    """Whether a unit is for the initial RAM disk alone."""
+    settings = unit.settings()
+    return any("/etc/initrd-release" in settings.get(f"Unit.{key}", []) for key in ("ConditionPathExists", "AssertPathExists"))
+
+
+def names_init(unit):
+    """Whether a unit has to do with the manager's own scope."""
+    return any("init.scope" in names for names in unit.edges.values())
+
+
+def is_killable(unit):
+    """Whether systemd-oomd may kill a unit, which then pulls it."""
+    return any(values_of(unit, key)[-1:] == ["kill"] for key in ("ManagedOOMSwap", "ManagedOOMMemoryPressure"))
+
+
+def has_earlier_slice(unit):
+    """Whether a unit sets a slice, and later another one."""
+    return len(set(values_of(unit, "Slice"))) > 1
+
+
+def is_bad_service(unit):
+    """Whether a service lacks a command to start without staying up by itself, or has several and isn't of the type that runs them in turn."""
+    commands = values_of(unit, "ExecStart")
+    if commands:
+        return len(commands) > 1 and values_of(unit, "Type")[-1:] != ["oneshot"]
+    is_kept = values_of(unit, "ExecStop") and values_of(unit, "RemainAfterExit")[-1:] not in ([], *([it] for it in OFF))
+    return not (is_kept or unit.settings().get("Unit.SuccessAction"))
+
+
+def is_bad(unit):
+    """Whether systemd refuses a unit that has a file, since it lacks a setting of its type or is named after another path than it says."""
+    if unit.status is not UnitStatus.LOADED:
+        return False
+    kind = kind_of(unit)
+    if kind == "service":
+        return is_bad_service(unit)
+    heads = tuple(f"{kind.capitalize()}.{it}" for it in NEEDED_KEYS.get(kind, ()))
+    if heads and not any(key.startswith(heads) for key, _ in unit.values):
+        return True
+    said = values_of(unit, PATH_KEYS[kind])[-1:] if kind in PATH_KEYS else []
+    return bool(said) and whole_path(said[0]) != whole_path(path_named(unit.name))
+
+
+# What the keys begin with of which a unit of a type has one, and the keys that say the path after which a unit is named.
+NEEDED_KEYS = {"socket": ("Listen",), "timer": ("On",), "path": ("Path", "DirectoryNotEmpty"), "mount": ("What",)}
+PATH_KEYS = {"mount": "Where", "automount": "Where", "swap": "What"}
+
+# What by each profile is left out of units: what it is, and whether a unit has it.
+BY_FILES = (
     ("DefaultDependencies= never off", has_defaults),
     ("targets that systemd starts after all that they pull", is_ordering_target),
     ("settings that pull, stop or order and aren't read, as Upholds= or RequiresMountsFor=", lambda it: has_key(it, FURTHER)),
@@ -54,16 +134,43 @@ OF_UNITS = (
     ("sockets, timers, paths and automounts, whose trigger isn't followed", is_triggering),
     ("[Install], which says what `systemctl enable` would link", lambda it: any(key.startswith("Install.") for key, _ in it.values)),
 )
-
-OF_FILES = (
-    ("specifiers of the machine, which stay as they are written", lambda it: MACHINE.search(COMMENT.sub(b"", it))),
-    ("quotes in dependency lists, which are read as part of a name", lambda it: DEPENDENCY.search(COMMENT.sub(b"", it))),
+BY_MANAGER = (
+    ("devices of the machine, which start at once here", is_device),
+    ("init.scope, which the manager makes for itself", names_init),
+    ("units of the initial RAM disk, where the manager adds otherwise", is_of_initrd),
+    ("what systemd-oomd may kill, by which it is pulled", is_killable),
+    ("images, for which modprobe@ is pulled", lambda it: kind_of(it) in PROCESSES and bool(values_of(it, "RootImage"))),
+    ("settings by which systemd refuses a unit, as a service without ExecStart=", is_bad),
+    ("an earlier Slice= before the last, which stays required", has_earlier_slice),
+    ("StopPropagatedFrom=, PropagatesStopTo=, OnSuccess= and JoinsNamespaceOf=", lambda it: has_key(it, PROPAGATING)),
 )
 
+# ---- of files and folders
 
-def is_made(unit):
-    """Whether no file stands for a unit that systemd makes without one."""
-    return unit.status is UnitStatus.NOT_FOUND and unit.name.endswith((".device", ".slice"))
+SPECIFIERS = "specifiers of the machine, which stay as they are written"
+QUOTES = "quotes in dependency lists, which are read as part of a name"
+LINKS_OF_TYPES = "folders of links for a type, as service.wants"
+
+
+def files_with(trees, pattern):
+    """How many files have this outside of comments."""
+    contents = (content for tree in trees for content in tree.entries.values() if not isinstance(content, Link))
+    return sum(bool(re.search(pattern, COMMENT.sub(b"", it))) for it in contents)
+
+
+def places_in(trees, is_meant):
+    """How many places are in folders that are meant."""
+    return sum(is_meant(place.folder) for tree in trees for place in tree.entries)
+
+
+def is_of_type(folder):
+    """Whether this is a folder of links for all units of a type."""
+    return folder in {f"{kind}.{ending}" for kind in KINDS for ending in ("wants", "requires")}
+
+
+def not_taken(trees):
+    """How many places the store doesn't have as they are."""
+    return sum(tree.count(Grade.LEFT_OUT) + tree.count(Grade.UNREAD) for tree in trees)
 
 
 def needs_made(unit, units):
@@ -71,19 +178,27 @@ def needs_made(unit, units):
     return any(is_made(units[it]) for kind in NEEDING for it in unit.to(kind))
 
 
-def counted(units, trees):
-    """How often a tree uses each of these things, for those that it uses."""
-    loaded = [it for it in units.values() if it.status is UnitStatus.LOADED]
-    entries = [(place, content) for tree in trees for place, content in tree.entries.items()]
-    files = [content for _, content in entries if not isinstance(content, Link)]
-    rows = [(what, "unit", sum(map(test, loaded))) for what, test in OF_UNITS]
-    rows.append(("requirements of devices or slices without a file", "unit", sum(needs_made(it, units) for it in loaded)))
-    rows += [(what, "file", sum(bool(test(it)) for it in files)) for what, test in OF_FILES]
-    rows.append(("what stands in .upholds folders", "place", sum(place.folder.endswith(".upholds") for place, _ in entries)))
-    rows.append(("folders of links for a type, as service.wants", "link", sum(is_of_type(place.folder) for place, _ in entries)))
-    return [(what, of, count) for what, of, count in rows if count]
+# ---- what is told
 
 
-def is_of_type(folder):
-    """Whether this is a folder of links for all units of a type."""
-    return folder in {f"{kind}.{ending}" for kind in KINDS for ending in ("wants", "requires")}
+def left_out_by(profile, units, trees, beside, planned):
+    """How often trees use what a profile leaves out: rows of what it is, of what is counted, and how many. What stands beside their unit
+    folders is counted already."""
+    loaded = [it for it in units.values() if it.is_loaded()]
+    rows = [(what, "unit", sum(map(has, loaded))) for what, has in (BY_FILES if profile is Profile.FILES else BY_MANAGER)]
+    if profile is Profile.FILES:
+        return [*rows, ("requirements of devices or slices without a file", "unit", sum(needs_made(it, units) for it in loaded)),
+                (SPECIFIERS, "file", files_with(trees, MACHINE)), (QUOTES, "file", files_with(trees, QUOTED % LISTS)),
+                ("what stands in .upholds folders", "place", places_in(trees, lambda it: it.endswith(".upholds"))),
+                (LINKS_OF_TYPES, "link", places_in(trees, is_of_type)), ("left out of the store", "place", not_taken(trees))]
+    is_cycle = isinstance(planned, Refusal) and planned.code == "P8"
+    return [*rows, (SPECIFIERS, "file", files_with(trees, MACHINE)), *beside, ("cycles, of which systemd drops a job", "plan", int(is_cycle))]
+
+
+def read_otherwise(profile, units, trees):
+    """The same of what files say and systemd reads otherwise, where a profile doesn't count it as left out."""
+    if profile is Profile.FILES:
+        return []
+    return [("old spellings of settings, as BindTo=", "unit", sum(has_key(it, OLD_SPELLINGS) for it in units.values())),
+            (QUOTES, "file", files_with(trees, QUOTED % LISTS_OF_MANAGER)), (LINKS_OF_TYPES, "link", places_in(trees, is_of_type)),
+            ("left out of the store", "place", not_taken(trees))]

@@ -1,10 +1,12 @@
 """What each verb of `fleet` does: it is given the words of the call and a line of progress, and gives the exit status."""
 import sys
+from dataclasses import replace
 
 from . import checks, diffs, drawings, exports, merges, pictures
 from .asking import Store
 from .faults import Fault, Status, printable
 from .places import HOST, HOST_RULE
+from .profiles import Profile
 from .program import program_of
 from .refusals import Refusal
 from .scripts import node_of, script_of
@@ -79,7 +81,7 @@ def store_of(asked, progress, roots):
     program = program_of(asked.unproved)
     trees = read_trees(roots, progress)
     host = asked.host or (trees[0].host if len(trees) == 1 else "")
-    return Store(program, progress, trees, host or None, asked.workers)
+    return Store(program, progress, trees, host or None, asked.workers, Profile(asked.profile))
 
 
 def answered(asked, progress, words):
@@ -101,21 +103,27 @@ def running_of(asked):
 
 def ask(asked, progress):
     """`fleet show`, `cat` and `list`: one question of one unit."""
-    return say_answer(answered(asked, progress, (asked.verb, asked.unit)), asked)
-
-
-def plan(asked, progress):
-    """`fleet plan`: what stops and what starts."""
-    return say_answer(answered(asked, progress, ("plan", asked.unit, *running_of(asked))), asked)
-
-
-def say_answer(answer, asked):
-    """Prints an answer, or tells why there is none."""
+    answer = answered(asked, progress, (asked.verb, asked.unit))
     if isinstance(answer, Refusal):
         tell(f"{asked.verb} of {asked.unit}: {answer}")
         return Status.WRONG
     say(answer)
     return Status.WELL
+
+
+def plan(asked, progress):
+    """`fleet plan`: what stops and what starts."""
+    answer, profile = answered(asked, progress, ("plan", asked.unit, *running_of(asked))), Profile(asked.profile)
+    if isinstance(answer, Refusal):
+        tell_refused(asked, answer, profile)
+        return Status.WRONG
+    say([profile.head(), *answer])
+    return Status.WELL
+
+
+def tell_refused(asked, refusal, profile):
+    """Tells why there is no plan."""
+    tell(f"plan of {asked.unit} {profile.clause()}: {refusal.reason(profile)}")
 
 
 def check(asked, progress):
@@ -126,7 +134,9 @@ def check(asked, progress):
     if not target:
         tell(f"neither {' nor '.join(checks.TARGETS)} is there, and no target is named: no plan is looked at")
     found = checks.check(store, target)
-    say([*found.wrong, *found.unmodelled, *checks.summary(found)])
+    for it in found.unread:
+        tell(it)
+    say([store.profile.head(), *found.wrong, *found.left_out, *checks.summary(found)])
     return Status.WRONG if found.wrong else Status.WELL
 
 
@@ -155,7 +165,7 @@ def diff(asked, progress):
         tell_counts(it.trees)
     one, other = (it.all_units()[0] for it in stores)
     lines = list(diffs.differences(one, other))
-    say(lines)
+    say([stores[0].profile.head(), *lines] if lines else [])
     return Status.WRONG if lines else Status.WELL
 
 
@@ -164,11 +174,12 @@ def picture_of(asked, store):
     planned = store.asked([("plan", asked.unit, *running_of(asked))]).plan()
     if not isinstance(planned, Refusal):
         return pictures.picture_of_plan(asked.unit, planned, store.units([*planned.stop, *planned.start])), Status.WELL
-    tell(f"plan of {asked.unit}: {planned}")
+    tell_refused(asked, planned, store.profile)
     named = pictures.named_in(planned)
     units = store.units([*dict.fromkeys([asked.unit, *named])]) if named else {}
     if planned.code in pictures.ON_THE_WAY:
-        units = store.reached(units, [pictures.main_name(asked.unit, units), *named], pictures.NEEDING)
+        known = {**store.all_units()[0], **units}
+        units = store.reached(known, [pictures.main_name(asked.unit, units), *named], pictures.NEEDING)
     return pictures.picture_of_refusal(asked.unit, planned, units), Status.WRONG
 
 
@@ -177,6 +188,7 @@ def draw(asked, progress):
     store = store_of(asked, progress, [asked.root, *asked.more])
     tell_counts(store.trees)
     picture, status = picture_of(asked, store)
+    picture = replace(picture, title=f"{picture.title} {store.profile.clause()}")
     text = drawings.dot(picture) if asked.dot else drawings.svg(picture)
     if asked.output:
         with open(asked.output, "w", encoding="utf-8") as file:
