@@ -1,10 +1,7 @@
 -- Nested maps that hold the same are equal.
 use Rattle.std.proofs.Common.{◌≡◌}
-use Rattle.path_maps.proofs.Prelude.{[], all_held, ap, AreFolders, AreNames, AreRanks, AreScopes, At, below_refl, both_up, bytes_cmp, Content, content_cmp, content_cmp-IsAntisymmetric, content_cmp_total, EntryMap, Equal, find, FolderMap, folders_chain, folders_itself, FoldersBelow, get-held, IsBelow, IsUpTo, List, look_up, look_up_place, map_chain, maps_one, NameMap, names_chain, NamesBelow, nat_cmp, nat_cmp-IsAntisymmetric, nat_cmp_total, nat_list_cmp_total, Never, never_least, None, Option, OptionBelow, or_empty, PathParts, PlaceParts, RankMap, RanksBelow, scope_cmp, scope_cmp-IsAntisymmetric, scope_cmp_total, ScopeMap, ScopesBelow, slice_cmp-IsAntisymmetric, Some, subst, sym, Versioned, within, written_at, ℕ, ◌∙◌}
+use Rattle.path_maps.proofs.Prelude.{[], all_held, ap, AreFolders, AreRanks, AreScopes, At, below_refl, bytes_cmp, Content, content_cmp, EntryMap, find, FolderMap, folders_chain, folders_itself, folders_one, FoldersBelow, get-held, IsBelow, IsUpTo, List, look_up, look_up_place, map_chain, maps_one, NameMap, names_chain, NamesBelow, nat_cmp, nat_cmp-IsAntisymmetric, nat_cmp_total, Never, never_least, None, Option, OptionBelow, or_empty, PathParts, PlaceParts, RankMap, RanksBelow, scope_cmp, scope_cmp-IsAntisymmetric, scope_cmp_total, ScopeMap, ScopesBelow, Some, subst, sym, Versioned, within, written_at, ℕ, ◌∙◌}
 use Rattle.std.specs.FinMap as finmap
-
-bytes_same : (x y : List ℕ) → bytes_cmp x y ≡ Equal → x ≡ y
-bytes_same = slice_cmp-IsAntisymmetric nat_cmp-IsAntisymmetric
 
 pub no_names : (z : NameMap) → NamesBelow [] z
 no_names z = record { at = λ q. tt }
@@ -40,15 +37,6 @@ ranks_from a b h = record { at = λ r. by (find nat_cmp r a) (find nat_cmp r b) 
     by (Some x) (Some y) h = folders_from x y h
 
 -- ---- so maps that hold the same are equal
-
-leaf_one : (x y : Versioned Content) → Unit {0} → Unit {0} → IsUpTo content_cmp x y × IsUpTo content_cmp y x → x ≡ y
-leaf_one x y p q both = both_up content_cmp content_cmp_total content_cmp-IsAntisymmetric x y both.0 both.1
-
-names_one : (x y : NameMap) → AreNames x → AreNames y → NamesBelow x y × NamesBelow y x → x ≡ y
-names_one = maps_one bytes_cmp (IsUpTo content_cmp) nat_list_cmp_total (λ _. Unit {0}) bytes_same leaf_one
-
-folders_one : (x y : FolderMap) → AreFolders x → AreFolders y → FoldersBelow x y × FoldersBelow y x → x ≡ y
-folders_one = maps_one bytes_cmp NamesBelow nat_list_cmp_total AreNames bytes_same names_one
 
 ranks_one : (x y : RankMap) → AreRanks x → AreRanks y → RanksBelow x y × RanksBelow y x → x ≡ y
 ranks_one = maps_one nat_cmp FoldersBelow nat_cmp_total AreFolders nat_cmp-IsAntisymmetric folders_one

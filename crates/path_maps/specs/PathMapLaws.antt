@@ -1,6 +1,6 @@
 -- What the map from paths to entries holds, and what look-ups find in joins of nested maps.
 use Rattle.std.proofs.Common.{◌↔◌, ◌∷◌, ◌≡◌}
-use Rattle.path_maps.specs.Prelude.{[], AllHeld, ap, At, cond, Content, content_cmp, content_cmp-IsAntisymmetric, content_cmp_total, eq_by_cmp, Equal, false, find, is_eq, is_sorted, IsBelow, IsBetween, IsJoin, IsTrue, IsUpTo, larger, leaf_below, leaf_between, leaf_bounds, leaf_join, Less, level_below, level_between, level_bounds, level_join, List, map_chain, map_itself, map_union, max_joins, nat_cmp, nat_cmp-IsAntisymmetric, nat_cmp_total, nat_list_cmp_total, Never, None, Option, option_and_then, or_empty, Ordering, ordering_then, path_cmp, path_cmp-IsAntisymmetric, PathParts, refl, slice_cmp-IsAntisymmetric, Some, subst, sym, tied_itself, to_T, true, union_joins, up_to_chain, up_to_itself, Versioned, versioned_max, written, written_at, ℕ, ◌∙◌}
+use Rattle.path_maps.specs.Prelude.{[], AllHeld, ap, At, both_up, cond, Content, content_cmp, content_cmp-IsAntisymmetric, content_cmp_total, eq_by_cmp, Equal, false, find, is_eq, is_sorted, IsBelow, IsBetween, IsJoin, IsTrue, IsUpTo, larger, leaf_below, leaf_between, leaf_bounds, leaf_join, Less, level_below, level_between, level_bounds, level_join, List, map_chain, map_itself, map_union, maps_one, max_joins, nat_cmp, nat_cmp-IsAntisymmetric, nat_cmp_total, nat_list_cmp_total, Never, None, Option, option_and_then, or_empty, Ordering, ordering_then, path_cmp, path_cmp-IsAntisymmetric, PathParts, refl, slice_cmp-IsAntisymmetric, Some, subst, sym, tied_itself, to_T, true, union_joins, union_keeps, up_to_chain, up_to_itself, Versioned, versioned_max, written, written_at, ℕ, ◌∙◌}
 use Rattle.path_maps.specs.{PathMaps.{AreFolders, AreNames, AreRanks, at_name, bytes_cmp, flat, FolderMap, FoldersBelow, in_folder, in_rank, listed, look_up, NameMap, NamesBelow, RankMap, RanksBelow}, Spread.{AllKeys, AllValues, spread}, SpreadLaws.{all_keys-append, all_keys_weaker, find-spread, sorted-spread}}
 use Rattle.std.specs.FinMap as finmap
 
@@ -173,6 +173,22 @@ folders_union = map_union bytes_cmp names_union
 
 pub folders_joins : (x y : FolderMap) → IsJoin FoldersBelow x y (folders_union x y)
 folders_joins = union_joins bytes_cmp nat_list_cmp_total NamesBelow names_union names_joins
+
+names_keep : (x y : NameMap) → AreNames x → AreNames y → AreNames (names_union x y)
+names_keep x y a b =
+    union_keeps bytes_cmp nat_list_cmp_total (IsUpTo content_cmp) (λ _. Unit {0}) leaf_union leaf_joins leaf_chain leaf_itself (λ _ _ _ _. tt) x y a b.held
+
+pub folders_keep : (x y : FolderMap) → AreFolders x → AreFolders y → AreFolders (folders_union x y)
+folders_keep x y a b =
+    union_keeps bytes_cmp nat_list_cmp_total NamesBelow AreNames names_union names_joins names_chain names_itself names_keep x y a b.held
+
+names_one : (x y : NameMap) → AreNames x → AreNames y → NamesBelow x y × NamesBelow y x → x ≡ y
+names_one =
+    maps_one bytes_cmp (IsUpTo content_cmp) nat_list_cmp_total (λ _. Unit {0}) bytes_same
+    (λ x y _ _ both. both_up content_cmp content_cmp_total content_cmp-IsAntisymmetric x y both.0 both.1)
+
+pub folders_one : (x y : FolderMap) → AreFolders x → AreFolders y → FoldersBelow x y × FoldersBelow y x → x ≡ y
+folders_one = maps_one bytes_cmp NamesBelow nat_list_cmp_total AreNames bytes_same names_one
 
 -- If one map is below another, what the first holds at a path is at most what the second holds there.
 pub look_up_below : (a b : RankMap) → RanksBelow a b → (q : PathParts) → IsBelow (look_up a q) (look_up b q)

@@ -1,9 +1,11 @@
 //! The places of a store at which an older store shows something else.
-ghost use Rattle.std.specs.Prelude.{◌≡◌, [], IfOk, IsOk};
+ghost use Rattle.std.specs.{Prelude.{◌≡◌, [], IfOk, IsOk}, Option.{option_copied}};
 ghost use Rattle.std.specs.FinMap as finmap;
-ghost use Rattle.path_maps.specs.{Zipped.{zipped}, Changes.{additions}, Together.{differing_zipped}};
+ghost use Rattle.path_maps.specs.{Zipped.{zipped}, Changes.{additions}, Together.{differ, differing_zipped, shown_zipped}};
 
+use crate::places::Placed;
 use crate::stores::Store;
+use edit_sums::Entry;
 use load_places::Place;
 use std::alloc::AllocError;
 
@@ -30,16 +32,22 @@ pub(crate) fn find_unlike(store: &Store, older: &Store) -> Result<Unlike, AllocE
         added: 0,
     };
     while let Some((placed, held)) = both.next_entry() {
-        let differs = match held {
-            Some(entry) => placed.entry().content != entry.content,
-            None => {
-                found.added += 1;
-                placed.visible().is_some()
-            }
-        };
-        if differs {
+        if held.is_none() {
+            found.added += 1;
+        }
+        if differs(&placed, held) {
             found.places.push(placed.place()?)?;
         }
     }
     Ok(found)
+}
+
+// Whether an entry shows something else than what an older store holds at its place. Compares contents, not versions.
+fn differs(placed: &Placed<'_>, held: Option<&Entry>) -> bool
+    ensures differs { result ≡ differ (shown_zipped (placed.now, option_copied held.entry)) }
+{
+    match held {
+        Some(entry) => placed.entry().content != entry.content,
+        None => placed.visible().is_some(),
+    }
 }

@@ -5,8 +5,8 @@ ghost use Rattle.path_maps.specs.{Cursors.{or_nothing}, Folders.{path_at}, PathM
 ghost use Rattle.edit_sums.specs.{Entries.{Entry}, Sums.{shown}};
 
 use crate::cursors::next_of;
+use crate::folders::NameMap;
 use crate::nested::{Names, names_of};
-use crate::stores::NameMap;
 use edit_sums::{Content, Entry};
 use load_path::Path;
 use plain_values::{Bytes, order};

@@ -17,6 +17,7 @@ mod counts;
 mod cursors;
 mod differences;
 mod entries;
+mod folders;
 mod held;
 mod laws;
 mod levels;
@@ -30,8 +31,9 @@ mod stores;
 mod together;
 mod view;
 
+pub use folders::{FolderMap, NameMap};
 pub use laws::host_view_laws;
 pub use places::{Entries, Placed};
 pub use places_zipped::Zipped;
-pub use stores::{FolderMap, NameMap, RankMap, ScopeMap, Store};
+pub use stores::{RankMap, ScopeMap, Store};
 pub use view::{HostView, HostViewEntries, HostViewEntry};

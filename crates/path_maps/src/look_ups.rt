@@ -5,7 +5,8 @@ ghost use Rattle.join_law.specs.Maps.{or_empty};
 ghost use Rattle.load_places.specs.{Places.{scope_cmp}, declared.places.Scope.TheVariants.{Host}};
 ghost use Rattle.path_maps.specs.{Folders.{IsPlaceOf}, PathMaps.{bytes_cmp}, PlaceMaps.{IsFoundAt}};
 
-use crate::stores::{NameMap, RankMap, ScopeMap};
+use crate::folders::NameMap;
+use crate::stores::{RankMap, ScopeMap};
 use load_places::{HostName, Scope};
 use plain_values::{Bytes, order};
 use std::cmp::Ordering;

@@ -10,10 +10,11 @@ ghost use Rattle.path_maps.specs.{Folders.{path_at}, Kept.{HasWellFormedPaths}, 
 
 use crate::cursors::{Cursor, Nested};
 use crate::entries::PathEntry;
+use crate::folders::{FolderMap, NameMap};
 use crate::levels::{Level, Pair, Pairs, Reading};
 use crate::others::OtherMap;
 use crate::places::Placed;
-use crate::stores::{FolderMap, NameMap, RankMap, ScopeMap};
+use crate::stores::{RankMap, ScopeMap};
 use edit_sums::Content;
 use join_law::Versioned;
 use load_places::Scope;

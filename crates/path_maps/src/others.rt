@@ -5,8 +5,9 @@ ghost use Rattle.edit_sums.specs.Entries.{Entry};
 ghost use Rattle.join_law.specs.{Maps.{or_empty}, VersionOrder.{written_at}};
 ghost use Rattle.path_maps.specs.{PathMaps.{bytes_cmp, RankMap}, PlaceMaps.{ranks_of}};
 
+use crate::folders::{FolderMap, NameMap};
 use crate::meets::meet;
-use crate::stores::{NameMap, RankMap, ScopeMap};
+use crate::stores::{RankMap, ScopeMap};
 use edit_sums::{Content, Entry};
 use join_law::{Join, JoinMap, Versioned};
 use load_places::Scope;
@@ -75,6 +76,20 @@ impl<'a, V: Join> Others<'a, V> {
     }
 }
 
+impl<'a> Others<'a, NameMap> {
+    // Takes the folders of a rank; none where there is no rank.
+    fn of_rank(folders: Option<&'a FolderMap>) -> Self
+        ensures pairs { result ≡ or_empty (option_copied folders.entry) }
+    {
+        match folders {
+            None => Others { left: &[] },
+            Some(folders) => Others {
+                left: folders.pairs(),
+            },
+        }
+    }
+}
+
 impl<'a> OtherMap<Bytes> for Others<'a, Versioned<Content>> {
     type Held = HeldEntry<'a>;
 
@@ -124,9 +139,9 @@ impl<'a> OtherMap<u8> for OtherRanks<'a> {
 
     fn meet(&mut self, key: &u8) -> Others<'a, NameMap> {
         let Some(ranks) = self.ranks else {
-            return Others::of(None);
+            return Others::of_rank(None);
         };
-        Others::of(ranks.get(key))
+        Others::of_rank(ranks.get(key))
     }
 }
 

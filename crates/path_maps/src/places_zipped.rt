@@ -4,10 +4,11 @@ ghost use Rattle.load_places.specs.Places.{PlaceParts};
 ghost use Rattle.path_maps.specs.{Cursors.{left_of}, Kept.{HasWellFormedPaths}, PlaceMaps.{all_listed, look_up_place}, Zipped.{Compared, zipped}};
 
 use crate::cursors::Cursor;
+use crate::folders::NameMap;
 use crate::nested::{Places, places_of};
 use crate::others::{OtherRanks, Others};
 use crate::places::Placed;
-use crate::stores::{NameMap, ScopeMap};
+use crate::stores::ScopeMap;
 use edit_sums::{Content, Entry};
 use join_law::Versioned;
 use std::marker::Model;

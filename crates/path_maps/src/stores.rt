@@ -13,6 +13,7 @@ ghost use Rattle.path_maps.specs.{Scopes.{scope_of}, HostLaws.{HoldsNothing, Sho
 use crate::changes::{count_changes, find_news};
 use crate::counts::{Counts, count_entries};
 use crate::differences::find_unlike;
+use crate::folders::{AddInFolder, FolderMap, OverwriteInFolder};
 use crate::held::Held;
 use crate::look_ups::host_at;
 use crate::places::{Entries, places_in};
@@ -24,15 +25,8 @@ use join_law::{
     AddAt, AddValue, Addition, Change, ChangeAt, Join, JoinMap, Overwrite, Rest, Version, Versioned,
 };
 use load_places::{HostName, Place, Scope, Viewer};
-use plain_values::Bytes;
 use std::alloc::{AllocError, Global};
 use std::marker::Model;
-
-/// The contents of one folder by name.
-pub type NameMap = JoinMap<Bytes, Versioned<Content>>;
-
-/// The contents of one directory by folder and name; the empty folder has the paths of one component.
-pub type FolderMap = JoinMap<Bytes, NameMap>;
 
 /// The contents of all directories by rank, folder and name.
 pub type RankMap = JoinMap<u8, FolderMap>;
@@ -295,11 +289,13 @@ impl Store {
             key: scope,
             addition: AddAt {
                 key: rank,
-                addition: AddAt {
-                    key: folder,
+                addition: AddInFolder {
                     addition: AddAt {
-                        key: name,
-                        addition: AddValue { value },
+                        key: folder,
+                        addition: AddAt {
+                            key: name,
+                            addition: AddValue { value },
+                        },
                     },
                 },
             },
@@ -331,7 +327,7 @@ impl Store {
         };
         let at_rank = ChangeAt {
             key: &rank,
-            change: at_folder,
+            change: OverwriteInFolder { change: at_folder },
         };
         let removal = ChangeAt {
             key: &place.scope,
