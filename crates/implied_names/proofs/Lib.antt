@@ -1,4 +1,5 @@
 pub mod Prelude
+mod Changed
 mod Growth
 mod Texts
 mod Values

@@ -57,9 +57,13 @@ has f key = list_any (is_at (section_of f) key) f.rows
 abbrev pub last_boolean : List Text → Option Bool
 last_boolean values = last_of (filter_map boolean values)
 
--- that of a key is true
+-- that of a key in a section is true
+abbrev pub yes_in : List Row → Text → Text → Bool
+yes_in rows section key = unwrap_or (last_boolean (values_in rows section key)) false
+
+-- that of a key of the unit's type
 abbrev pub yes : Facts → Text → Bool
-yes f key = unwrap_or (last_boolean (values_of f key)) false
+yes f key = yes_in f.rows (section_of f) key
 
 -- the words of the values of a key in a section
 abbrev pub words_in : List Row → Text → Text → List Text

@@ -1,6 +1,6 @@
 //! What a manager adds of itself to a loaded unit.
 ghost use Rattle.std.specs.Prelude.{◌≡◌, ◌++◌, IfOk, OnOk, map};
-ghost use Rattle.implied_names.specs.{Additions.{counted_for, has_defaults_by, mounts_by, name_for, names_for, unless_device, with_implied, with_names}, Prelude.{Before}};
+ghost use Rattle.implied_names.specs.{Additions.{counted_for, has_defaults_by, mounts_by, name_for, names_for, unless_device, with_implied, with_names}, Prelude.{Before, Manager}};
 
 use crate::implied::Implied;
 use plain_values::Items;
@@ -38,33 +38,44 @@ impl Additions {
                 has_defaults: false,
                 mounts: Items::new(alloc),
             }),
-            Profile::Manager => {
-                let implied = Implied::of(alloc, unit, rows)?;
-                let old = mem::replace(lists, Items::new(alloc));
-                *lists = with_all(alloc, old, implied.names.as_slice())?;
-                Ok(Additions {
-                    has_defaults: implied.has_defaults,
-                    mounts: implied.mounts,
-                })
-            },
+            Profile::Manager => Additions::implied(alloc, unit, rows, lists),
         }
+    }
+
+    // Adds what the unit implies.
+    fn implied(
+        alloc: Global,
+        unit: &UnitName,
+        rows: &[Row],
+        lists: &mut Items<DependencyList>,
+    ) -> Result<Additions, AllocError>
+        ensures lists { IfOk result (λ _. lists.new ≡ with_implied Manager unit.now rows.now lists.old) }
+        ensures defaults { IfOk result (λ it. it.has_defaults ≡ has_defaults_by Manager unit.now rows.now) }
+        ensures mounts { IfOk result (λ it. it.mounts ≡ mounts_by Manager unit.now rows.now) }
+    {
+        let implied = Implied::of(alloc, unit, rows)?;
+        let mut all = mem::replace(lists, Items::new(alloc)).into_vec();
+        add_to_all(alloc, &mut all, implied.names.as_slice())?;
+        *lists = Items::from_vec(all);
+        Ok(Additions {
+            has_defaults: implied.has_defaults,
+            mounts: implied.mounts,
+        })
     }
 }
 
-// Lists with implied names, each with those of its kind.
-fn with_all(
+// Adds implied names to lists, to each those of its kind.
+fn add_to_all(
     alloc: Global,
-    lists: Items<DependencyList>,
+    lists: &mut [DependencyList],
     implied: &[(DepKind, UnitName)],
-) -> Result<Items<DependencyList>, AllocError>
-    ensures lists { IfOk result (λ all. all ≡ map (with_names implied.now) lists) }
+) -> Result<(), AllocError>
+    ensures lists { OnOk result (lists.new ≡ map (with_names implied.now) lists.old) }
 {
-    let mut all = Items::new(alloc);
-    for mut list in lists.into_vec() {
-        add_implied(alloc, &mut list, implied)?;
-        all.push(list)?;
+    for list in lists.iter_mut() {
+        add_implied(alloc, list, implied)?;
     }
-    Ok(all)
+    Ok(())
 }
 
 // Adds to a list the implied names of its kind.
@@ -75,29 +86,31 @@ fn add_implied(
 ) -> Result<(), AllocError>
     ensures list { OnOk result (list.new ≡ with_names implied.now list.old) }
 {
-    let mut names = mem::replace(&mut list.names, Items::new(alloc));
-    names.append(of_kind(alloc, list.kind, implied)?)?;
+    add_of_kind(list.kind, implied, &mut list.names)?;
+    if list.names.as_slice().is_empty() {
+        return Ok(());
+    }
+    let names = mem::replace(&mut list.names, Items::new(alloc));
     list.names = counted(alloc, list.kind, in_byte_order(names.into_vec()))?;
     Ok(())
 }
 
-// The implied names of a kind.
-fn of_kind(
-    alloc: Global,
+// Adds the implied names of a kind.
+fn add_of_kind(
     kind: DepKind,
     implied: &[(DepKind, UnitName)],
-) -> Result<Items<UnitName>, AllocError>
-    ensures names { IfOk result (λ names. names ≡ names_for implied.now kind) }
+    names: &mut Items<UnitName>,
+) -> Result<(), AllocError>
+    ensures added { OnOk result (names.new ≡ names.old ++ names_for implied.now kind) }
 {
-    let mut names = Items::new(alloc);
     for entry in implied {
-        add_of_kind(kind, entry, &mut names)?;
+        add_if_of_kind(kind, entry, names)?;
     }
-    Ok(names)
+    Ok(())
 }
 
 // Adds an implied name if it is of this kind.
-fn add_of_kind(
+fn add_if_of_kind(
     kind: DepKind,
     entry: &(DepKind, UnitName),
     names: &mut Items<UnitName>,

@@ -1,6 +1,6 @@
 //! What the values of a unit say: those of keys in the section of its type.
 ghost use Rattle.std.specs.{List.{list_any}, Option.{option_copied}, Prelude.{◌≡◌, IfOk, map}, Str.{bytes_eq}};
-ghost use Rattle.implied_names.specs.Facts.{is_at, is_one_of, last_boolean, last_of, section_word, values_in, words_in};
+ghost use Rattle.implied_names.specs.Facts.{is_at, is_one_of, last_boolean, last_of, section_word, values_in, words_in, yes_in};
 
 use setting_rules::{Row, boolean, words as words_of};
 use std::alloc::{AllocError, Global};
@@ -81,6 +81,19 @@ pub(crate) fn boolean_in(
 {
     let values = values_in(alloc, rows, section, key)?;
     Ok(last_boolean(&values))
+}
+
+/// Returns whether the last of them that spells a boolean is true.
+pub(crate) fn yes_in(
+    alloc: Global,
+    rows: &[Row],
+    section: &[u8],
+    key: &[u8],
+) -> Result<bool, AllocError>
+    ensures test { IfOk result (λ test. test ≡ yes_in rows.now section.now key.now) }
+{
+    let said = boolean_in(alloc, rows, section, key)?;
+    Ok(said.unwrap_or(false))
 }
 
 // Returns the last of these that spells a boolean.

@@ -1,8 +1,9 @@
 //! All that a unit implies.
-ghost use Rattle.std.specs.{List.{flat_map}, Prelude.{IfOk, OnOk, ◌++◌, ◌≡◌}};
+ghost use Rattle.std.specs.{List.{filter_map, flat_map}, Prelude.{[], IfOk, OnOk, ◌++◌, ◌∷◌, ◌≡◌}};
 ghost use Rattle.implied_names.specs.Implied.{by_kinds, default_names, given_by, has_defaults as has_defaults_by, implied_names, mounts_of};
-ghost use Rattle.implied_names.specs.{Sources.{names_from}, Tables.{kinds_of}};
+ghost use Rattle.implied_names.specs.{Sources.{found_by, named, names_from}, Tables.{kinds_of}};
 
+use crate::named::named;
 use crate::needed_paths::NeededPaths;
 use crate::roles::Role;
 use crate::sources::Source;
@@ -12,6 +13,9 @@ use plain_values::Items;
 use setting_rules::{DepKind, Row, in_byte_order};
 use std::alloc::{AllocError, Global};
 use unit_name::UnitName;
+
+// Room for as many names as most units imply.
+const USUAL: usize = 12;
 
 /// What a unit implies.
 #[derive(Drop)]
@@ -37,7 +41,7 @@ impl Implied {
         ensures mounts { IfOk result (λ it. it.mounts ≡ mounts_of (record { unit = unit.now; rows = rows.now })) }
     {
         let facts = Facts::of(alloc, unit, rows)?;
-        let has_defaults = facts.has_defaults(alloc)?;
+        let has_defaults = facts.has_defaults();
         let names = names_of(alloc, &facts)?;
         let needed = NeededPaths::of(alloc, &facts)?;
         Ok(Implied {
@@ -53,7 +57,7 @@ impl Implied {
 fn names_of(alloc: Global, facts: &Facts) -> Result<Vec<(DepKind, UnitName)>, AllocError>
     ensures names { IfOk result (λ names. names.items ≡ implied_names facts.now) }
 {
-    let mut names = Vec::new(alloc);
+    let mut names = Vec::with_capacity(alloc, USUAL)?;
     add_table(alloc, facts, implied_table(), &mut names)?;
     add_defaults(alloc, facts, &mut names)?;
     Ok(names)
@@ -67,7 +71,7 @@ fn add_defaults(
 ) -> Result<(), AllocError>
     ensures added { OnOk result (names.new.items ≡ names.old.items ++ default_names facts.now) }
 {
-    if facts.has_defaults(alloc)? {
+    if facts.has_defaults() {
         add_table(alloc, facts, default_table(), names)?;
     }
     Ok(())
@@ -100,10 +104,42 @@ fn add_names(
 ) -> Result<(), AllocError>
     ensures added { OnOk result (names.new.items ≡ names.old.items ++ flat_map (by_kinds (kinds_of ways)) (names_from facts.now source)) }
 {
-    for name in facts.names(alloc, source)? {
-        add_by(ways.kinds(), &name, names)?;
+    match source.fixed_name() {
+        Some(text) => add_text(alloc, facts.unit(), ways.kinds(), text, names),
+        None => add_texts(alloc, facts, ways.kinds(), source, names),
+    }
+}
+
+// Adds the units that a source finds, by some kinds.
+fn add_texts(
+    alloc: Global,
+    facts: &Facts,
+    kinds: &[DepKind],
+    source: Source,
+    names: &mut Vec<(DepKind, UnitName)>,
+) -> Result<(), AllocError>
+    ensures added { OnOk result (names.new.items ≡ names.old.items ++ flat_map (by_kinds kinds.now) (filter_map (named facts.now.unit) (found_by facts.now source))) }
+{
+    for text in facts.found(alloc, source)? {
+        add_text(alloc, facts.unit(), kinds, &text, names)?;
     }
     Ok(())
+}
+
+// Adds the unit that a unit means by a text, by some kinds, if it is a name.
+fn add_text(
+    alloc: Global,
+    unit: &UnitName,
+    kinds: &[DepKind],
+    text: &[u8],
+    names: &mut Vec<(DepKind, UnitName)>,
+) -> Result<(), AllocError>
+    ensures added { OnOk result (names.new.items ≡ names.old.items ++ flat_map (by_kinds kinds.now) (filter_map (named unit.now) (text.now ∷ []))) }
+{
+    match named(alloc, unit, text)? {
+        Some(name) => add_by(kinds, &name, names),
+        None => Ok(()),
+    }
 }
 
 // Adds a name by some kinds.

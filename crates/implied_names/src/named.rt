@@ -21,24 +21,6 @@ pub(crate) fn named(
     }
 }
 
-/// Adds the unit that a unit means by a text, if it is a name. Fails only if memory runs out.
-pub(crate) fn add_named(
-    alloc: Global,
-    unit: &UnitName,
-    text: &[u8],
-    names: &mut Vec<UnitName>,
-) -> Result<(), AllocError>
-    ensures added { OnOk result (names.new.items ≡ names.old.items ++ filter_map (named unit.now) (text.now ∷ [])) }
-{
-    match named(alloc, unit, text)? {
-        Some(name) => {
-            names.push(name)?;
-            Ok(())
-        }
-        None => Ok(()),
-    }
-}
-
 /// Returns the last of some texts that is the name of a unit of a type, and no template's.
 pub(crate) fn last_named<'s>(
     alloc: Global,

@@ -121,7 +121,7 @@ impl NeededPaths {
     fn add_private(&mut self, facts: &Facts) -> Result<(), AllocError>
         ensures added { OnOk result (self.new ≡ self.old ++ private_paths facts.now) }
     {
-        if facts.is_private(self.alloc)? {
+        if facts.is_private() {
             self.add(b"/var/tmp")?;
         }
         Ok(())

@@ -2,7 +2,7 @@
 ghost use Rattle.std.specs.{Option.{option_copied}, Prelude.{codes, IfOk, ◌≡◌}};
 ghost use Rattle.implied_names.specs.Facts.{last};
 ghost use Rattle.unit_name.specs.Names.{kind};
-ghost use Rattle.implied_names.specs.Roles.{default_output, has_role, inherits_journal, is_logging, is_open_input, is_private, is_process, is_service, keeps, output, said_output};
+ghost use Rattle.implied_names.specs.Roles.{default_output, has_role, inherits_journal, is_logging, is_open_input, is_process, is_service, keeps, output, said_output};
 ghost use Rattle.implied_names.specs.declared.roles.Role.TheVariants.{BusService, LastingSocket, LoggingProcess};
 
 use crate::facts::{is_among, is_one_of};
@@ -42,13 +42,6 @@ impl<'a> Facts<'a> {
         ensures test { result ≡ keeps self.now }
     {
         self.has(b"StateDirectory") || self.has(b"CacheDirectory") || self.has(b"LogsDirectory")
-    }
-
-    /// Returns whether the unit has temporary directories of its own.
-    pub fn is_private(&self, alloc: Global) -> Result<bool, AllocError>
-        ensures test { IfOk result (λ test. test ≡ is_private self.now) }
-    {
-        Ok(self.yes(alloc, b"PrivateTmp")? || self.yes(alloc, b"DynamicUser")?)
     }
 
     /// Returns whether it is a process without a journal of its own whose output goes to a log.

@@ -75,7 +75,7 @@ impl<'a> Facts<'a> {
             Role::Late => Ok(self.is_late()),
             Role::Stopped => Ok(self.is_stopped()),
             Role::KeepingProcess => Ok(self.is_process() && self.keeps()),
-            Role::PrivateProcess => Ok(self.is_process() && self.is_private(alloc)?),
+            Role::PrivateProcess => Ok(self.is_process() && self.is_private()),
             Role::ImageProcess => Ok(self.is_process() && self.has(b"RootImage")),
             Role::SeparateProcess => Ok(self.is_process() && self.has(b"LogNamespace")),
             Role::LoggingProcess => self.is_logging_process(alloc),

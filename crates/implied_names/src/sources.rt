@@ -1,9 +1,9 @@
 //! Which units a unit names.
 ghost use Rattle.std.specs.{Option.{option_copied, option_map}, Prelude.{[], codes, filter, IfOk, map, ◌∷◌, ◌≡◌}};
-ghost use Rattle.implied_names.specs.{Facts.{last, words}, Sources.{activated, block_devices, default_slice, devices, fixed_name, found_by, interface_path, interfaces, is_socket_word, names_from, outer_slice, own_journal, served_service, sister, slice_of, texts_from}};
+ghost use Rattle.implied_names.specs.{Facts.{last, words}, Sources.{activated, block_devices, default_slice, devices, fixed_name, found_by, interface_path, interfaces, is_socket_word, outer_slice, own_journal, served_service, sister, slice_of}};
 
 use crate::built_in::is_perpetual;
-use crate::named::{add_named, first_other, last_named};
+use crate::named::{first_other, last_named};
 use crate::paths::{before_last, between, is_below, path_of, unit_at};
 use crate::unit_facts::Facts;
 use std::alloc::{AllocError, Global};
@@ -57,8 +57,8 @@ pub(crate) enum Source {
 }
 
 impl Source {
-    // Returns the fixed name that the source gives.
-    fn fixed_name(self) -> Option<&'static [u8]>
+    /// Returns the fixed name that the source gives.
+    pub fn fixed_name(self) -> Option<&'static [u8]>
         ensures name { option_copied result ≡ fixed_name self }
     {
         match self {
@@ -92,29 +92,8 @@ impl Source {
 }
 
 impl<'a> Facts<'a> {
-    /// Returns the units that a source gives. What is no unit name gives nothing. Fails only if memory runs out.
-    pub fn names(&self, alloc: Global, source: Source) -> Result<Vec<UnitName>, AllocError>
-        ensures names { IfOk result (λ names. names.items ≡ names_from self.now source) }
-    {
-        let mut names = Vec::new(alloc);
-        for text in self.texts(alloc, source)? {
-            add_named(alloc, self.unit(), &text, &mut names)?;
-        }
-        Ok(names)
-    }
-
-    // Returns the texts that a source gives.
-    fn texts(&self, alloc: Global, source: Source) -> Result<Vec<Vec<u8>>, AllocError>
-        ensures texts { IfOk result (λ texts. map (λ text. text.items) texts.items ≡ texts_from self.now source) }
-    {
-        match source.fixed_name() {
-            Some(name) => one(alloc, Vec::from_slice(alloc, name)?),
-            None => self.found(alloc, source),
-        }
-    }
-
-    // Returns what a source gives that depends on the unit.
-    fn found(&self, alloc: Global, source: Source) -> Result<Vec<Vec<u8>>, AllocError>
+    /// Returns the texts that a source gives which depend on the unit. Fails only if memory runs out.
+    pub fn found(&self, alloc: Global, source: Source) -> Result<Vec<Vec<u8>>, AllocError>
         ensures texts { IfOk result (λ texts. map (λ text. text.items) texts.items ≡ found_by self.now source) }
     {
         match source {

@@ -1,10 +1,12 @@
 //! A unit as the tables ask it: its name, its values, and what mounts and swaps are named after.
-ghost use Rattle.std.specs.{Option.{option_copied}, Prelude.{codes, IfOk, map, Some, ◌≡◌}};
+ghost use Rattle.std.specs.{Option.{option_copied}, Prelude.{codes, IfOk, map, Some, ◌||◌, ◌≡◌}};
 ghost use Rattle.unit_name.specs.Names.{kind};
-ghost use Rattle.implied_names.specs.{Facts.{has, last, values_of, words, words_in, yes}, Implied.{has_defaults}, Paths.{place}, Roles.{options, takes, what}};
+ghost use Rattle.implied_names.specs.{Facts.{has, last, section_word, values_of, words, words_in, yes, yes_in}, Implied.{has_defaults}, Paths.{place}, Roles.{is_private, options, takes, what}};
 
 use crate::built_in::is_perpetual;
-use crate::facts::{boolean_in, has_in, is_among, last_in, section_of, values_in, words_in};
+use crate::facts::{
+    boolean_in, has_in, is_among, last_in, section_of, values_in, words_in, yes_in,
+};
 use crate::mounts::{options_of, place_of, what_of};
 use setting_rules::Row;
 use std::alloc::{AllocError, Global};
@@ -23,12 +25,16 @@ pub(crate) struct Facts<'a> {
     place: Option<Vec<u8>>,
     // The path that is mounted or swapped to.
     what: Option<Vec<u8>>,
+    // Whether it has temporary directories of its own.
+    is_private: bool,
+    // Whether it has default dependencies.
+    has_defaults: bool,
 }
 
 impl<'a> Model for Facts<'a> {
     ghost use Rattle.std.specs.{Option.{option_map}, Prelude.{◌≡◌, Some, map}};
     ghost use Rattle.unit_name.specs.Names.{kind as kind_of};
-    ghost use Rattle.implied_names.specs.{Facts.{Facts as FactsOf, coded_facts}, Paths.{place as place_named}, Roles.{options as options_said, what as what_said}};
+    ghost use Rattle.implied_names.specs.{Facts.{Facts as FactsOf, coded_facts}, Implied.{has_defaults as defaults_said}, Paths.{place as place_named}, Roles.{is_private as private_said, options as options_said, what as what_said}};
 
     ghost Value = { FactsOf };
 
@@ -39,11 +45,13 @@ impl<'a> Model for Facts<'a> {
     ghost invariant = { λ f. (kind_of f.unit.now ≡ Some f.kind)
         × (map (λ option. option.now) f.options.items ≡ options_said (record { unit = f.unit.now; rows = f.rows.now }))
         × (option_map (λ path. path.items) f.place ≡ place_named f.unit.now)
-        × (option_map (λ path. path.items) f.what ≡ what_said (record { unit = f.unit.now; rows = f.rows.now })) };
+        × (option_map (λ path. path.items) f.what ≡ what_said (record { unit = f.unit.now; rows = f.rows.now }))
+        × (f.is_private ≡ private_said (record { unit = f.unit.now; rows = f.rows.now }))
+        × (f.has_defaults ≡ defaults_said (record { unit = f.unit.now; rows = f.rows.now })) };
 }
 
 impl<'a> Facts<'a> {
-    /// Reads what is asked of mounts and swaps. Fails only if memory runs out.
+    /// Reads what is asked more than once, and what is asked of mounts and swaps. Fails only if memory runs out.
     pub fn of(alloc: Global, unit: &'a UnitName, rows: &'a [Row]) -> Result<Facts<'a>, AllocError>
         ensures facts { IfOk result (λ facts. facts ≡ record { unit = unit.now; rows = rows.now }) }
     {
@@ -51,6 +59,8 @@ impl<'a> Facts<'a> {
         let options = options_of(alloc, last_in(alloc, rows, section_of(kind), b"Options")?)?;
         let place = place_of(alloc, unit, kind)?;
         let what = what_of(alloc, unit, kind, rows)?;
+        let is_private = is_private(alloc, kind, rows)?;
+        let has_defaults = has_defaults(alloc, unit, rows)?;
         Ok(Facts {
             unit,
             kind,
@@ -58,6 +68,8 @@ impl<'a> Facts<'a> {
             options,
             place,
             what,
+            is_private,
+            has_defaults,
         })
     }
 
@@ -114,8 +126,7 @@ impl<'a> Facts<'a> {
     pub fn yes(&self, alloc: Global, key: &[u8]) -> Result<bool, AllocError>
         ensures test { IfOk result (λ test. test ≡ yes self.now key.now) }
     {
-        let said = boolean_in(alloc, self.rows, section_of(self.kind), key)?;
-        Ok(said.unwrap_or(false))
+        yes_in(alloc, self.rows, section_of(self.kind), key)
     }
 
     /// Returns the words of the values of a key.
@@ -132,14 +143,18 @@ impl<'a> Facts<'a> {
         words_in(alloc, self.rows, b"Unit", b"RequiresMountsFor")
     }
 
-    /// Returns whether the unit has default dependencies: what it says, and else not if it is perpetual.
-    pub fn has_defaults(&self, alloc: Global) -> Result<bool, AllocError>
-        ensures test { IfOk result (λ test. test ≡ has_defaults self.now) }
+    /// Returns whether the unit has temporary directories of its own.
+    pub fn is_private(&self) -> bool
+        ensures test { result ≡ is_private self.now }
     {
-        match boolean_in(alloc, self.rows, b"Unit", b"DefaultDependencies")? {
-            Some(said) => Ok(said),
-            None => Ok(!is_perpetual(self.unit)),
-        }
+        self.is_private
+    }
+
+    /// Returns whether the unit has default dependencies: what it says, and else not if it is perpetual.
+    pub fn has_defaults(&self) -> bool
+        ensures test { result ≡ has_defaults self.now }
+    {
+        self.has_defaults
     }
 
     /// Returns the options of a mount, each without what it is set to.
@@ -154,5 +169,27 @@ impl<'a> Facts<'a> {
         ensures test { result ≡ takes self.now option.now }
     {
         is_among(option, &self.options)
+    }
+}
+
+// Returns whether a unit of a type has temporary directories of its own.
+fn is_private(alloc: Global, kind: Kind, rows: &[Row]) -> Result<bool, AllocError>
+    ensures test { IfOk result (λ test. test ≡ (yes_in rows.now (section_word kind) (codes "PrivateTmp")
+        || yes_in rows.now (section_word kind) (codes "DynamicUser"))) }
+{
+    let section = section_of(kind);
+    Ok(
+        yes_in(alloc, rows, section, b"PrivateTmp")?
+            || yes_in(alloc, rows, section, b"DynamicUser")?,
+    )
+}
+
+// Returns whether a unit has default dependencies.
+fn has_defaults(alloc: Global, unit: &UnitName, rows: &[Row]) -> Result<bool, AllocError>
+    ensures test { IfOk result (λ test. test ≡ has_defaults (record { unit = unit.now; rows = rows.now })) }
+{
+    match boolean_in(alloc, rows, b"Unit", b"DefaultDependencies")? {
+        Some(said) => Ok(said),
+        None => Ok(!is_perpetual(unit)),
     }
 }

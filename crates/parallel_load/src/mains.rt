@@ -215,7 +215,7 @@ impl Mains {
         ensures deps { OnOk result (deps.new ≡ deps.old ++ list_indices self.now unit.now list.now) }
     {
         let kind = list.kind;
-        let mut mains = Vec::new(alloc);
+        let mut mains = Vec::with_capacity(alloc, list.names.as_slice().len())?;
         for name in list.names.as_slice() {
             if let Some(index) = self.other(unit, name) {
                 mains.push(self.name(index).try_clone()?)?;
