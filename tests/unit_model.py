@@ -30,6 +30,11 @@ class Units:
         # The directories that are looked at, by levels: of each the host's own, and then the fleet's.
         scopes = [""] if host is None else [f"{host}:", ""]
         self.levels = [scope + directory for directory in DIRECTORIES for scope in scopes]
+        # What stands in each folder, by name.
+        self.folders_there = {}
+        for place, content in store.items():
+            folder, _, name = place.rpartition("/")
+            self.folders_there.setdefault(folder, []).append((name, content))
 
     def own(self):
         """The names of one component at which something stands, each with that, in no order."""
@@ -38,8 +43,7 @@ class Units:
 
     def folder(self, directory, folder):
         """The names and contents in a folder, in no order."""
-        head = f"{directory}/{folder}/"
-        return [(place[len(head):], content) for place, content in self.store.items() if place.startswith(head)]
+        return self.folders_there.get(f"{directory}/{folder}", [])
 
     def says(self, own, name):
         """What the own places of a name say for a name."""

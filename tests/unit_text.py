@@ -1,4 +1,5 @@
 """Names, lines and settings of unit files, for tests/unit_model.py: what can be said of a name or of a text alone."""
+import functools
 import re
 
 DIRECTORIES = ["/etc/systemd/system", "/run/systemd/system", "/usr/local/lib/systemd/system", "/usr/lib/systemd/system"]
@@ -58,6 +59,7 @@ class Name:
         return f"{self.prefix}@.{self.kind}" if self.shape == "instance" else None
 
 
+@functools.cache
 def name_or_none(text):
     try:
         return Name(text)

@@ -277,13 +277,22 @@ fn named_like_units<'a>(
 {
     let mut named = Vec::new(alloc);
     for placed in taken {
-        match UnitName::parse(alloc, placed.name().as_slice()) {
-            Ok(_) => named.push(placed)?,
-            Err(NameFault::Memory) => return Err(AllocError),
-            Err(_) => {}
+        if is_unit_name(alloc, placed.name().as_slice())? {
+            named.push(placed)?;
         }
     }
     Ok(named)
+}
+
+// Returns whether bytes are a unit name.
+fn is_unit_name(alloc: Global, bytes: &[u8]) -> Result<bool, AllocError>
+    ensures test { IfOk result (λ test. test ≡ is_name bytes.now) }
+{
+    match UnitName::parse(alloc, bytes) {
+        Ok(_) => Ok(true),
+        Err(NameFault::Memory) => Err(AllocError),
+        Err(_) => Ok(false),
+    }
 }
 
 impl UnitFolders {

@@ -1,4 +1,5 @@
 //! The result of loading a store.
+ghost use Rattle.inverse_deps.specs.Tables.{IsEdgeTable};
 ghost use Rattle.std.specs.{Prelude.{◌≡◌, ◌↔◌, ◌⊎◌, ◌<◌, Err, IfOk, IfErr}, Option.{IfSome}};
 ghost use Rattle.path_maps.specs.HostViews.{host_view_of};
 ghost use Rattle.parallel_load.specs.{AskedLaws.{asked_for}, Refreshes.{IsBefore}, Refusals.{OnTooMany, OnWorkers}, Universe.{IsTooLarge}};
@@ -93,7 +94,15 @@ impl Snapshot {
         ensures load { IfOk result (λ made. made ≡ loaded) }
     {
         let table = EdgeTable::of(loaded.allocator(), &loaded)?;
-        Ok(Snapshot { loaded, table })
+        Ok(Snapshot::with_table(loaded, table))
+    }
+
+    // A load with its edges.
+    fn with_table(loaded: Loaded, table: EdgeTable) -> Snapshot
+        requires table { IsEdgeTable loaded table }
+        ensures load { result ≡ loaded }
+    {
+        Snapshot { loaded, table }
     }
 
     /// The snapshot of another store for the same viewer and names, if these places are all at which the two stores show
