@@ -95,9 +95,13 @@ fn append_views(out: &mut Answer, graph: &Graph, kinds: &[DepKind], names: &[Uni
 // Makes the graph of a load, and writes its units, and what it has from each of several names.
 fn append_graph(out: &mut Answer, load: &Loaded, kinds: &[DepKind], names: &[UnitName]) -> Done {
     let edges = edges(out.alloc, load)?;
-    let graph = Graph::build(load, &edges);
-    append_members(out, &graph)?;
-    append_views(out, &graph, kinds, names)
+    append_built(out, &Graph::build(load, &edges), kinds, names)
+}
+
+// Writes the units of a graph, and what it has from each of several names.
+fn append_built(out: &mut Answer, graph: &Graph, kinds: &[DepKind], names: &[UnitName]) -> Done {
+    append_members(out, graph)?;
+    append_views(out, graph, kinds, names)
 }
 
 // Loads a store, and writes what its graph has.
