@@ -67,6 +67,19 @@ def long_answers(bench, tally):
             ends(tally, f"{kind} {number}", run, 1, run.answers if is_front else answers, WRITE_FAULT)
 
 
+def unheard(bench, tally):
+    """Statuses stay where standard error takes no words."""
+    script = b"node a 1\n"
+    for status, answers, hardships in (
+        (0, b"ok\n", {}),
+        (1, b"", {"FAIL_READS": 1}),
+        (1, b"", {"FAIL_WRITES": 1}),
+        (2, b"", {"REFUSE_MEMORY": "1-"}),
+    ):
+        run = bench.run(PROGRAM, script, is_heard=False, **hardships)
+        ends(tally, f"unheard, {hardships}", run, status, answers, b"")
+
+
 def comment(size):
     """A script of so many bytes with one command, in its last line."""
     command = b"frob\n"
@@ -101,6 +114,7 @@ def cases():
     yield Case(group, "a read too many", many_reads, beyond, weight=9_000)
     yield Case(group, "as many bytes as there may be", most_bytes, weight=20)
     yield Case(group, "long answers", long_answers, weight=20)
+    yield Case(group, "nobody hears", unheard)
     for name, script, answers in all_scripts():
         yield Case(group, f"{name}: slow pipes", slow, (script, answers))
         yield Case(group, f"{name}: each read fails", unread, (script, {}))

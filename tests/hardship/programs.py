@@ -58,8 +58,8 @@ class Bench:
                 file.write(text)
             self.given = text
 
-    def run(self, name, text, limit=LIMIT, **hardships):
-        """Runs a program on these bytes, with what is refused named as refuse.c names it."""
+    def run(self, name, text, limit=LIMIT, is_heard=True, **hardships):
+        """Runs a program on these bytes, with what is refused named as refuse.c names it. Unless it is heard, its standard error is closed."""
         self.give(text)
         surroundings = {"LD_PRELOAD": self.shim, "HARDSHIP_COUNTS": self.counts}
         surroundings.update({key: str(value) for key, value in hardships.items()})
@@ -70,6 +70,7 @@ class Bench:
                 stdout=subprocess.PIPE,
                 stderr=subprocess.PIPE,
                 env=surroundings,
+                preexec_fn=None if is_heard else lambda: os.close(2),
             )
             try:
                 answers, words = process.communicate(timeout=limit)

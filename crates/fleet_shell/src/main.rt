@@ -19,9 +19,6 @@ use std::process::ExitCode;
 use std::sync::Wait;
 use std::thread::Threads;
 
-#[cfg(test)]
-mod tests;
-
 /// Writes to standard error what went wrong, if anything did, and returns the exit status.
 ///
 /// If standard error refuses the line, it is lost: there is nowhere left to report that.

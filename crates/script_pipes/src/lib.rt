@@ -8,6 +8,8 @@
 #![tactic(auto)]
 
 mod reading;
+#[cfg(test)]
+mod tests;
 mod watching;
 mod writing;
 

@@ -1,8 +1,10 @@
-//! Reading and writing without a script: how far they get, and where a limit ends them.
-use super::fakes::{Slow, Zeros};
-use super::narrow;
-use script_pipes::{ReadFault, Watched, read_all, write_all};
+//! How far reading and writing get with readers and writers that fail or are slow, and where a limit ends them.
+use super::*;
 use std::alloc::Global;
+
+mod fakes;
+
+use fakes::{Narrow, Slow, Zeros};
 
 // Whether a script of three bytes is read as this within this many reads, or reading it fails.
 fn is_read(alloc: Global, reads_left: usize, want: Option<&[u8]>) -> bool {
@@ -42,7 +44,12 @@ fn keeps_the_limit(rt: HostRuntime) {
 
 // Whether three bytes are written, or this many writes of one byte leave this prefix of them.
 fn is_written(alloc: Global, writes_left: usize, is_whole: bool, want: &[u8]) -> bool {
-    let mut sink = narrow(alloc, 1, writes_left, true);
+    let mut sink = Watched::new(Narrow {
+        held: Vec::new(alloc),
+        width: 1,
+        writes_left,
+        takes_none: true,
+    });
     let outcome = write_all(&mut sink, b"ok\n");
     outcome.is_ok() == is_whole && sink.into_inner().held.as_slice() == want
 }

@@ -1,7 +1,4 @@
-//! Fake readers and writers, and a fake runtime.
-use std::alloc::Global;
-use std::cell::Cell;
-use std::fmt::Display;
+//! Readers and writers that fail or are slow.
 use std::io;
 use std::io::{Error, ErrorKind, Read, Write};
 
@@ -72,28 +69,6 @@ impl Write for Narrow {
     }
 
     fn flush(&mut self) -> io::Result<()> {
-        Ok(())
-    }
-}
-
-/// Keeps the last line of standard error if `hears`, and refuses it otherwise.
-#[derive(Drop)]
-pub struct Noted<'a> {
-    pub line: &'a Cell<Option<String>>,
-    pub alloc: Global,
-    pub hears: bool,
-}
-
-impl Eprint for Noted<'_> {
-    fn eprint<D: Display + Drop>(&self, _value: D) -> io::Result<()> {
-        Err(Error::from(ErrorKind::Other))
-    }
-
-    fn eprintln<D: Display + Drop>(&self, value: D) -> io::Result<()> {
-        if !self.hears {
-            return Err(Error::from(ErrorKind::Other));
-        }
-        self.line.set(Some(format!(in self.alloc; "{value}\n")?));
         Ok(())
     }
 }
