@@ -44,10 +44,10 @@ pub fn run_world(alloc: Global, writers: &[u32], events: &[Event]) -> Result<Wor
     // The replicas write under these numbers, in this order.
     ensures writers { IfOk result (λ world. map (λ r. r.writer) world.replicas.items ≡ writers.now) }
 
-    // Stores, asks and pieces are those of the model world after these events, even if a version belongs to two edits.
+    // Stores, asks and pieces are those of the model world after these events, even if two edits of one place have one version.
     ensures model { IfOk result (λ world. IsWorld (world_after (length writers.now) events.now) world) }
 
-    // If no version belongs to two of the edits that were put, replica k holds the sum of the edits that node k took:
+    // If no two different edits of one place that were put have one version, replica k holds the sum of the edits that node k took:
     // the greatest of them at each place.
     ensures sums { IfOk result (HoldsSums (length writers.now) events.now) }
 

@@ -1,7 +1,7 @@
 //! Cutting pieces for digests.
 ghost use Rattle.std.specs.Prelude.{◌≡◌, ◌++◌, Some, None, IfOk};
-ghost use Rattle.edit_sums.specs.Sums.{EntryMap, IsHonest, edits_of, join};
-ghost use Rattle.world_law.specs.Cuts.{cut, digest_of};
+ghost use Rattle.edit_sums.specs.Sums.{EntryMap, edits_of, join};
+ghost use Rattle.world_law.specs.Cuts.{AreToldApart, cut, digest_of};
 
 use crate::digests::Digest;
 use crate::newer::{newer_at, newer_entries, newer_than, newer_than_at};
@@ -11,15 +11,15 @@ use replica_store::Replica;
 use std::alloc::{AllocError, Global};
 
 /// Returns copies of what a replica holds and the digest lacks: entries with a greater version than the digest has, or
-/// at a place that isn't in the digest. If no version belongs to two different edits, whoever asked with its own digest
-/// lacks nothing of the replica after taking the piece.
+/// at a place that isn't in the digest. If no two different edits of one place have one version, whoever asked with its own
+/// digest lacks nothing of the replica after taking the piece.
 ///
 /// One pass over entries and versions side by side. Only the entries of the piece are copied, and copies share their
 /// bytes. Fails only if memory runs out.
 pub fn delta_for(alloc: Global, replica: &Replica, asked: &Digest) -> Result<Piece, AllocError>
     ensures cut { IfOk result (λ piece. piece ≡ cut replica.now.store asked.now None) }
     ensures whole { IfOk result (λ piece. (s : EntryMap) → asked.now ≡ digest_of s →
-        IsHonest (edits_of s ++ edits_of replica.now.store) → join s piece ≡ join s replica.now.store) }
+        AreToldApart (edits_of s ++ edits_of replica.now.store) → join s piece ≡ join s replica.now.store) }
 {
     let newer = newer_entries(alloc, replica.store().entries(), asked.versions())?;
     Ok(Piece::from_store(newer))
@@ -31,7 +31,7 @@ pub fn delta_for(alloc: Global, replica: &Replica, asked: &Digest) -> Result<Pie
 /// Fails only if memory runs out.
 pub fn delta_between(alloc: Global, from: &Replica, to: &Replica) -> Result<Piece, AllocError>
     ensures cut { IfOk result (λ piece. piece ≡ cut from.now.store (digest_of to.now.store) None) }
-    ensures whole { IfOk result (λ piece. IsHonest (edits_of to.now.store ++ edits_of from.now.store) →
+    ensures whole { IfOk result (λ piece. AreToldApart (edits_of to.now.store ++ edits_of from.now.store) →
         join to.now.store piece ≡ join to.now.store from.now.store) }
 {
     Ok(Piece::from_store(newer_than(alloc, from.store(), to.store())?))

@@ -1,5 +1,5 @@
 -- What the definitions use of std and of the crates below.
-pub use Rattle.delta_gossip.specs.{Convergence.{AreHonest}, Prelude.{AreSameEdits, Event, IsStoreBelow, IsSumOf, sum_of, Took}, Shows.{NodeHolds, took_after}}
+pub use Rattle.delta_gossip.specs.{Convergence.{ArePutApart}, Prelude.{AreSameEdits, Event, IsStoreBelow, IsSumOf, sum_of, Took}, Shows.{NodeHolds, took_after}}
 pub use Rattle.implied_names.specs.BuiltIn.{perpetual_units}
 pub use Rattle.inverse_deps.specs.{Dependencies.{IsEdgeAmong}, EdgeLaws.{one_list_by_kind}, Edges.{AreEdgesFrom, AreEdgesOf}}
 pub use Rattle.name_closure.specs.{DistanceLaws.{one_list_of_distances}, LimitLaws.{over-closure}, SourceLaws.{AreSameSuccessors, same_distance}}

@@ -1,7 +1,7 @@
 -- The outcome of a step, with one lemma for each word of the meaning.
 use Rattle.std.proofs.Common.{◌++◌, ◌+◌, ◌<◌, ◌==◌, ◌∷◌, ◌≡◌, ◌≢◌}
 use Rattle.world_law.specs.declared.events.Event.TheVariants.{Put}
-use Rattle.fleet_script.proofs.Prelude.{[], ap, AtNode, AtPlace, AtPlaces, bad_text, BadLink, BadText, Bool, bytes_eq, codes, Component, cond, Content, Depth, Directory, Edit, EditFault, EntryMap, eq-eqb, eqb-true, Equal, Equal-is, Err, false, Fault, fault_of_edit, fault_of_place, FileTooLarge, get_or, Gives, Global, Goes, Gone, happened, has_writer, HasNoNode, HasNoSite, held, high_of, Holds, HostName, inl, inr, is_eq, is_eq-slice_cmp, is_some, IsErrOf, IsFileOf, IsLinkTo, IsNodeNamed, IsNoFile, IsNoLink, IsPlaceFault, IsRead, IsSaid, IsSite, IsSome, Keeps, length, LineRefusal, List, MatchBool, MatchOption, MatchResult, Memory, Names, nat_cmp, nat_cmp-IsAntisymmetric, nat_cmp_is, ne_eqb, next_edit, next_version, NodeTaken, None, Nothing, Ok, ok_line, Option, Outcome, place_of, PlaceFault, PlaceParts, places_of, Profile, Reads, refl, Refused, Refuses, RefusesPlace, Replicated, Result, ScriptWorld, set, SetsProfile, slice_cmp, slice_get, Some, subst, sum_of, sym, too_large, true, true≢false, UnknownNode, Vec, Version, VersionsSpent, visible_at, with_edit, with_new_node, with_profile, with_put, WithFile, without_memory, WithTarget, WithText, WriterTaken, Writes, ℕ, ◌∙◌}
+use Rattle.fleet_script.proofs.Prelude.{[], ap, AtNode, AtPlace, AtPlaces, bad_text, BadLink, BadText, Bool, bytes_eq, codes, Component, cond, Content, Depth, Directory, Edit, EditFault, EntryMap, eq-eqb, eqb-true, Equal, Equal-is, Err, false, Fault, fault_of_edit, fault_of_place, FileTooLarge, get_or, Gives, Global, Goes, Gone, happened, HasNoNode, HasNoSite, held, high_of, Holds, HostName, inl, inr, is_eq, is_eq-slice_cmp, is_some, is_used, IsErrOf, IsFileOf, IsLinkTo, IsNodeNamed, IsNoFile, IsNoLink, IsPlaceFault, IsRead, IsSaid, IsSite, IsSome, Keeps, length, LineRefusal, List, MatchBool, MatchOption, MatchResult, Memory, Names, nat_cmp, nat_cmp-IsAntisymmetric, nat_cmp_is, ne_eqb, next_edit, next_version, NodeTaken, None, Nothing, Ok, ok_line, Option, Outcome, place_of, PlaceFault, PlaceParts, places_of, Profile, Reads, refl, Refused, Refuses, RefusesPlace, Replicated, Result, ScriptWorld, set, SetsProfile, slice_cmp, slice_get, Some, subst, sum_of, sym, too_large, true, true≢false, UnknownNode, Vec, Version, VersionsSpent, visible_at, with_edit, with_new_node, with_profile, with_put, WithFile, without_memory, WithTarget, WithText, WriterTaken, Writes, ℕ, ◌∙◌}
 use Rattle.fleet_script.proofs.Nodes.{holds_node, holds_profile, holds_put, set_same}
 use Rattle.load_places.specs.declared.places.PlaceFault.TheVariants as place
 use Rattle.replica_store.specs.declared.replicas.EditFault.TheVariants as edit
@@ -251,7 +251,7 @@ pub made : (shell now : Keeps) (name : List ℕ) (writer : ℕ) (node : Replicat
 made shell now name writer node text fresh free numbered empty e nodes numbers writers pieces profile world h = (
   with_new_node world name writer,
   holds_node shell world h now node name writer fresh free numbered empty nodes numbers writers pieces profile,
-  subst (λ (o : Option ℕ). MatchOption o (MatchBool (has_writer world.nodes writer) (Refuses world WriterTaken (Ok text.items) (with_new_node world name writer)) (Gives (codes "ok\n") (with_new_node world name writer) (Ok text.items) (with_new_node world name writer))) (λ k. Refuses world NodeTaken (Ok text.items) (with_new_node world name writer)))
+  subst (λ (o : Option ℕ). MatchOption o (MatchBool (is_used world writer) (Refuses world WriterTaken (Ok text.items) (with_new_node world name writer)) (Gives (codes "ok\n") (with_new_node world name writer) (Ok text.items) (with_new_node world name writer))) (λ k. Refuses world NodeTaken (Ok text.items) (with_new_node world name writer)))
       (sym fresh ∙ h.numbers name)
       (match_false _ _ _ (sym (h.taken writer) ∙ free) (record { outcome_is = ap Ok e; world_is = refl })),
 )

@@ -1,4 +1,5 @@
 pub mod Prelude
+pub mod Beginnings
 pub mod Between
 pub mod Goes
 pub mod Lines
@@ -6,6 +7,5 @@ pub mod Nodes
 pub mod Runs
 pub mod StepKinds
 pub mod WholeScripts
-pub mod Rooms
 pub mod Reading
 pub mod Sweeps

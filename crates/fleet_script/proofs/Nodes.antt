@@ -1,7 +1,7 @@
 -- The state of the shell and the world agree after each event.
 use Rattle.std.proofs.Common.{◌++◌, ◌<◌, ◌==◌, ◌∷◌, ◌≡◌, ◌≢◌}
 use Rattle.world_law.specs.declared.events.Event.TheVariants.{Put}
-use Rattle.fleet_script.proofs.Prelude.{[], answer_is, answered, ap, arith, Ask, Bool, bytes_eq, cond, Content, Cut, cut, digest_of, EntryMap, eq-eqb, eqb-true, false, get_or, Give, happened, has_writer, has_writer-push, held, held_answered, held_given, held_given_elsewhere, held_merged, held_merged_elsewhere, held_past, held_put, held_put_elsewhere, held_with_node, Holds, IsNamed, IsPiece, IsValid, join, Keeps, length, List, Member, merged, nat_lt, nat_tests, next_ask, next_edit, next_piece, node_named, node_named-push, None, Option, parted, piece_named, piece_stays, PlaceParts, Profile, refl, Replicated, ScriptWorld, set, slice_get, Some, state, state_with_node, subst, suc, sum_of, sym, true, true≢false, valid_answered, valid_given, valid_merged, valid_put, valid_with_node, valid_with_profile, with_edit, with_node, with_profile, writer_at, zero, ℕ, ◌∙◌}
+use Rattle.fleet_script.proofs.Prelude.{[], answer_is, answered, ap, arith, Ask, Bool, bytes_eq, cond, Content, Cut, cut, digest_of, EntryMap, eq-eqb, eqb-true, false, get_or, Give, happened, held, held_answered, held_given, held_given_elsewhere, held_merged, held_merged_elsewhere, held_past, held_put, held_put_elsewhere, held_with_node, Holds, IsNamed, IsPiece, is_used, IsValid, join, Keeps, length, List, Member, merged, nat_lt, nat_tests, next_ask, next_edit, next_piece, node_named, node_named-push, None, Option, parted, piece_named, piece_stays, PlaceParts, Profile, refl, Replicated, ScriptWorld, set, slice_get, Some, state, state_with_node, subst, suc, sum_of, sym, true, true≢false, used_put, used_with_node, valid_answered, valid_given, valid_merged, valid_put, valid_with_node, valid_with_profile, with_edit, with_node, with_profile, writer_at, zero, ℕ, ◌∙◌}
 use Rattle.world_law.specs.Worlds as worlds
 
 -- ---- places
@@ -139,18 +139,18 @@ module _ (shell : Keeps) (world : ScriptWorld) (h : Holds shell world) where
 
   -- something happens at one node, and nothing at the others
   holds_at : (next : ScriptWorld) (i : ℕ) (node new : Replicated) → i < length shell.nodes → slice_get shell.nodes i ≡ Some node → new.writer ≡ node.writer
-      → next.nodes ≡ world.nodes → next.pieces ≡ world.pieces → next.profile ≡ world.profile → IsValid next
+      → next.nodes ≡ world.nodes → next.pieces ≡ world.pieces → next.profile ≡ world.profile → ((writer : ℕ) → is_used next writer ≡ is_used world writer) → IsValid next
       → ((p : ℕ) (piece : worlds.Piece) → slice_get (state world).pieces p ≡ Some piece → slice_get (state next).pieces p ≡ Some piece)
       → new.store ≡ held next i → ((k : ℕ) → k ≢ i → held next k ≡ held world k)
       → Holds (record shell { nodes = set shell.nodes i new }) next
-  holds_at next i node new lt at writer same_nodes same_pieces same_profile valid stays store others = record {
+  holds_at next i node new lt at writer same_nodes same_pieces same_profile same_used valid stays store others = record {
     count = length_set shell.nodes i new ∙ h.count ∙ sym (ap (λ (ms : List Member). length ms) same_nodes);
     writers = λ k other is. slice_get-set shell.nodes i k new other lt is (λ j r. writer_at next.nodes j ≡ r.writer)
         (ap (λ (ms : List Member). writer_at ms i) same_nodes ∙ h.writers i node at ∙ sym writer)
         (λ apart there. ap (λ (ms : List Member). writer_at ms k) same_nodes ∙ h.writers k other there);
     stores = λ k other is. slice_get-set shell.nodes i k new other lt is (λ j r. r.store ≡ held next j) store (λ apart there. h.stores k other there ∙ sym (others k apart));
     numbers = λ name. h.numbers name ∙ ap (λ (ms : List Member). node_named ms name) (sym same_nodes);
-    taken = λ writer. h.taken writer ∙ ap (λ (ms : List Member). has_writer ms writer) (sym same_nodes);
+    taken = λ writer. h.taken writer ∙ sym (same_used writer);
     pieces = λ name. subst (λ (ps : List (List ℕ × ℕ)). IsNamed next (shell.piece_of name) (piece_named ps name)) (sym same_pieces) (named_stays world next stays (shell.piece_of name) (piece_named world.pieces name) (h.pieces name));
     profile = h.profile ∙ sym same_profile;
     valid = valid;
@@ -162,7 +162,7 @@ module _ (shell : Keeps) (world : ScriptWorld) (h : Holds shell world) where
       → Holds (record shell { nodes = set shell.nodes i new }) (happened world (Put i (next_edit world i place content)))
   holds_put i place content node new lt at writer store =
       let edit = next_edit world i place content in
-      holds_at (happened world (Put i edit)) i node new lt at writer refl refl refl (valid_put world i place content h.valid (below_count i lt))
+      holds_at (happened world (Put i edit)) i node new lt at writer refl refl refl (used_put world i place content (below_count i lt)) (valid_put world i place content h.valid (below_count i lt))
       (λ p piece there. piece_stays (state world) (Put i edit) p piece there)
       (store ∙ ap (λ (s : EntryMap). with_edit s edit) (h.stores i node at) ∙ sym (held_put world i edit (below_count i lt)))
       (held_put_elsewhere world i edit)
@@ -171,7 +171,7 @@ module _ (shell : Keeps) (world : ScriptWorld) (h : Holds shell world) where
   pub holds_merge : (j i : ℕ) (node other new : Replicated) → j < length shell.nodes → i < length shell.nodes → slice_get shell.nodes i ≡ Some node → slice_get shell.nodes j ≡ Some other
       → new.writer ≡ node.writer → new.store ≡ join node.store other.store → Holds (record shell { nodes = set shell.nodes i new }) (merged world j i)
   holds_merge j i node other new lt_from lt_to at from writer store =
-      holds_at (merged world j i) i node new lt_to at writer refl refl refl (valid_merged world j i h.valid (below_count j lt_from) (below_count i lt_to))
+      holds_at (merged world j i) i node new lt_to at writer refl refl refl (λ number. refl) (valid_merged world j i h.valid (below_count j lt_from) (below_count i lt_to))
       (λ p piece there. piece_stays (state (answered world j i None)) (Give (next_piece world) i) p piece (answered_stays j i None p piece there))
       (store ∙ (λ n. join (h.stores i node at n) (h.stores j other from n)) ∙ sym (held_merged world h.valid j i (below_count j lt_from) (below_count i lt_to)))
       (λ k ne. held_merged_elsewhere world j i k ne)
@@ -183,7 +183,7 @@ module _ (shell : Keeps) (world : ScriptWorld) (h : Holds shell world) where
   pub holds_send : (p i : ℕ) (node new : Replicated) (piece : worlds.Piece) → i < length shell.nodes → slice_get shell.nodes i ≡ Some node → slice_get (state world).pieces p ≡ Some piece
       → new.writer ≡ node.writer → new.store ≡ join node.store piece.entries → Holds (record shell { nodes = set shell.nodes i new }) (happened world (Give p i))
   holds_send p i node new piece lt at is writer store =
-      holds_at (happened world (Give p i)) i node new lt at writer refl refl refl (valid_given world p i h.valid (below_count i lt))
+      holds_at (happened world (Give p i)) i node new lt at writer refl refl refl (λ number. refl) (valid_given world p i h.valid (below_count i lt))
       (λ q other there. piece_stays (state world) (Give p i) q other there)
       (store ∙ ap (λ (s : EntryMap). join s piece.entries) (h.stores i node at) ∙ sym (held_given world h.valid p i piece is (below_count i lt)))
       (λ k ne. held_given_elsewhere world p i k ne)
@@ -211,19 +211,14 @@ module _ (shell : Keeps) (world : ScriptWorld) (h : Holds shell world) where
       valid_parted : IsValid next
       valid_parted =
           let valid = valid_answered world j i places h.valid (below_count j lt_from) (below_count i lt_to) in
-          record {
-            within = valid.within;
-            apart = valid.apart;
-            own = λ e a. let own = valid.own e a in record { node = own.node; within = own.within; writer = own.writer; counter = own.counter };
-            honest = valid.honest;
-          }
+          record { within = valid.within; apart = valid.apart; own = valid.own; told = valid.told }
 
       stays : (p : ℕ) (other : worlds.Piece) → slice_get (state world).pieces p ≡ Some other → slice_get (state next).pieces p ≡ Some other
       stays p other there = piece_stays (state (happened world (Ask i))) (Cut j (next_ask world) places) p other (piece_stays (state world) (Ask i) p other there)
 
       made : IsPiece next (next_piece world) piece
       made =
-          let answer = answer_is (length world.nodes) world.events h.valid.honest j i (below_count j lt_from) (below_count i lt_to) places in
+          let answer = answer_is (length world.nodes) world.events h.valid.told j i (below_count j lt_from) (below_count i lt_to) places in
           record { piece = answer.0; there = answer.1; entries_are = answer.2 ∙ sym is }
 
       by : (other : List ℕ) (b : Bool) → IsNamed next (cond b (Some piece) (shell.piece_of other)) (cond b (Some (next_piece world)) (piece_named world.pieces other))
@@ -257,7 +252,7 @@ module _ (shell : Keeps) (world : ScriptWorld) (h : Holds shell world) where
         (λ lt there. h.stores k other there ∙ sym (held_with_node world name writer h.valid.within k))
         (empty ∙ sym holds_nothing ∙ sym (held_with_node world name writer h.valid.within (length shell.nodes)));
     numbers = λ other. numbers other ∙ (λ i. cond (bytes_eq name other) (Some (h.count i)) (h.numbers other i)) ∙ sym (node_named-push world.nodes m other (sym (h.numbers name) ∙ fresh));
-    taken = λ other. writers other ∙ ap (λ b. cond (writer == other) true b) (h.taken other) ∙ sym (has_writer-push world.nodes m other);
+    taken = λ other. writers other ∙ ap (λ b. cond (writer == other) true b) (h.taken other) ∙ sym (used_with_node world name writer other h.valid.within);
     pieces = λ other. subst (λ (f : List ℕ → Option EntryMap). IsNamed next (f other) (piece_named world.pieces other)) (sym same_pieces) (named_stays world next stays (shell.piece_of other) (piece_named world.pieces other) (h.pieces other));
     profile = same_profile ∙ h.profile;
     valid = valid_with_node world name writer h.valid (sym (h.taken writer) ∙ free);

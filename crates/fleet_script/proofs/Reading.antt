@@ -8,7 +8,7 @@ use Rattle.script_commands.specs.declared.commands.Command.TheVariants as comman
 -- what a node holds after some lines is the sum of what it took
 node_sum : (lines : List (List ℕ)) (written : List ℕ) (world : ScriptWorld) → Run blank lines written world → (k : ℕ) (node : worlds.Node) → slice_get (state world).nodes k ≡ Some node
     → node.store ≡ held world k
-node_sum lines written world r k node at = stores_are_sums (length world.nodes) world.events (run_valid lines blank written world valid_blank r).honest k node at
+node_sum lines written world r k node at = stores_are_sums (length world.nodes) world.events (run_valid lines blank written world valid_blank r).told k node at
 
 module _ (world other : ScriptWorld) (left right : List ℕ) (j k : ℕ) (is_left : node_named world.nodes left ≡ Some j) (is_right : node_named other.nodes right ≡ Some k)
     (same : AreSameEdits (took (state world) j) (took (state other) k)) (a b : Outcome) (x y : ScriptWorld) where

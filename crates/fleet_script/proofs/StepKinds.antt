@@ -1,7 +1,7 @@
 -- Properties of steps: each has one outcome, leaves one world, keeps the world valid, raises counters by at most one,
 -- and finds them spent only if they are. One lemma for each word of the meaning.
-use Rattle.std.proofs.Common.{◌++◌, ◌+◌, ◌-◌, ◌<◌, ◌==◌, ◌≡◌, ◌≤◌, ◌⊎◌}
-use Rattle.fleet_script.proofs.Prelude.{ap, arith, Ask, AtNode, AtPiece, AtPlace, AtPlaces, BadLink, BadText, Bool, Cat, changed_line, changed_places, codes, Command, Component, Content, Crowd, crowds_are_rendered_once, crowds_spend_nothing, cut, Depth, digest_of, Directory, Does, entries_line, EntryMap, Err, false, Files, files_are_rendered_once, files_spend_nothing, FileTooLarge, Gives, happened, has_writer, held, high_of, HostName, if_any, inl, inr, is_file, is_spent, is_target, IsPutUpTo, IsRead, IsValid, IsWorkerCount, length, LineRefusal, Link, List, map, MatchBool, MatchOption, MatchResult, Member, Merge, merged, merged_all, named_within, next_edit, Node, node_named, NodeTaken, None, Nothing, NoWorkerCount, numbers_from, Ok, ok_line, Option, Outcome, Part, parted, piece_named, place_of, PlaceFault, PlaceParts, places_of, Put, put_next, put_same, puts, puts_merged_all, puts_with_node, form_of, question_by, questions_are_rendered_once, questions_spend_nothing, Reads, refl, Refuses, RefusesPlace, Remove, RendersCrowd, RendersFiles, RendersInquiry, RendersPlaces, RendersText, Result, Same, ScriptWorld, Send, Some, spells_one, subst, suc, Sweep, swept, sym, Text, texts_are_rendered_once, texts_spend_nothing, true, true≢false, UnknownNode, UnknownPiece, valid_answered, valid_given, valid_merged, valid_put, valid_with_node, valid_with_profile, VersionsSpent, visible_at, with_node, with_profile, WithFile, WithTarget, WithText, Workers, WriterTaken, Writes, zero, ℕ, ◌∙◌}
+use Rattle.std.proofs.Common.{◌∷◌, ◌++◌, ◌+◌, ◌-◌, ◌<◌, ◌==◌, ◌≡◌, ◌≤◌, ◌⊎◌}
+use Rattle.fleet_script.proofs.Prelude.{[], answered, ap, arith, Ask, AtNode, AtPiece, AtPlace, AtPlaces, BadLink, BadText, Bool, Cat, changed_line, changed_places, codes, Command, Component, Content, Crowd, crowds_are_rendered_once, crowds_spend_nothing, cut, Depth, digest_of, Directory, Does, Edit, entries_line, EntryMap, Err, false, Files, files_are_rendered_once, files_spend_nothing, FileTooLarge, Gives, happened, held, high_of, honest_put, HostName, if_any, inl, inr, is_file, is_spent, is_target, is_used, IsAmong, IsHonest, IsPutUpTo, IsRead, IsValid, IsWorkerCount, length, LineRefusal, Link, List, map, MatchBool, MatchOption, MatchResult, Member, Merge, merged, merged_all, named_within, next_ask, next_edit, next_piece, Node, node_named, NodeTaken, None, Nothing, NoWorkerCount, numbers_from, Ok, ok_line, Option, Outcome, Part, parted, piece_named, place_of, PlaceFault, PlaceParts, places_of, Put, put_next, put_same, puts, puts_merged_all, puts_with_node, form_of, question_by, questions_are_rendered_once, questions_spend_nothing, Reads, refl, Refuses, RefusesPlace, Remove, RendersCrowd, RendersFiles, RendersInquiry, RendersPlaces, RendersText, Result, Same, ScriptWorld, Send, Some, spells_one, state, subst, suc, Sweep, swept, sym, Text, texts_are_rendered_once, texts_spend_nothing, took, took_stays, took_with_node, true, true≢false, UnknownNode, UnknownPiece, valid_answered, valid_given, valid_merged, valid_put, valid_with_node, valid_with_profile, VersionsSpent, visible_at, with_node, with_profile, WithFile, WithTarget, WithText, Workers, WriterTaken, Writes, zero, ℕ, ◌∙◌}
 use Rattle.fleet_script.proofs.Between.{merged_all-append, merged_nodes}
 use Rattle.std.specs.FinMap as finmap
 use Rattle.load_places.specs.declared.places.PlaceFault.TheVariants as place
@@ -9,10 +9,13 @@ use Rattle.edit_sums.specs.declared.contents.Content.TheVariants as content
 use Rattle.world_law.specs.declared.events.Event.TheVariants as event
 use Rattle.script_commands.specs.declared.commands.Command.TheVariants as command
 
--- a valid world is followed by a valid one, and the greatest counter that was put grows by at most one
+-- a valid world is followed by a valid one, each version still belongs to one edit if each did, the greatest counter that was
+-- put grows by at most one, and each node has what it took
 pub record Follows (old new : ScriptWorld) : Type 0 where
   pub valid : IsValid old → IsValid new
+  pub honest : IsValid old → IsHonest (puts old) → IsHonest (puts new)
   pub counted : (n : ℕ) → IsValid old → IsPutUpTo n old → IsPutUpTo (suc n) new
+  pub grows : IsValid old → (k : ℕ) (e : Edit) → IsAmong e (took (state old) k) → IsAmong e (took (state new) k)
 
 -- no node holds the greatest counter
 abbrev pub HasCounters : ScriptWorld → Type 0
@@ -48,15 +51,33 @@ valid_swept world valid =
     (valid_merges (λ k. (0, k)) n 1 (n - 1) (merged_all world into) (ap (λ (ms : List Member). length ms) (merged_nodes world into)) (λ k low high. (omega arith, high)) (omega arith) (λ k low high. omega arith)
     (valid_merges (λ k. (k, 0)) n 1 (n - 1) world refl (λ k low high. (high, omega arith)) (omega arith) (λ k low high. omega arith) valid))
 
+-- a node has what it took before others asked, cut and gave
+answered_takes : (world : ScriptWorld) (from to : ℕ) (places : Option (List PlaceParts)) (k : ℕ) (e : Edit) → IsAmong e (took (state world) k) → IsAmong e (took (state (answered world from to places)) k)
+answered_takes world from to places k e a =
+    took_stays (state (happened world (event.Ask to))) (event.Cut from (next_ask world) places) k e (took_stays (state world) (event.Ask to) k e a)
+
+merged_takes : (world : ScriptWorld) (from to k : ℕ) (e : Edit) → IsAmong e (took (state world) k) → IsAmong e (took (state (merged world from to)) k)
+merged_takes world from to k e a =
+    took_stays (state (answered world from to None)) (event.Give (next_piece world) to) k e (answered_takes world from to None k e a)
+
+merged_all_take : (world : ScriptWorld) (pairs : List (ℕ × ℕ)) (k : ℕ) (e : Edit) → IsAmong e (took (state world) k) → IsAmong e (took (state (merged_all world pairs)) k)
+merged_all_take world [] k e a = a
+merged_all_take world (pair ∷ pairs) k e a = merged_all_take (merged world pair.0 pair.1) pairs k e (merged_takes world pair.0 pair.1 k e a)
+
 -- ---- one lemma for each word
 
 module _ (old : ScriptWorld) where
   -- no more edits are put
-  puts_nothing : (new : ScriptWorld) → (IsValid old → IsValid new) → puts new ≡ puts old → Follows old new
-  puts_nothing new valid same = record { valid = valid; counted = λ n l up. put_same n old new same up }
+  puts_nothing : (new : ScriptWorld) → (IsValid old → IsValid new) → puts new ≡ puts old → ((k : ℕ) (e : Edit) → IsAmong e (took (state old) k) → IsAmong e (took (state new) k)) → Follows old new
+  puts_nothing new valid same grows = record {
+    valid = valid;
+    honest = λ l honest. subst (λ (es : List Edit). IsHonest es) (sym same) honest;
+    counted = λ n l up. put_same n old new same up;
+    grows = λ l. grows;
+  }
 
   pub stays : (new : ScriptWorld) → new ≡ old → Follows old new
-  stays new same = subst (λ (w : ScriptWorld). Follows old w) (sym same) (puts_nothing old (λ l. l) refl)
+  stays new same = subst (λ (w : ScriptWorld). Follows old w) (sym same) (puts_nothing old (λ l. l) refl (λ k e a. a))
 
   pub gives : (words : List ℕ) (world : ScriptWorld) → Follows old world → IsStep old (λ outcome new. Gives words world outcome new)
   gives words world follows = record {
@@ -144,7 +165,12 @@ module _ (old : ScriptWorld) where
       let edit = next_edit old k at c in
       with_bool (high_of (held old k) == 18446744073709551615) (λ outcome new. Refuses old VersionsSpent outcome new) (λ outcome new. Gives (ok_line edit.version) (happened old (event.Put k edit)) outcome new)
       (λ spent. spends k spent)
-      (λ free. gives (ok_line edit.version) (happened old (event.Put k edit)) (record { valid = λ l. valid_put old k at c l lt; counted = λ n l up. put_next n old k at c l lt up }))
+      (λ free. gives (ok_line edit.version) (happened old (event.Put k edit)) (record {
+        valid = λ l. valid_put old k at c l lt;
+        honest = λ l. honest_put old k at c l lt;
+        counted = λ n l up. put_next n old k at c l lt up;
+        grows = λ l j e. took_stays (state old) (event.Put k edit) j e;
+      }))
 
   with_file : (bytes : List ℕ) (P : Content → Outcome → ScriptWorld → Type 0) → IsStep old (P (content.File bytes)) → IsStep old (λ outcome new. WithFile old outcome new bytes (λ c. P c outcome new))
   with_file bytes P f = with_bool (is_file bytes) (P (content.File bytes)) (λ outcome new. Refuses old FileTooLarge outcome new) (λ is. f) (λ no. refuses FileTooLarge refl)
@@ -199,12 +225,14 @@ module _ (old : ScriptWorld) where
   pub does : (command : Command) → IsStep old (λ outcome new. Does old command outcome new)
   does (Node name writer) =
       with_option (node_named old.nodes name)
-      (λ outcome new. MatchBool (has_writer old.nodes writer) (Refuses old WriterTaken outcome new) (Gives (codes "ok\n") (with_node old name writer) outcome new))
+      (λ outcome new. MatchBool (is_used old writer) (Refuses old WriterTaken outcome new) (Gives (codes "ok\n") (with_node old name writer) outcome new))
       (λ k outcome new. Refuses old NodeTaken outcome new)
-      (λ none. with_bool (has_writer old.nodes writer) (λ outcome new. Refuses old WriterTaken outcome new) (λ outcome new. Gives (codes "ok\n") (with_node old name writer) outcome new)
+      (λ none. with_bool (is_used old writer) (λ outcome new. Refuses old WriterTaken outcome new) (λ outcome new. Gives (codes "ok\n") (with_node old name writer) outcome new)
       (λ taken. refuses WriterTaken refl) (λ free. gives (codes "ok\n") (with_node old name writer) (record {
         valid = λ l. valid_with_node old name writer l free;
+        honest = λ l honest. subst (λ (es : List Edit). IsHonest es) (sym (puts_with_node old name writer l.within)) honest;
         counted = λ n l up. put_same n old (with_node old name writer) (puts_with_node old name writer l.within) up;
+        grows = λ l k e. subst (λ (es : List Edit). IsAmong e es) (sym (took_with_node old name writer l.within k));
       })))
       (λ k is. refuses NodeTaken refl)
   does (Put node text file) =
@@ -224,31 +252,32 @@ module _ (old : ScriptWorld) where
   does (Merge from to) =
       let G : ℕ → ℕ → Outcome → ScriptWorld → Type 0 = λ j k outcome new. Gives (changed_line (changed_places (held old k) (held (merged old j k) k))) (merged old j k) outcome new in
       at_node from (λ j outcome new. AtNode old outcome new to (λ k. G j k outcome new))
-      (λ j lt_from. at_node to (G j) (λ k lt_to. gives (changed_line (changed_places (held old k) (held (merged old j k) k))) (merged old j k) (puts_nothing (merged old j k) (λ l. valid_merged old j k l lt_from lt_to) refl)))
+      (λ j lt_from. at_node to (G j) (λ k lt_to. gives (changed_line (changed_places (held old k) (held (merged old j k) k))) (merged old j k) (puts_nothing (merged old j k) (λ l. valid_merged old j k l lt_from lt_to) refl (merged_takes old j k))))
   does (Part piece from to texts) =
       let words : ℕ → ℕ → List PlaceParts → List ℕ = λ j k places. entries_line (length (finmap.entries (cut (held old j) (digest_of (held old k)) (if_any places)))) in
       let G : ℕ → ℕ → List PlaceParts → Outcome → ScriptWorld → Type 0 = λ j k places outcome new. Gives (words j k places) (parted old piece j k (if_any places)) outcome new in
       at_node from (λ j outcome new. AtNode old outcome new to (λ k. AtPlaces old outcome new texts (λ places. G j k places outcome new)))
       (λ j lt_from. at_node to (λ k outcome new. AtPlaces old outcome new texts (λ places. G j k places outcome new))
-      (λ k lt_to. at_all_written texts (G j k) (λ places. gives (words j k places) (parted old piece j k (if_any places)) (puts_nothing (parted old piece j k (if_any places)) (λ l. valid_parted piece j k places l lt_from lt_to) refl))))
+      (λ k lt_to. at_all_written texts (G j k) (λ places. gives (words j k places) (parted old piece j k (if_any places)) (puts_nothing (parted old piece j k (if_any places)) (λ l. valid_parted piece j k places l lt_from lt_to) refl (answered_takes old j k (if_any places))))))
     where
       valid_parted : (name : List ℕ) (j k : ℕ) (places : List PlaceParts) → IsValid old → j < length old.nodes → k < length old.nodes → IsValid (parted old name j k (if_any places))
       valid_parted name j k places valid lt_from lt_to =
           let l = valid_answered old j k (if_any places) valid lt_from lt_to in
-          record { within = l.within; apart = l.apart; own = λ e a. (let own = l.own e a in record { node = own.node; within = own.within; writer = own.writer; counter = own.counter }); honest = l.honest }
+          record { within = l.within; apart = l.apart; own = l.own; told = l.told }
   does (Send piece node) =
       let G : ℕ → ℕ → Outcome → ScriptWorld → Type 0 = λ p k outcome new. Gives (changed_line (changed_places (held old k) (held (happened old (event.Give p k)) k))) (happened old (event.Give p k)) outcome new in
       at_piece piece (λ p outcome new. AtNode old outcome new node (λ k. G p k outcome new))
-      (λ p. at_node node (G p) (λ k lt. gives (changed_line (changed_places (held old k) (held (happened old (event.Give p k)) k))) (happened old (event.Give p k)) (puts_nothing (happened old (event.Give p k)) (λ l. valid_given old p k l lt) refl)))
+      (λ p. at_node node (G p) (λ k lt. gives (changed_line (changed_places (held old k) (held (happened old (event.Give p k)) k))) (happened old (event.Give p k)) (puts_nothing (happened old (event.Give p k)) (λ l. valid_given old p k l lt) refl (λ j e. took_stays (state old) (event.Give p k) j e))))
   does Sweep =
       let others = numbers_from 1 (length old.nodes - 1) in
-      gives (codes "ok\n") (swept old) (puts_nothing (swept old) (valid_swept old) (puts_merged_all old (map (λ k. (k, 0)) others ++ map (λ k. (0, k)) others)))
+      gives (codes "ok\n") (swept old) (puts_nothing (swept old) (valid_swept old) (puts_merged_all old (map (λ k. (k, 0)) others ++ map (λ k. (0, k)) others))
+      (merged_all_take old (map (λ k. (k, 0)) others ++ map (λ k. (0, k)) others)))
   does (Files node) = reads node RendersPlaces (λ s a b p q. p ∙ sym q) (λ s outcome p. ap is_spent p)
   does (Text node text) = reads node (RendersText text) (texts_are_rendered_once text) (texts_spend_nothing text)
   does (Cat node host unit) = reads node (RendersFiles host unit) (files_are_rendered_once host unit) (files_spend_nothing host unit)
   does (Ask node host inquiry) = reads node (RendersInquiry old.profile host inquiry) (questions_are_rendered_once (form_of inquiry) (question_by old.profile inquiry) host) (questions_spend_nothing (form_of inquiry) (question_by old.profile inquiry) host)
   does (Workers count) = gives_or_refuses (IsWorkerCount count) (codes "ok\n") NoWorkerCount refl
-  does (command.Profile profile) = gives (codes "ok\n") (with_profile old profile) (puts_nothing (with_profile old profile) (valid_with_profile old profile) refl)
+  does (command.Profile profile) = gives (codes "ok\n") (with_profile old profile) (puts_nothing (with_profile old profile) (valid_with_profile old profile) refl (λ k e a. a))
   does (Same left right) =
       let C : ℕ → ℕ → Outcome → ScriptWorld → Type 0 = λ j k outcome new. ((held old j ≡ held old k) × Gives (codes "same\n") old outcome new) ⊎ ((held old j ≡ held old k → ⊥) × Gives (codes "differ\n") old outcome new) in
       at_node left (λ j outcome new. AtNode old outcome new right (λ k. C j k outcome new))

@@ -2,7 +2,7 @@
 -- never spent.
 use Rattle.std.proofs.Common.{◌++◌, ◌+◌, ◌==◌, ◌∷◌, ◌≡◌, ◌≤◌, ◌⊎◌}
 use Rattle.script_words.specs.Lines.{lines_of}
-use Rattle.fleet_script.proofs.Prelude.{[], Answers, AnswersCommand, AnswersLine, ap, append_assoc, Arguments, arith, BeginsWithVerb, blank, Bool, Command, command_of, cond, count_by-le-length, counted, CountersAreLines, Does, Err, error_line, false, held, high_of, inl, inr, is_passed_over, is_spent, IsPutUpTo, IsValid, length, length-slice_split, length-take, LineRefusal, lines_of_parts, LineTooLong, List, MatchBool, MatchResult, nat_lt, ne_eqb, NoLineIsRefusedForVersions, Ok, others_are_refused, Outcome, outcome_text, PrefixesAreOfTheWhole, put_blank, refl, Refuses, Result, Run, Says, ScriptWorld, slice_split, subst, suc, sym, take, true, true≢false, UnknownCommand, valid_blank, VersionsAreNeverSpent, VersionsSpent, words_of, zero, ℕ, ◌∙◌}
+use Rattle.fleet_script.proofs.Prelude.{[], Answers, AnswersCommand, AnswersLine, ap, append_assoc, Arguments, arith, BeginsWithVerb, begun, blank, Bool, Command, command_of, cond, count_by-le-length, counted, CountersAreLines, CountsOn, Does, Edit, Err, error_line, false, held, high_of, high_among-edits_of, counter_among, edits_of, EntryMap, inl, inr, is_passed_over, is_spent, IsAmong, IsHonest, IsPutUpTo, IsStoreBelow, IsValid, length, length-slice_split, length-take, LineRefusal, lines_of_parts, LineTooLong, List, MatchBool, MatchResult, nat_lt, ne_eqb, NoLineIsRefusedForVersions, Ok, others_are_refused, Outcome, outcome_text, PrefixesAreOfTheWhole, put_blank, puts, puts_begun, refl, Refuses, Result, Run, Says, ScriptWorld, slice_split, state, StaysHonest, store_below_refl, subst, suc, sum_of-least, sym, take, took, true, true≢false, UnknownCommand, valid_begun, valid_blank, VersionsAreNeverSpent, VersionsSpent, words_of, zero, ℕ, ◌∙◌}
 use Rattle.fleet_script.proofs.StepKinds.{does, Follows, HasCounters, refused_once, stays}
 
 -- a line has one answer and leaves one world, which follows
@@ -61,7 +61,7 @@ prefix_of_run (suc k) (line ∷ lines) old a b x y p q =
     (later.0, q.3 ∙ ap (λ v. v ++ q.1) (sym now.0) ∙ ap (λ v. p.0 ++ v) later.1 ∙ sym (append_assoc p.0 p.1 later.0) ∙ ap (λ v. v ++ later.0) (sym p.3))
 
 -- a prefix of a prefix is a prefix
-prefix_of_prefix : (n : ℕ) (a rest : List ℕ) → (m : ℕ) × (take n a ≡ take m (a ++ rest))
+pub prefix_of_prefix : (n : ℕ) (a rest : List ℕ) → (m : ℕ) × (take n a ≡ take m (a ++ rest))
 prefix_of_prefix zero [] rest = (0, refl)
 prefix_of_prefix zero (x ∷ a) rest = (0, refl)
 prefix_of_prefix (suc n) [] rest = (0, refl)
@@ -76,6 +76,24 @@ prefixes_are_of_the_whole script written answers prefix whole =
 pub run_valid : (lines : List (List ℕ)) (old : ScriptWorld) (written : List ℕ) (new : ScriptWorld) → IsValid old → Run old lines written new → IsValid new
 run_valid [] old written new valid r = subst (λ (w : ScriptWorld). IsValid w) (sym r.1) valid
 run_valid (line ∷ lines) old written new valid r = run_valid lines r.2 r.1 new (((line_is old line).follows r.0 r.2 r.4).valid valid) r.5
+
+run_honest : (lines : List (List ℕ)) (old : ScriptWorld) (written : List ℕ) (new : ScriptWorld) → IsValid old → IsHonest (puts old) → Run old lines written new → IsHonest (puts new)
+run_honest [] old written new valid honest r = subst (λ (w : ScriptWorld). IsHonest (puts w)) (sym r.1) honest
+run_honest (line ∷ lines) old written new valid honest r =
+    let step = (line_is old line).follows r.0 r.2 r.4 in
+    run_honest lines r.2 r.1 new (step.valid valid) (step.honest valid honest) r.5
+
+run_takes : (lines : List (List ℕ)) (old : ScriptWorld) (written : List ℕ) (new : ScriptWorld) → IsValid old → Run old lines written new → (k : ℕ) (e : Edit) → IsAmong e (took (state old) k) → IsAmong e (took (state new) k)
+run_takes [] old written new valid r k e a = subst (λ (w : ScriptWorld). IsAmong e (took (state w) k)) (sym r.1) a
+run_takes (line ∷ lines) old written new valid r k e a =
+    let step = (line_is old line).follows r.0 r.2 r.4 in
+    run_takes lines r.2 r.1 new (step.valid valid) r.5 k e (step.grows valid k e a)
+
+-- what a node holds grows
+pub run_grows : (lines : List (List ℕ)) (old : ScriptWorld) (written : List ℕ) (new : ScriptWorld) → IsValid old → Run old lines written new → (k : ℕ) → IsStoreBelow (held old k) (held new k)
+run_grows lines old written new valid r k =
+    let whole = (sum_of-least (took (state new) k) (held new k)).0 (store_below_refl (held new k)) in
+    (sum_of-least (took (state old) k) (held new k)).1 (λ e a. whole e (run_takes lines old written new valid r k e a))
 
 run_counted : (lines : List (List ℕ)) (old : ScriptWorld) (written : List ℕ) (new : ScriptWorld) (n : ℕ) → IsValid old → IsPutUpTo n old → Run old lines written new → IsPutUpTo (n + length lines) new
 run_counted [] old written new n valid up r e a = let most = subst (λ (w : ScriptWorld). IsPutUpTo n w) (sym r.1) up e a in omega arith
@@ -126,3 +144,20 @@ no_line_is_refused_for_versions script k written world line answer new short r a
         other : (BeginsWithVerb (words_of line) × (refusal ≡ Arguments)) ⊎ ((BeginsWithVerb (words_of line) → ⊥) × (refusal ≡ UnknownCommand)) → ⊥
         other (inl why) = true≢false (sym spent ∙ ap (λ (f : LineRefusal). is_spent (Err f)) why.1)
         other (inr why) = true≢false (sym spent ∙ ap (λ (f : LineRefusal). is_spent (Err f)) why.1)
+
+pub blank_stays_honest : (lines : List (List ℕ)) (written : List ℕ) (world : ScriptWorld) → Run blank lines written world → IsHonest (puts world)
+blank_stays_honest lines written world r = run_honest lines blank written world valid_blank (λ e f a b same. absurd a) r
+
+pub stays_honest : StaysHonest
+stays_honest name writer s lines written world r honest =
+    run_honest lines (begun name writer s) written world (valid_begun name writer s) (subst (λ (es : List Edit). IsHonest es) (sym (puts_begun name writer s)) honest) r
+
+pub counts_on : CountsOn
+counts_on name writer s lines written world r =
+    counted (high_of s + length lines) world (run_valid lines (begun name writer s) written world (valid_begun name writer s) r)
+    (λ e a. run_counted lines (begun name writer s) written world (high_of s) (valid_begun name writer s) begun_up r e a)
+  where
+    begun_up : IsPutUpTo (high_of s) (begun name writer s)
+    begun_up e a =
+        let most = counter_among e (edits_of s) (subst (λ (es : List Edit). IsAmong e es) (puts_begun name writer s) a) in
+        omega (arith, high_among-edits_of s)

@@ -1,7 +1,7 @@
 -- What each command does: which outcome it may have in a world, and which world it leaves.
 -- Source: this project's own.
 use Rattle.std.proofs.Common.{◌==◌, ◌∷◌, ◌≡◌, ◌≢◌, ◌⊎◌}
-use Rattle.fleet_script.specs.Prelude.{[], BadLink, BadText, changed_line, changed_places, codes, Command, Component, Content, cut, Depth, digest_of, Directory, entries_line, EntryMap, Err, File, files_text, FileTooLarge, Gone, happened, has_writer, held, high_of, HostName, is_file, is_target, IsBadText, IsWorkerCount, length, LineRefusal, Link, List, MatchBool, MatchOption, MatchResult, merged, next_edit, node_named, NodeTaken, None, Nothing, Ok, ok_line, Option, Outcome, parted, piece_named, place_of, PlaceFault, PlaceParts, places_of, Profile, RendersCrowd, RendersFiles, RendersInquiry, RendersText, ScriptWorld, Some, Spells, swept, UnknownNode, UnknownPiece, VersionsSpent, visible_at, with_node, with_profile, Workers, WriterTaken, ℕ}
+use Rattle.fleet_script.specs.Prelude.{[], BadLink, BadText, changed_line, changed_places, codes, Command, Component, Content, cut, Depth, digest_of, Directory, entries_line, EntryMap, Err, File, files_text, FileTooLarge, Gone, happened, held, high_of, HostName, is_file, is_target, IsBadText, is_used, IsWorkerCount, length, LineRefusal, Link, List, MatchBool, MatchOption, MatchResult, merged, next_edit, node_named, NodeTaken, None, Nothing, Ok, ok_line, Option, Outcome, parted, piece_named, place_of, PlaceFault, PlaceParts, places_of, Profile, RendersCrowd, RendersFiles, RendersInquiry, RendersText, ScriptWorld, Some, Spells, swept, UnknownNode, UnknownPiece, VersionsSpent, visible_at, with_node, with_profile, Workers, WriterTaken, ℕ}
 use Rattle.std.specs.FinMap as finmap
 use Rattle.load_places.specs.declared.places.PlaceFault.TheVariants as place
 use Rattle.world_law.specs.declared.events.Event.TheVariants as event
@@ -74,11 +74,11 @@ module _ (old : ScriptWorld) (outcome : Outcome) (new : ScriptWorld) where
       let edit = next_edit old k place content in
       MatchBool (high_of (held old k) == 18446744073709551615) (Refuses old VersionsSpent outcome new) (Gives (ok_line edit.version) (happened old (event.Put k edit)) outcome new)
 
-  -- a new node; no two nodes have one name or one writer number
+  -- a new node; no two nodes have one name, and no node has a writer number that a node or an edit has
   abbrev pub Names : List ℕ → ℕ → Type 0
   Names name writer =
       MatchOption (node_named old.nodes name)
-      (MatchBool (has_writer old.nodes writer) (Refuses old WriterTaken outcome new) (Gives (codes "ok\n") (with_node old name writer) outcome new))
+      (MatchBool (is_used old writer) (Refuses old WriterTaken outcome new) (Gives (codes "ok\n") (with_node old name writer) outcome new))
       (λ k. Refuses old NodeTaken outcome new)
 
   -- a file is put at a place

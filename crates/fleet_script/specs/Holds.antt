@@ -1,8 +1,8 @@
 -- How the shell represents a world: the current replica of each node; by name the indices of nodes and the current
--- pieces; the writer numbers in use; and the profile.
+-- pieces; the writer numbers in use; and the profile. And what is kept of its first node.
 -- Source: this project's own.
-use Rattle.std.proofs.Common.{◌≡◌, ◌≤◌, ◌⊎◌}
-use Rattle.fleet_script.specs.Prelude.{[], Bool, Command, EntryMap, false, Fault, Global, has_writer, held, high_of, IsPlaceFault, IsSaid, IsValid, join, length, List, Memory, nat_cmp, node_named, None, Ok, Option, Outcome, piece_named, place_of, PlaceParts, Profile, Refused, Replicated, Result, ScriptWorld, slice_cmp, slice_get, slice_index_or, slice_set, Some, state, UnknownNode, Vec, writer_at, ℕ}
+use Rattle.std.proofs.Common.{◌≡◌, ◌⊎◌}
+use Rattle.fleet_script.specs.Prelude.{[], Bool, Command, EntryMap, false, Fault, Global, held, IsPlaceFault, IsSaid, IsStoreBelow, is_used, IsValid, join, length, List, Memory, nat_cmp, node_named, None, Ok, Option, Outcome, piece_named, place_of, PlaceParts, Profile, Refused, Replicated, Result, ScriptWorld, slice_cmp, slice_get, slice_index_or, slice_set, Some, state, UnknownNode, Vec, writer_at, ℕ}
 use Rattle.fleet_script.specs.{declared.states.Shell.{Shell}, Does.{Does}}
 use Rattle.std.specs.BTreeMap as maps
 use Rattle.std.specs.BTreeSet as sets
@@ -53,14 +53,10 @@ pub record Holds (shell : Keeps) (world : ScriptWorld) : Type 0 where
   pub writers : (k : ℕ) (node : Replicated) → slice_get shell.nodes k ≡ Some node → writer_at world.nodes k ≡ node.writer
   pub stores : (k : ℕ) (node : Replicated) → slice_get shell.nodes k ≡ Some node → node.store ≡ held world k
   pub numbers : (name : List ℕ) → shell.number_of name ≡ node_named world.nodes name
-  pub taken : (writer : ℕ) → shell.is_taken writer ≡ has_writer world.nodes writer
+  pub taken : (writer : ℕ) → shell.is_taken writer ≡ is_used world writer
   pub pieces : (name : List ℕ) → IsNamed world (shell.piece_of name) (piece_named world.pieces name)
   pub profile : shell.profile ≡ world.profile
   pub valid : IsValid world
-
--- each node has room for a crowd above the counters that it holds
-abbrev pub HasRoom : Keeps → Type 0
-HasRoom shell = (k : ℕ) (node : Replicated) → slice_get shell.nodes k ≡ Some node → high_of node.store ≤ 18446744073709487615
 
 -- Whatever world the old shell represents, the new one represents one to which it may go.
 abbrev pub Continues : Keeps → Keeps → (ScriptWorld → ScriptWorld → Type 0) → Type 0
@@ -100,3 +96,15 @@ joined_with node other = record node { store = join node.store other.store }
 -- the store of one node is joined into that of another, and all else stays as it was
 abbrev pub IsJoinedAt : Keeps → ℕ → ℕ → Keeps → Type 0
 IsJoinedAt old from to new = (d : Replicated) → new ≡ record old { nodes = slice_set old.nodes to (joined_with (slice_index_or old.nodes to d) (slice_index_or old.nodes from d)) }
+
+-- what was true of a store once still is
+abbrev pub StaysKept : (EntryMap → Type 0) → (EntryMap → Type 0) → Type 0
+StaysKept before after = (s : EntryMap) → before s → after s
+
+-- a store is held now, if less was held before
+abbrev pub IsHeldNext : EntryMap → (EntryMap → Type 0) → (EntryMap → Type 0) → Type 0
+IsHeldNext next before after = (s : EntryMap) → before s → IsStoreBelow s next → after next
+
+-- what the first node holds is held now, in whatever world the shell represents
+abbrev pub FirstIsHeld : Keeps → (EntryMap → Type 0) → (EntryMap → Type 0) → Type 0
+FirstIsHeld shell before after = (world : ScriptWorld) → Holds shell world → IsHeldNext (held world 0) before after

@@ -1,6 +1,6 @@
 -- What is true of every script.
-use Rattle.std.proofs.Common.{◌≡◌, ◌≤◌}
-use Rattle.fleet_script.specs.{Does.{Does}, Prelude.{blank, Command, Err, IsCountedTo, length, lines_of, List, ScriptWorld, take, VersionsSpent, ℕ}, Scripts.{Answers, AnswersCommand, AnswersPrefix, Run}}
+use Rattle.std.proofs.Common.{◌+◌, ◌≡◌, ◌≤◌}
+use Rattle.fleet_script.specs.{Does.{Does}, Prelude.{begun, blank, Command, edits_of, EntryMap, Err, high_of, IsCountedTo, IsHonest, length, lines_of, List, puts, ScriptWorld, take, VersionsSpent, ℕ}, Scripts.{Answers, AnswersCommand, AnswersPrefix, Run}}
 
 -- a prefix of the answers to a script's first lines is a prefix of the answers to the whole script, if that has answers
 abbrev pub PrefixesAreOfTheWhole : Type 0
@@ -22,3 +22,13 @@ abbrev pub NoLineIsRefusedForVersions : Type 0
 NoLineIsRefusedForVersions = (script : List ℕ) (k : ℕ) (written : List ℕ) (world : ScriptWorld) (line answer : List ℕ) (new : ScriptWorld)
     → length script ≤ 16777216 → Run blank (take k (lines_of script)) written world
     → (answered : AnswersCommand world line answer new) → answered.0 ≡ Err VersionsSpent → ⊥
+
+-- after some lines of a script whose world begins with a store, each version belongs to one edit if it did in the store, and
+-- no counter is greater than the store's greatest and the number of these lines
+abbrev pub StaysHonest : Type 0
+StaysHonest = (name : List ℕ) (writer : ℕ) (s : EntryMap) (lines : List (List ℕ)) (written : List ℕ) (world : ScriptWorld) → Run (begun name writer s) lines written world
+    → IsHonest (edits_of s) → IsHonest (puts world)
+
+abbrev pub CountsOn : Type 0
+CountsOn = (name : List ℕ) (writer : ℕ) (s : EntryMap) (lines : List (List ℕ)) (written : List ℕ) (world : ScriptWorld) → Run (begun name writer s) lines written world
+    → IsCountedTo (high_of s + length lines) world

@@ -2,12 +2,13 @@
 ghost use Rattle.std.specs.Prelude.{◌≡◌, ℕ, List, slice_get};
 ghost use Rattle.edit_sums.specs.Sums.{IsHonest};
 ghost use Rattle.script_worlds.specs.{Worlds.{ScriptWorld, blank, held, state}, Validity.{puts}};
-ghost use Rattle.fleet_script.specs.{Readings.{SameEditsSameOutcomes, SameEditsSameStores, StoresAreLeast}, Scripts.{Answers, Run}, ScriptLaws.{CountersAreLines, PrefixesAreOfTheWhole, NoLineIsRefusedForVersions}};
+ghost use Rattle.fleet_script.specs.{Readings.{SameEditsSameOutcomes, SameEditsSameStores, StoresAreLeast}, Scripts.{Answers, Run}, ScriptLaws.{CountersAreLines, CountsOn, NoLineIsRefusedForVersions, PrefixesAreOfTheWhole, StaysHonest}};
 ghost use Rattle.world_law.specs.Worlds as worlds;
 
 /// A script has at most one list of answers, and what a fault leaves written is a prefix of it. In every world that a script
 /// leads to each version belongs to one edit, so each node's store is the sum of what it took. No counter is greater than
-/// the number of lines so far, so no line of a script of at most 16,777,216 bytes is refused with `VersionsSpent`.
+/// the number of lines so far, so no line of a script of at most 16,777,216 bytes is refused with `VersionsSpent`. If the world
+/// begins with a store whose versions each belong to one edit, they still do, and counters go on from the store's greatest.
 pub fn script_laws()
     ensures one { (script first second : List ℕ) → Answers script first → Answers script second →
         first ≡ second }
@@ -20,6 +21,8 @@ pub fn script_laws()
         node.store ≡ held world k }
     ensures counters { CountersAreLines }
     ensures lines { NoLineIsRefusedForVersions }
+    ensures begun { StaysHonest }
+    ensures counts { CountsOn }
 {}
 
 /// The main result for scripts: if two nodes took the same edits, each at any moment of any script, each command that only

@@ -3,11 +3,17 @@
 //! proved against it.
 //!
 //! Promise: the script's answers; convergence.
+//!
+//! `run_kept` begins with a node that is there already, whose edits it keeps in a home (`Home`).
 #![tactic(auto)]
 
+mod faults;
+mod homes;
 mod laws;
 mod running;
 mod states;
 
+pub use faults::{KeptFault, ShellFault};
+pub use homes::{Home, Unkept};
 pub use laws::{readings_agree, script_laws};
-pub use running::{ShellFault, run};
+pub use running::{run, run_kept};

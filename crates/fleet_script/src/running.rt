@@ -1,85 +1,112 @@
 //! Reads a script, and writes its answers.
-ghost use Rattle.std.specs.{Prelude.{◌≡◌, ◌≤◌, ℕ, List, length, Err, OnOk, OnErr, IsErrOf}, Io.KnownBytes.{Appends}};
+ghost use Rattle.std.specs.{Prelude.{◌≡◌, ◌⊎◌, IsErrOf, OnErr, OnOk}, Io.KnownBytes.{Appends}};
 ghost use Rattle.script_pipes.specs.{Failures.{FailedSince}, KnownBytes.{AppendsPrefix}};
-ghost use Rattle.fleet_script.specs.{Ends.{IsAnswered, IsPrefixWritten, IsUnread}, Scripts.{Answers, AnswersPrefix}};
-ghost use Rattle.fleet_script.specs.declared.running.ShellFault.TheVariants.{Write};
+ghost use Rattle.edit_sums.specs.Sums.{EntryMap};
+ghost use Rattle.script_worlds.specs.Worlds.{ScriptWorld, begun, held};
+ghost use Rattle.fleet_script.specs.Ends.{AnswersFrom, IsAnswered, IsAnsweredFrom, IsPrefixFrom, IsPrefixWritten, IsUnread, PrefixFrom};
+ghost use Rattle.fleet_script.specs.Holds.{FirstIsHeld, Holds, StaysKept, kept_in};
 
+use crate::faults::{KeptFault, ShellFault};
+use crate::homes::{Home, Nowhere};
 use crate::states::Shell;
+use replica_store::Replica;
 use script_pipes::{MAX_SCRIPT_BYTES, ReadFault, Sink, Source, WriteFault, read_all, write_all};
 use script_words::cut_line;
+use std::alloc::Global;
 use std::sync::Wait;
 use std::thread::Threads;
-use thiserror::Error;
 
 /// How many bytes of answers are collected before they are written.
 const BATCH: usize = 65_536;
 
-/// Why a script was not answered to its end.
-#[derive(Clone, Copy, Debug, PartialEq, Eq, Error)]
-pub enum ShellFault {
-    /// A read failed, or the script is longer than the limit. Nothing was written.
-    #[error("read fault")]
-    Read,
-    /// A write failed or took no byte. A prefix of the answers was written.
-    #[error("write fault")]
-    Write,
-    /// Memory ran out. A prefix of the answers was written.
-    #[error("out of memory")]
-    Memory,
-}
+/// The name of the node whose edits are kept.
+const HERE: &[u8] = b"here";
 
-impl From<WriteFault> for ShellFault {
-    ghost from_gives = { λ _ fault. fault ≡ Write };
+// Keeps what the first node holds, and then writes the answers so far.
+fn write_kept<H: Home, K: Sink>(
+    alloc: Global,
+    shell: &Shell,
+    home: &mut H,
+    writer: &mut K,
+    pending: &[u8],
+) -> Result<(), KeptFault>
+    ensures written { OnOk result (Appends (K.contents writer.old) (K.contents writer.new) pending.now) }
+    ensures prefix { OnErr result (AppendsPrefix (K.contents writer.old) (K.contents writer.new) pending.now) }
 
-    fn from(_refused: WriteFault) -> ShellFault {
-        ShellFault::Write
-    }
-}
-
-// Writes the answers so far, when memory ran out for the next one.
-fn give_up<K: Sink>(writer: &mut K, pending: &[u8]) -> Result<(), ShellFault>
-    ensures memory { result ≡ Err ShellFault.Memory }
-    ensures prefix { AppendsPrefix (K.contents writer.old) (K.contents writer.new) pending.now }
+    // What the first node holds is kept before an answer is written.
+    ensures held { OnOk result (FirstIsHeld (kept_in shell.now) (H.holds home.old) (H.holds home.new)) }
+    ensures first { (writer.new ≡ writer.old) ⊎ FirstIsHeld (kept_in shell.now) (H.holds home.old) (H.holds home.new) }
+    ensures kept { StaysKept (H.keeps home.old) (H.keeps home.new) }
+    ensures write { IsErrOf result KeptFault.Write → FailedSince (K.refusals writer.old) (K.refusals writer.new) }
+    ensures unrefused { OnOk result (K.refusals writer.new ≡ K.refusals writer.old) }
+    ensures read { IsErrOf result KeptFault.Read → ⊥ }
 {
+    shell.keep_first(alloc, home)?;
+    write_all(writer, pending)?;
+    Ok(())
+}
+
+// Writes the answers so far, when memory ran out for the next one. Where a home keeps what the first node holds, nothing is
+// written: nobody knows what that node holds now.
+fn give_up<H: Home, K: Sink>(home: &H, writer: &mut K, pending: &[u8]) -> KeptFault
+    ensures memory { result ≡ KeptFault.Memory }
+    ensures prefix { AppendsPrefix (K.contents writer.old) (K.contents writer.new) pending.now }
+    ensures free { (writer.new ≡ writer.old) ⊎ ((s : EntryMap) → H.keeps home.now s) }
+{
+    if home.is_bound() {
+        return KeptFault::Memory;
+    }
     match write_all(writer, pending) {
-        Ok(()) | Err(WriteFault) => Err(ShellFault::Memory),
+        Ok(()) | Err(WriteFault) => KeptFault::Memory,
     }
 }
 
-// Writes the answers to a script, in large blocks.
-fn answer_all<R: AllocGlobal + Threads + Wait + Sync, K: Sink>(
+// Writes the answers to a script, in large blocks. Before each block what the first node holds is kept.
+fn answer_all<R: AllocGlobal + Threads + Wait + Sync, H: Home, K: Sink>(
     rt: &R,
+    mut shell: Shell,
+    home: &mut H,
     script: &[u8],
     writer: &mut K,
-) -> Result<(), ShellFault>
-    requires short { length script.now ≤ MAX_SCRIPT_BYTES }
-    ensures ok { OnOk result ((written : List ℕ) × Answers script.now written
-        × Appends (K.contents writer.old) (K.contents writer.new) written) }
-    ensures prefix { OnErr result ((written : List ℕ) × AnswersPrefix script.now written
-        × Appends (K.contents writer.old) (K.contents writer.new) written) }
-    ensures write { IsErrOf result ShellFault.Write → FailedSince (K.refusals writer.old)
-        (K.refusals writer.new) }
-    ensures read { IsErrOf result ShellFault.Read → ⊥ }
+) -> Result<(), KeptFault>
+    ensures ok { OnOk result ((first : ScriptWorld) → Holds (kept_in shell) first → H.holds home.old (held first 0) →
+        AnswersFrom first script.now (K.contents writer.old) (K.contents writer.new) (H.holds home.new)) }
+    ensures prefix { OnErr result ((first : ScriptWorld) → Holds (kept_in shell) first → H.holds home.old (held first 0) →
+        PrefixFrom first script.now (K.contents writer.old) (K.contents writer.new) (H.keeps home.new)) }
+    ensures write { IsErrOf result KeptFault.Write → FailedSince (K.refusals writer.old) (K.refusals writer.new) }
+    ensures read { IsErrOf result KeptFault.Read → ⊥ }
 {
-    let mut shell = Shell::new(rt.alloc());
-    let mut pending = Vec::new(rt.alloc());
+    let alloc = rt.alloc();
+    let mut pending = Vec::new(alloc);
     let mut rest = script;
     while !rest.is_empty() {
         let (line, later) = cut_line(rest);
         let Ok(answer) = shell.answer_line(rt, line) else {
-            return give_up(writer, &pending);
+            return Err(give_up(home, writer, &pending));
         };
         if pending.extend_from_slice(&answer).is_err() {
-            return give_up(writer, &pending);
+            return Err(give_up(home, writer, &pending));
         }
         rest = later;
         if pending.len() >= BATCH {
-            write_all(writer, &pending)?;
+            write_kept(alloc, &shell, home, writer, &pending)?;
             pending.clear();
         }
     }
-    write_all(writer, &pending)?;
-    Ok(())
+    write_kept(alloc, &shell, home, writer, &pending)
+}
+
+// What ended a run without a home.
+fn without_home(fault: KeptFault) -> ShellFault
+    ensures read { result ≡ ShellFault.Read → fault ≡ KeptFault.Read }
+    ensures write { result ≡ ShellFault.Write → fault ≡ KeptFault.Write }
+{
+    match fault {
+        KeptFault::Read => ShellFault::Read,
+        KeptFault::Write => ShellFault::Write,
+        // (without a home nothing is unkept)
+        KeptFault::Memory | KeptFault::Unkept => ShellFault::Memory,
+    }
 }
 
 /// Reads a whole script, and writes the answers to its commands.
@@ -107,9 +134,50 @@ pub fn run<R: AllocGlobal + Threads + Wait + Sync, S: Source, K: Sink>(
     ensures write { IsErrOf result ShellFault.Write → FailedSince (K.refusals writer.old)
         (K.refusals writer.new) }
 {
-    match read_all(rt.alloc(), reader) {
-        Ok(script) => answer_all(rt, &script, writer),
-        Err(ReadFault::Failed) => Err(ShellFault::Read),
-        Err(ReadFault::Memory) => Err(ShellFault::Memory),
+    let alloc = rt.alloc();
+    let script = match read_all(alloc, reader) {
+        Ok(script) => script,
+        Err(ReadFault::Failed) => return Err(ShellFault::Read),
+        Err(ReadFault::Memory) => return Err(ShellFault::Memory),
+    };
+    match answer_all(rt, Shell::new(alloc), &mut Nowhere, &script, writer) {
+        Ok(()) => Ok(()),
+        Err(fault) => Err(without_home(fault)),
+    }
+}
+
+/// Reads a whole script, and writes the answers to its commands in a world that begins with a node named `here`, which holds
+/// what the given replica does. What the node holds is kept in a home: an answer is written only when what its line did is
+/// kept. Further nodes are dropped at the end; no node gets a writer number that an edit of the replica has.
+///
+/// Limits and cost are those of `run`, and each block of 64 KiB of answers is kept at once.
+pub fn run_kept<R: AllocGlobal + Threads + Wait + Sync, H: Home, S: Source, K: Sink>(
+    rt: &R,
+    home: &mut H,
+    here: Replica,
+    reader: &mut S,
+    writer: &mut K,
+) -> Result<(), KeptFault>
+    requires held { H.holds home.old here.store }
+
+    // The answers to the whole script are written, and the home holds what the node does at the end.
+    ensures ok { OnOk result (IsAnsweredFrom (begun HERE.now here.writer here.store) MAX_SCRIPT_BYTES
+        (S.remaining reader.old) (K.contents writer.old) (K.contents writer.new) (H.holds home.new)) }
+
+    // If the script wasn't read, nothing is written and nothing is kept, and a read failed or the script is too long.
+    ensures read { IsErrOf result KeptFault.Read → IsUnread MAX_SCRIPT_BYTES (S.remaining reader.old)
+        (S.failures reader.old) (S.failures reader.new) (K.contents writer.old) (K.contents writer.new) }
+    ensures unread { IsErrOf result KeptFault.Read → home.new ≡ home.old }
+
+    // On every fault a prefix of the answers to some first lines is written, and what the node holds after these lines is kept.
+    ensures prefix { OnErr result (IsPrefixFrom (begun HERE.now here.writer here.store) (S.remaining reader.old)
+        (K.contents writer.old) (K.contents writer.new) (H.keeps home.new)) }
+    ensures write { IsErrOf result KeptFault.Write → FailedSince (K.refusals writer.old) (K.refusals writer.new) }
+{
+    let alloc = rt.alloc();
+    match read_all(alloc, reader) {
+        Ok(script) => answer_all(rt, Shell::begun(alloc, HERE, here)?, home, &script, writer),
+        Err(ReadFault::Failed) => Err(KeptFault::Read),
+        Err(ReadFault::Memory) => Err(KeptFault::Memory),
     }
 }

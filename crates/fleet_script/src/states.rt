@@ -11,6 +11,7 @@ use script_commands::{Fault, LineRefusal};
 use std::alloc::Global;
 use std::collections::{BTreeMap, BTreeSet};
 
+mod beginnings;
 mod changes;
 mod exchanges;
 mod execution;

@@ -2,7 +2,8 @@
 -- host's places don't change them.
 use Rattle.std.proofs.Common.{◌++◌, ◌↔◌, ◌∷◌, ◌≡◌, ◌≢◌}
 use Rattle.script_answers.specs.Prelude.{[], ap, Choice, codes, Contains, content_at, EntryMap, Err, Files, files_show, first_there, flat_map, HaveTheSameFiles, Host, host_asked, host_view_of, HostFault, hosts_without_places_have_these_files, HostViewMap, later_there, level_for, List, mains_decide, MatchResult, Name, name_of, NameFault, None, of_fleet, of_host, Ok, Option, other_hosts_are_not_in_view, Outcome, PlaceParts, refl, Resolution, resolution, Result, same_mains, ShowsNothing, Some, subst, sym, turned, ℕ, ◌∙◌}
-use Rattle.script_answers.specs.{Files.{file_bytes, file_lines, IsCat, RefusesName, RendersChoice, RendersFiles, RendersFilesOf}, Hosts.{by_files, RefusesHost}}
+use Rattle.script_answers.specs.{Files.{file_bytes, IsCat, RefusesName, RendersChoice, RendersFiles, RendersFilesOf}, Hosts.{by_files, RefusesHost}}
+use Rattle.place_texts.specs.PlaceTexts.{file_lines}
 use Rattle.std.specs.FinMap as finmap
 use Rattle.fragment_choice.specs.declared.choices.Choice.TheVariants as choice
 

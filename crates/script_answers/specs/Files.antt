@@ -1,18 +1,11 @@
 -- The files of a unit, and how they are written.
 -- Source: as `systemctl cat` shows a unit (systemctl(1)); the texts of refusals are this project's own.
-use Rattle.std.proofs.Common.{if◌then◌else◌, ◌++◌, ◌↔◌, ◌∷◌, ◌≡◌}
-use Rattle.script_answers.specs.Prelude.{[], AreNames, Bad, BadByte, Choice, codes, Contains, Content, content_at, EmptyPrefix, ends_with, Entry, entry_place, EntryMap, Err, File, file_name, flat_map, Gone, host_view_of, HostViewMap, IsDropInAt, IsStrictlySortedBy, Kind, Length, Link, List, map, Masked, MatchResult, Name, name_cmp, name_of, NameFault, nat_eq, None, NotFound, Ok, Option, Outcome, PathParts, place_text, PlaceParts, resolution, shown, Some, ℕ}
+use Rattle.std.proofs.Common.{◌++◌, ◌↔◌, ◌∷◌, ◌≡◌}
+use Rattle.script_answers.specs.Prelude.{[], AreNames, Bad, BadByte, Choice, codes, Contains, Content, content_at, EmptyPrefix, Entry, entry_place, EntryMap, Err, File, file_name, flat_map, Gone, host_view_of, HostViewMap, IsDropInAt, IsStrictlySortedBy, Kind, Length, Link, List, map, Masked, MatchResult, Name, name_cmp, name_of, NameFault, None, NotFound, Ok, Option, Outcome, PathParts, PlaceParts, resolution, shown, Some, ℕ}
 use Rattle.script_answers.specs.Hosts.{by_files, ForHost}
+use Rattle.place_texts.specs.PlaceTexts.{file_lines}
 use Rattle.unit_name.specs.declared.names.NameFault.TheVariants as name
 use Rattle.fragment_choice.specs.declared.choices.Choice.TheVariants as choice
-
--- a line feed, unless the last byte is one
-abbrev pub line_end : List ℕ → List ℕ
-line_end bytes = if ends_with nat_eq bytes (codes "\n") then [] else codes "\n"
-
--- a file: its place after `# `, and its bytes, with a line feed added if the last byte is none
-abbrev pub file_lines : PlaceParts → List ℕ → List ℕ
-file_lines place bytes = codes "# " ++ place_text place ++ codes "\n" ++ bytes ++ line_end bytes
 
 -- the bytes of a content that is a file
 abbrev pub file_bytes : Option Content → List ℕ

@@ -6,8 +6,6 @@ pub mod FileLaws
 pub mod Hosts
 pub mod HostLaws
 pub mod Files
-pub mod PlaceTextLaws
-pub mod PlaceTexts
 pub mod Plans
 pub mod PulledLines
 pub mod Requests

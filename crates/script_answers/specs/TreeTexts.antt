@@ -2,7 +2,7 @@
 -- Source: this project's own.
 use Rattle.std.proofs.Common.{◌++◌, ◌∷◌, ◌≡◌, ◌⊎◌}
 use Rattle.script_answers.specs.Prelude.{[], codes, Content, EntryMap, flat_map, Fleet, IsCrossed, IsTree, LinkedUnit, List, Name, PathParts, ReadsItsTree, Viewer, within, ℕ}
-use Rattle.script_answers.specs.PlaceTexts.{shown_lines}
+use Rattle.place_texts.specs.PlaceTexts.{shown_lines}
 
 -- the files and links of a tree, each as what stands at the fleet's place of its path
 abbrev pub standing_lines : PathParts × Content → List ℕ

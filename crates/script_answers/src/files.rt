@@ -4,11 +4,12 @@ ghost use Rattle.edit_sums.specs.Sums.{shown};
 ghost use Rattle.path_maps.specs.HostViews.{host_view_of};
 ghost use Rattle.fragment_choice.specs.Resolutions.{main};
 ghost use Rattle.script_commands.specs.Outcomes.{IsSaid};
-ghost use Rattle.script_answers.specs.Files.{AreFiles, IsCat, IsFile, IsFileAt, RendersFiles, RendersFilesOf, entry_lines, file_bytes, file_lines, borrowed_text};
+ghost use Rattle.script_answers.specs.Files.{AreFiles, IsCat, IsFile, IsFileAt, RendersFiles, RendersFilesOf, entry_lines, file_bytes, borrowed_text};
 
 use dropins::UnitFolders;
 use edit_sums::Content;
 use fragment_choice::{Choice, Resolution, names_of, resolve};
+use place_texts::append_file;
 use profiles::Profile;
 use replica_store::{HostView, HostViewEntry, Place, Store, Viewer};
 use script_commands::{Fault, LineRefusal, Word, read_host};
@@ -26,22 +27,7 @@ fn bytes_of<'a>(content: Option<&'a Content>) -> &'a [u8]
     }
 }
 
-/// Appends a file: its place after `# `, and its bytes, with a line feed added if the last byte is none. Fails only if
-/// memory runs out.
-pub(crate) fn append_file(out: &mut Vec<u8>, place: &Place, bytes: &[u8]) -> Result<(), AllocError>
-    ensures appended { OnOk result (out.new.items ≡ out.old.items ++ file_lines place.now bytes.now) }
-{
-    out.extend_from_slice(b"# ")?;
-    place.append_to(out)?;
-    out.push(b'\n')?;
-    out.extend_from_slice(bytes)?;
-    if bytes.last() != Some(&b'\n') {
-        out.push(b'\n')?;
-    }
-    Ok(())
-}
-
-// The same for an entry that is a file.
+// Appends an entry that is a file.
 fn append_entry(
     out: &mut Vec<u8>,
     view: &HostView,

@@ -4,7 +4,7 @@
 //! Promise: the script's answers.
 //!
 //! - `asking`, `requests`: an inquiry, from its words to its answer.
-//! - `unit_lines`, `pulled_lines`, `plan_lines`, `files`, `place_texts`, `trees`: the text of each kind of answer.
+//! - `unit_lines`, `pulled_lines`, `plan_lines`, `files`, `trees`: the text of each kind of answer.
 //! - `answers`, `names`, `refusals`: single lines, names and refusals.
 //! - `crews`, `crowding`: the number of workers, and crowds.
 //! - `rendering_laws`: each question has one answer.
@@ -16,7 +16,6 @@ mod crowding;
 mod files;
 mod laws;
 mod names;
-mod place_texts;
 mod plan_lines;
 mod pulled_lines;
 mod refusals;
@@ -30,5 +29,4 @@ pub use asking::render_inquiry;
 pub use crowding::render_crowd;
 pub use files::render_files;
 pub use laws::rendering_laws;
-pub use place_texts::render_text;
 pub use worker_counts::WorkerCount;

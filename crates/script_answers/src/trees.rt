@@ -3,9 +3,9 @@ ghost use Rattle.std.specs.{Prelude.{◌≡◌, ◌++◌, IfOk, OnOk}};
 ghost use Rattle.host_trees.specs.Reads.{ShowsTree};
 ghost use Rattle.script_answers.specs.TreeTexts.{AppendsCrossed, crossed_line, IsTreeText, standing_lines, tree_lines};
 
-use crate::place_texts::append_shown;
 use fleet_answers::LinkedUnit;
 use host_trees::{is_crossed, tree, tree_store};
+use place_texts::append_shown;
 use replica_store::{Content, Path, Place, Scope, Store, Viewer};
 use std::alloc::{AllocError, Global};
 use unit_name::UnitName;

@@ -1,17 +1,17 @@
 -- The greatest counter of a world grows by at most one when a node puts its next edit, and otherwise stays.
 use Rattle.std.proofs.Common.{◌+◌, ◌<◌, ◌∷◌, ◌≡◌, ◌≤◌}
-use Rattle.script_worlds.specs.Prelude.{[], ap, arith, blank_sound, Content, Edit, Event, happens_keeps, high_among-least, high_of, high_of-sum_of, inl, inr, IsAmong, IsHonest, IsSound, length, List, None, Option, PlaceParts, Put, puts_first, puts_of, puts_of-Put, puts_rest, refl, slice_get, Some, subst, suc, took, took_by, world_of, ℕ}
+use Rattle.script_worlds.specs.Prelude.{[], ap, AreToldApart, arith, blank_sound, Content, Edit, Event, happens_keeps, high_among-least, high_of, high_of-sum_of, inl, inr, IsAmong, IsSound, length, List, None, Option, PlaceParts, Put, puts_first, puts_of, puts_of-Put, puts_rest, refl, slice_get, Some, subst, suc, took, took_by, world_of, ℕ}
 use Rattle.script_worlds.specs.{Counts.{IsCountedTo, IsPutUpTo}, Validity.{IsValid, puts}, Worlds.{blank, happened, held, merged, merged_all, next_edit, ScriptWorld, state}}
 use Rattle.world_law.specs.Worlds as worlds
 
 -- What a node took was put.
 
-sound_after : (n : ℕ) (all history : List Event) → IsHonest (puts_of n all) → ((e : Edit) → IsAmong e (puts_of n history) → IsAmong e (puts_of n all))
+sound_after : (n : ℕ) (all history : List Event) → AreToldApart (puts_of n all) → ((e : Edit) → IsAmong e (puts_of n history) → IsAmong e (puts_of n all))
     → IsSound n (λ e. IsAmong e (puts_of n all)) (world_of n history)
-sound_after n all [] honest within = blank_sound n (λ e. IsAmong e (puts_of n all))
-sound_after n all (event ∷ history) honest within =
-    happens_keeps n (λ e. IsAmong e (puts_of n all)) honest (world_of n history) event
-    (sound_after n all history honest (λ e a. within e (puts_rest n event history e a)))
+sound_after n all [] told within = blank_sound n (λ e. IsAmong e (puts_of n all))
+sound_after n all (event ∷ history) told within =
+    happens_keeps n (λ e. IsAmong e (puts_of n all)) told (world_of n history) event
+    (sound_after n all history told (λ e a. within e (puts_rest n event history e a)))
     (λ e a. within e (puts_first n event history e a))
 
 took_was_put : (world : ScriptWorld) → IsValid world → (k : ℕ) (e : Edit) → IsAmong e (took (state world) k) → IsAmong e (puts world)
@@ -19,7 +19,7 @@ took_was_put world valid k e a = by (slice_get (state world).nodes k) refl a
   where
     by : (o : Option worlds.Node) → slice_get (state world).nodes k ≡ o → IsAmong e (took_by o) → IsAmong e (puts world)
     by None at a = absurd a
-    by (Some node) at a = ((sound_after (length world.nodes) world.events world.events valid.honest (λ f b. b)).nodes k node at).puts e a
+    by (Some node) at a = ((sound_after (length world.nodes) world.events world.events valid.told (λ f b. b)).nodes k node at).puts e a
 
 -- no node holds a greater counter than was put
 pub counted : (n : ℕ) (world : ScriptWorld) → IsValid world → IsPutUpTo n world → IsCountedTo n world

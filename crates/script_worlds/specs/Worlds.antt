@@ -1,7 +1,7 @@
 -- The world that a script builds: its nodes, the events so far, and the named pieces.
 -- Source: The events are those of `world_law`; names and writer numbers are this project's own.
 use Rattle.std.proofs.Common.{if◌then◌else◌, ◌++◌, ◌+◌, ◌-◌, ◌==◌, ◌∷◌}
-use Rattle.script_worlds.specs.Prelude.{[], Ask, Bool, bytes_eq, Content, Cut, Edit, EntryMap, Event, Files, Give, high_of, length, List, list_any, map, None, Option, option_map, PlaceParts, position, Profile, slice_get, Some, suc, sum_of, took, unwrap_or, world_of, zero, ℕ}
+use Rattle.script_worlds.specs.Prelude.{[], Ask, Bool, bytes_eq, Content, Cut, Edit, edits_of, EntryMap, Event, Files, Give, high_of, length, List, list_any, map, None, Option, option_map, PlaceParts, position, Profile, Put, slice_get, Some, suc, sum_of, took, unwrap_or, world_of, zero, ℕ}
 use Rattle.world_law.specs.Worlds as worlds
 
 -- a node: its name, and its writer number
@@ -17,13 +17,17 @@ pub record ScriptWorld : Type 0 where
   pub pieces : List (List ℕ × ℕ)
   pub profile : Profile
 
--- the world at first, whose units are as their files say alone
+-- the world without nodes, whose units are as their files say alone
 abbrev pub blank : ScriptWorld
 blank = record { nodes = []; events = []; pieces = []; profile = Files }
 
 -- the world after the events: what each node took, and every ask and piece ever made
 abbrev pub state : ScriptWorld → worlds.EventWorld
 state world = world_of (length world.nodes) world.events
+
+-- the world in which one node has put each entry of a store
+abbrev pub begun : List ℕ → ℕ → EntryMap → ScriptWorld
+begun name writer s = record { nodes = record { name = name; writer = writer } ∷ []; events = map (λ e. Put 0 e) (edits_of s); pieces = []; profile = Files }
 
 -- what a node holds: the sum of what it took
 abbrev pub held : ScriptWorld → ℕ → EntryMap

@@ -1,6 +1,6 @@
 -- The theorem for complete lists of events.
 use Rattle.std.proofs.Common.{◌++◌, ◌↔◌, ◌∷◌, ◌≡◌}
-use Rattle.world_law.proofs.Prelude.{[], after, after_keeps, AreSameEdits, Ask, blank, blank_sound, cond, Cut, EachStoreIsItsSum, EachStoreIsLeast, Edit, EntryMap, Event, false, Give, IfSome, inl, inr, IsAboveEdits, IsAmong, IsHonest, IsSound, IsStoreBelow, List, nat_lt, Node, None, Option, Put, puts_of, refl, SameTookSameStore, slice_get, Some, subst, sum_of-least, sum_of-same_edits, sym, true, ℕ, ◌∙◌}
+use Rattle.world_law.proofs.Prelude.{[], after, after_keeps, AreSameEdits, AreToldApart, Ask, blank, blank_sound, cond, Cut, EachStoreIsItsSum, EachStoreIsLeast, Edit, EntryMap, Event, false, Give, IfSome, inl, inr, IsAboveEdits, IsAmong, IsSound, IsStoreBelow, List, nat_lt, Node, None, Option, Put, puts_of, refl, SameTookSameStore, slice_get, Some, subst, sum_of-least, sum_of-same_edits, sym, true, ℕ, ◌∙◌}
 
 pub IfSome_from : (o : Option Node) (P : Node → Type 0) → ((n : Node) → o ≡ Some n → P n) → IfSome o P
 IfSome_from None P h = tt
@@ -17,24 +17,24 @@ puts_of-append_left n (Ask i ∷ xs) ys e a = puts_of-append_left n xs ys e a
 puts_of-append_left n (Cut j b places ∷ xs) ys e a = puts_of-append_left n xs ys e a
 puts_of-append_left n (Give p k ∷ xs) ys e a = puts_of-append_left n xs ys e a
 
-run_sound : (n : ℕ) (all events : List Event) → IsHonest (puts_of n all) → ((e : Edit) → IsAmong e (puts_of n events) → IsAmong e (puts_of n all)) → IsSound n (λ e. IsAmong e (puts_of n all)) (after events (blank n))
-run_sound n all events honest puts =
-    after_keeps n (λ e. IsAmong e (puts_of n all)) honest events (blank n) (blank_sound n (λ e. IsAmong e (puts_of n all))) puts
+run_sound : (n : ℕ) (all events : List Event) → AreToldApart (puts_of n all) → ((e : Edit) → IsAmong e (puts_of n events) → IsAmong e (puts_of n all)) → IsSound n (λ e. IsAmong e (puts_of n all)) (after events (blank n))
+run_sound n all events apart puts =
+    after_keeps n (λ e. IsAmong e (puts_of n all)) apart events (blank n) (blank_sound n (λ e. IsAmong e (puts_of n all))) puts
 
 pub each_store_is_its_sum : (n : ℕ) (events : List Event) → EachStoreIsItsSum n events
-each_store_is_its_sum n events honest k =
-    IfSome_from _ _ (λ node h. ((run_sound n events events honest (λ e a. a)).nodes k node h).is_sum)
+each_store_is_its_sum n events apart k =
+    IfSome_from _ _ (λ node h. ((run_sound n events events apart (λ e a. a)).nodes k node h).is_sum)
 
 pub each_store_is_least : (n : ℕ) (events : List Event) → EachStoreIsLeast n events
-each_store_is_least n events honest k =
+each_store_is_least n events apart k =
     IfSome_from (slice_get (after events (blank n)).nodes k) (λ node. (s : EntryMap) → IsStoreBelow node.store s ↔ IsAboveEdits node.took s)
     (λ node h s. (let P : EntryMap → Type 0 = λ t. IsStoreBelow t s ↔ IsAboveEdits node.took s in
-    subst P (sym ((run_sound n events events honest (λ e a. a)).nodes k node h).is_sum) (sum_of-least node.took s)))
+    subst P (sym ((run_sound n events events apart (λ e a. a)).nodes k node h).is_sum) (sum_of-least node.took s)))
 
 pub same_took_same_store : (n : ℕ) (before later : List Event) → SameTookSameStore n before later
-same_took_same_store n before later honest k l =
-    let early = run_sound n (before ++ later) before honest (puts_of-append_left n before later) in
-    let late = run_sound n (before ++ later) (before ++ later) honest (λ e a. a) in
+same_took_same_store n before later apart k l =
+    let early = run_sound n (before ++ later) before apart (puts_of-append_left n before later) in
+    let late = run_sound n (before ++ later) (before ++ later) apart (λ e a. a) in
     let one_store : (a b : Node) → slice_get (after before (blank n)).nodes k ≡ Some a → slice_get (after (before ++ later) (blank n)).nodes l ≡ Some b → AreSameEdits a.took b.took → a.store ≡ b.store =
     λ a b ha hb same. (early.nodes k a ha).is_sum ∙ sum_of-same_edits a.took b.took same.0 same.1 ∙ sym (late.nodes l b hb).is_sum
     in

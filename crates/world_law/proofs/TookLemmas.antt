@@ -235,9 +235,9 @@ module _ (n : ℕ) where
   IfSome_at o P node is h = let Q : Option Node → Type 0 = λ x. IfSome x P in subst Q is h
 
   pub holds_the_sum : (events : List Event) → HoldsTheSum n events
-  holds_the_sum events honest k =
+  holds_the_sum events apart k =
       IfSome_from _ (λ node. IsSumOf (Took n (reverse events) k) node.store) (λ node there.
-      let sums : node.store ≡ sum_of node.took = IfSome_at _ (λ m. m.store ≡ sum_of m.took) node there (each_store_is_its_sum n events honest k) in
+      let sums : node.store ≡ sum_of node.took = IfSome_at _ (λ m. m.store ≡ sum_of m.took) node there (each_store_is_its_sum n events apart k) in
       let same : took (world_of n (reverse events)) k ≡ node.took = ap (λ w. took w k) (sym (after_is events)) ∙ ap took_by there in
       record {
         above = λ e t.

@@ -1,8 +1,12 @@
 -- What asks and cuts hold at a place.
 use Rattle.std.proofs.Common.{◌++◌, ◌∷◌, ◌≡◌}
 use Rattle.world_law.specs.Prelude.{[], ap, below_refl, Bool, cond, content_cmp, Edit, edit_of, edits_of, edits_of-found, Entry, entry_of, EntryMap, eq_by_cmp, Equal, false, find, get-join, get-sum_of, Greater, greatest_at, greatest_at-filter, is_gt, IsAmong-append_left, IsAmong-append_right, IsBelow, IsHonest, join, larger, larger-absorb, Less, List, map, None, Option, option_map, ordering_then, passed, passed_was, place_cmp, place_cmp_total, PlaceParts, refl, same_store, Some, subst, sym, tied, true, version_cmp, version_cmp-IsAntisymmetric, ◌∙◌}
-use Rattle.world_law.specs.Cuts.{at_places, cut, digest_of, is_asked, is_newer, is_wanted, only_at, VersionMap}
+use Rattle.world_law.specs.Cuts.{AreToldApart, at_places, cut, digest_of, is_asked, is_newer, is_wanted, only_at, VersionMap}
 use Rattle.std.specs.FinMap as finmap
+
+-- honest edits are told apart
+pub honest_are_told_apart : (es : List Edit) → IsHonest es → AreToldApart es
+honest_are_told_apart es honest e f a b here same = honest e f a b same
 
 pub get-cut : (s : EntryMap) (ask : VersionMap) (places : Option (List PlaceParts)) (q : PlaceParts) → finmap.get (cut s ask places) q ≡ passed (is_wanted ask places) q (finmap.get s q)
 get-cut s ask places q = get-sum_of _ q ∙ greatest_at-filter (is_wanted ask places) q s
@@ -69,13 +73,13 @@ at_place q (Some v) (Some x) honest ask is =
       | false ↦ λ g. sym (larger-absorb (Some v) (Some x) (not_greater x v g (λ same. honest x v refl refl same)))
     ] refl
 
--- With honest edits, joining the full answer to one's own ask gives the join of both stores.
-pub whole_answer : (a b : EntryMap) → IsHonest (edits_of a ++ edits_of b) → join a (cut b (digest_of a) None) ≡ join a b
-whole_answer a b honest =
+-- Where versions tell edits apart, joining the full answer to one's own ask gives the join of both stores.
+pub whole_answer : (a b : EntryMap) → AreToldApart (edits_of a ++ edits_of b) → join a (cut b (digest_of a) None) ≡ join a b
+whole_answer a b apart =
     same_store _ _
     (λ q.
     let one : (x v : Entry) → finmap.get a q ≡ Some v → finmap.get b q ≡ Some x → x.version ≡ v.version → x ≡ v =
-    λ x v ha hb same. ap entry_of (honest (edit_of (q, x)) (edit_of (q, v)) (IsAmong-append_right (edit_of (q, x)) (edits_of a) (edits_of b) (edits_of-found b q x hb)) (IsAmong-append_left (edit_of (q, v)) (edits_of a) (edits_of b) (edits_of-found a q v ha)) same)
+    λ x v ha hb same. ap entry_of (apart (edit_of (q, x)) (edit_of (q, v)) (IsAmong-append_right (edit_of (q, x)) (edits_of a) (edits_of b) (edits_of-found b q x hb)) (IsAmong-append_left (edit_of (q, v)) (edits_of a) (edits_of b) (edits_of-found a q v ha)) refl same)
     in
     get-join a (cut b (digest_of a) None) q ∙ ap (larger (finmap.get a q)) (get-cut b (digest_of a) None q) ∙
     at_place q (finmap.get a q) (finmap.get b q) one (digest_of a) (get-digest_of a q) ∙ sym (get-join a b q))

@@ -1,8 +1,12 @@
 -- Asks, and the cuts that answer them.
 -- Source: Digests and deltas, after Almeida, Shoker, Baquero 2018; which entries a cut has is this project's own.
-use Rattle.std.proofs.Common.{◌&&◌}
-use Rattle.world_law.specs.Prelude.{Bool, Edit, edits_of, EntryMap, eq_by_cmp, filter, FinMap, is_gt, List, list_any, map, None, Option, place_cmp, PlaceParts, Some, sum_of, true, Version, version_cmp}
+use Rattle.std.proofs.Common.{◌&&◌, ◌≡◌}
+use Rattle.world_law.specs.Prelude.{Bool, Edit, edits_of, EntryMap, eq_by_cmp, filter, FinMap, is_gt, IsAmong, List, list_any, map, None, Option, place_cmp, PlaceParts, Some, sum_of, true, Version, version_cmp}
 use Rattle.std.specs.FinMap as finmap
+
+-- edits are told apart by their versions: no two different ones of one place have one version. Honest edits are.
+abbrev pub AreToldApart : List Edit → Type 0
+AreToldApart es = (e f : Edit) → IsAmong e es → IsAmong f es → e.place ≡ f.place → e.version ≡ f.version → e ≡ f
 
 -- an ask: at most one version at each place
 abbrev pub VersionMap : Type 0

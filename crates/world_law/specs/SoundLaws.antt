@@ -179,7 +179,7 @@ module _ (count : ℕ) (IsPut : Edit → Type 0) where
         }
       ] refl
 
-  module _ (honest : (e f : Edit) → IsPut e → IsPut f → e.version ≡ f.version → e ≡ f) where
+  module _ (apart : (e f : Edit) → IsPut e → IsPut f → e.place ≡ f.place → e.version ≡ f.version → e ≡ f) where
     -- the cut for an ask, together with the asker's store, is everything that the cutting node has
     covered_at : (x : Entry) (q : PlaceParts) (a : Asked) (asker : Node) (c : Bool) (o : Option Version) →
         IsPut (edit_of (q, x)) → IsAskBelow a asker → finmap.get a.versions q ≡ o →
@@ -193,7 +193,7 @@ module _ (count : ℕ) (IsPut : Edit → Type 0) where
               let r = below q v is in
               let small : IsBelow (Some x) (Some r.0) =
               not_greater x r.0 (ap (λ (u : Version). is_gt (version_cmp x.version u)) r.1 ∙ g)
-              (λ same. ap entry_of (honest (edit_of (q, x)) (edit_of (q, r.0)) put r.2 same))
+              (λ same. ap entry_of (apart (edit_of (q, x)) (edit_of (q, r.0)) put r.2 refl same))
               in
               below_trans (Some x) (Some r.0) (finmap.get asker.store q) small r.3
         ] refl

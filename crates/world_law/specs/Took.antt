@@ -1,8 +1,8 @@
 -- What a node took, defined from the events alone.
 -- Source (causal history): Shapiro, Preguica, Baquero, Zawirski 2011.
 use Rattle.std.proofs.Common.{◌++◌, ◌<◌, ◌↔◌, ◌∷◌, ◌≡◌}
-use Rattle.world_law.specs.Prelude.{[], Edit, edit_of, edits_of, Entry, entry_of, EntryMap, IfSome, IsAmong, IsBelow, IsHonest, IsSome, length, List, Option, PlaceParts, reverse, slice_get, Some, true, ℕ}
-use Rattle.world_law.specs.{Cuts.{is_asked}, declared.events.Event.{Event, TheVariants.{Cut, Give, Put}}, Worlds.{after, Asked, blank, EventWorld, happens, Piece, puts_of, took}}
+use Rattle.world_law.specs.Prelude.{[], Edit, edit_of, edits_of, Entry, entry_of, EntryMap, IfSome, IsAmong, IsBelow, IsSome, length, List, Option, PlaceParts, reverse, slice_get, Some, true, ℕ}
+use Rattle.world_law.specs.{Cuts.{AreToldApart, is_asked}, declared.events.Event.{Event, TheVariants.{Cut, Give, Put}}, Worlds.{after, Asked, blank, EventWorld, happens, Piece, puts_of, took}}
 use Rattle.std.specs.FinMap as finmap
 
 -- a world of n nodes after a history, whose newest event comes first
@@ -42,7 +42,7 @@ pub record IsSumOf (T : Edit → Type 0) (s : EntryMap) : Type 0 where
 -- each node's store is the sum of what the node took
 abbrev pub HoldsTheSum : ℕ → List Event → Type 0
 HoldsTheSum n events =
-    IsHonest (puts_of n events) → (k : ℕ) → IfSome (slice_get (after events (blank n)).nodes k) (λ node. IsSumOf (Took n (reverse events) k) node.store)
+    AreToldApart (puts_of n events) → (k : ℕ) → IfSome (slice_get (after events (blank n)).nodes k) (λ node. IsSumOf (Took n (reverse events) k) node.store)
 
 -- the list and the relation agree on what node k took
 abbrev pub TookByEvents : ℕ → List Event → Type 0

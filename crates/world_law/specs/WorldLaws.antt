@@ -1,7 +1,7 @@
 -- How a world changes, event by event.
 use Rattle.std.proofs.Common.{◌++◌, ◌<◌, ◌∷◌, ◌≡◌, ◌≢◌}
-use Rattle.world_law.specs.Prelude.{[], ap, arith, cond-true, Edit, edits_of, entry_of, EntryMap, get_from_edits_of, inl, inr, IsAmong, IsAmong-append_cases, IsAmong-append_left, IsHonest, join, length, List, nat_lt, nat_tests, None, Option, PlaceParts, refl, replicate, slice_get, Some, subst, suc, sum_of, sum_of-IsSum, sym, true, zero, ℕ, ◌∙◌}
-use Rattle.world_law.specs.{CutLaws.{whole_answer}, Cuts.{at_places, cut, digest_of}, declared.events.Event.{Event, TheVariants.{Ask, Cut, Give, Put}}, SoundLaws.{blank_sound, happens_keeps, IsSound, puts_first, puts_rest}, Took.{world_of}, Worlds.{AreWithin, Asked, asked_by, changed_at, cut_for, edits_with, EventWorld, given_to, happens, Node, Piece, puts_of, taken, took, took_by, with_new_node}}
+use Rattle.world_law.specs.Prelude.{[], ap, arith, cond-true, Edit, edits_of, entry_of, EntryMap, get_from_edits_of, inl, inr, IsAmong, IsAmong-append_cases, IsAmong-append_left, join, length, List, nat_lt, nat_tests, None, Option, PlaceParts, refl, replicate, slice_get, Some, subst, suc, sum_of, sum_of-IsSum, sym, true, zero, ℕ, ◌∙◌}
+use Rattle.world_law.specs.{CutLaws.{whole_answer}, Cuts.{AreToldApart, at_places, cut, digest_of}, declared.events.Event.{Event, TheVariants.{Ask, Cut, Give, Put}}, SoundLaws.{blank_sound, happens_keeps, IsSound, puts_first, puts_rest}, Took.{world_of}, Worlds.{AreWithin, Asked, asked_by, changed_at, cut_for, edits_with, EventWorld, given_to, happens, Node, Piece, puts_of, taken, took, took_by, with_new_node}}
 use Rattle.std.specs.FinMap as finmap
 
 -- Nodes.
@@ -232,31 +232,31 @@ took-with_new_node w k = by w.nodes k
     by (n ∷ ns) zero = refl
     by (n ∷ ns) (suc i) = by ns i
 
--- Worlds with honest edits.
+-- Worlds whose edits are told apart by their versions.
 
--- if the edits that are put are honest, every invariant of the theorem holds
-world_sound : (n : ℕ) (all history : List Event) → IsHonest (puts_of n all) → ((e : Edit) → IsAmong e (puts_of n history) → IsAmong e (puts_of n all)) → IsSound n (λ e. IsAmong e (puts_of n all)) (world_of n history)
-world_sound n all [] honest puts = blank_sound n (λ e. IsAmong e (puts_of n all))
-world_sound n all (event ∷ history) honest puts =
-    happens_keeps n (λ e. IsAmong e (puts_of n all)) honest (world_of n history) event
-    (world_sound n all history honest (λ e a. puts e (puts_rest n event history e a)))
+-- if the edits that are put are told apart, every invariant of the theorem holds
+world_sound : (n : ℕ) (all history : List Event) → AreToldApart (puts_of n all) → ((e : Edit) → IsAmong e (puts_of n history) → IsAmong e (puts_of n all)) → IsSound n (λ e. IsAmong e (puts_of n all)) (world_of n history)
+world_sound n all [] apart puts = blank_sound n (λ e. IsAmong e (puts_of n all))
+world_sound n all (event ∷ history) apart puts =
+    happens_keeps n (λ e. IsAmong e (puts_of n all)) apart (world_of n history) event
+    (world_sound n all history apart (λ e a. puts e (puts_rest n event history e a)))
     (λ e a. puts e (puts_first n event history e a))
 
 -- each node's store is the sum of what the node took
-pub stores_are_sums : (n : ℕ) (history : List Event) → IsHonest (puts_of n history) → (k : ℕ) (node : Node) → slice_get (world_of n history).nodes k ≡ Some node → node.store ≡ sum_of (took (world_of n history) k)
-stores_are_sums n history honest k node at =
-    ((world_sound n history history honest (λ e a. a)).nodes k node at).is_sum ∙ ap (λ (o : Option Node). sum_of (took_by o)) (sym at)
+pub stores_are_sums : (n : ℕ) (history : List Event) → AreToldApart (puts_of n history) → (k : ℕ) (node : Node) → slice_get (world_of n history).nodes k ≡ Some node → node.store ≡ sum_of (took (world_of n history) k)
+stores_are_sums n history apart k node at =
+    ((world_sound n history history apart (λ e a. a)).nodes k node at).is_sum ∙ ap (λ (o : Option Node). sum_of (took_by o)) (sym at)
 
 -- a given piece is joined to the node's store
-pub given_is_joined : (n : ℕ) (history : List Event) → IsHonest (puts_of n history) → (p k : ℕ) (piece : Piece) → slice_get (world_of n history).pieces p ≡ Some piece → k < n
+pub given_is_joined : (n : ℕ) (history : List Event) → AreToldApart (puts_of n history) → (p k : ℕ) (piece : Piece) → slice_get (world_of n history).pieces p ≡ Some piece → k < n
     → sum_of (took (world_of n (Give p k ∷ history)) k) ≡ join (sum_of (took (world_of n history) k)) piece.entries
-given_is_joined n history honest p k piece is lt =
+given_is_joined n history apart p k piece is lt =
     let w = world_of n history in
     let node = node_at n history k lt in
     let now : slice_get (world_of n (Give p k ∷ history)).nodes k ≡ Some (taken piece.entries (edits_with piece k) node.0) =
     ap (λ (o : Option Piece). slice_get (given_to w k o).nodes k) is ∙ changed k w.nodes node.0 node.1 in
-    sym (stores_are_sums n (Give p k ∷ history) honest k _ now)
-    ∙ ap (λ s. join s piece.entries) (stores_are_sums n history honest k node.0 node.1)
+    sym (stores_are_sums n (Give p k ∷ history) apart k _ now)
+    ∙ ap (λ s. join s piece.entries) (stores_are_sums n history apart k node.0 node.1)
   where
     changed : (i : ℕ) (ns : List Node) (m : Node) → slice_get ns i ≡ Some m → slice_get (changed_at i (taken piece.entries (edits_with piece k)) ns) i ≡ Some (taken piece.entries (edits_with piece k) m)
     changed i [] m h = cc (h)
@@ -264,12 +264,12 @@ given_is_joined n history honest p k piece is lt =
     changed (suc i) (x ∷ ns) m h = changed i ns m h
 
 -- everything that a node holds was put
-held_was_put : (n : ℕ) (history : List Event) → IsHonest (puts_of n history) → (k : ℕ) (node : Node) → slice_get (world_of n history).nodes k ≡ Some node → (e : Edit) → IsAmong e (edits_of node.store) → IsAmong e (puts_of n history)
-held_was_put n history honest k node at e a =
-    let sound = (world_sound n history history honest (λ f b. b)).nodes k node at in
+held_was_put : (n : ℕ) (history : List Event) → AreToldApart (puts_of n history) → (k : ℕ) (node : Node) → slice_get (world_of n history).nodes k ≡ Some node → (e : Edit) → IsAmong e (edits_of node.store) → IsAmong e (puts_of n history)
+held_was_put n history apart k node at e a =
+    let sound = (world_sound n history history apart (λ f b. b)).nodes k node at in
     sound.puts e ((sum_of-IsSum node.took).found e.place (entry_of e) (sym (ap (λ (s : EntryMap). finmap.get s e.place) sound.is_sum) ∙ get_from_edits_of e node.store a))
 
-module _ (n : ℕ) (history : List Event) (honest : IsHonest (puts_of n history)) (j k : ℕ) (from : j < n) (to : k < n) where
+module _ (n : ℕ) (history : List Event) (apart : AreToldApart (puts_of n history)) (j k : ℕ) (from : j < n) (to : k < n) where
   abbrev pub w : EventWorld
   w = world_of n history
 
@@ -289,7 +289,7 @@ module _ (n : ℕ) (history : List Event) (honest : IsHonest (puts_of n history)
       ap (λ (v : EventWorld). happens v (Cut j a places)) (asked_is w k here.0 here.1) ∙ cut_is asked j a places there.0 ask there.1 (slice_get_last w.asks ask) in (
         piece,
         ap (λ (v : EventWorld). slice_get v.pieces (length w.pieces)) after_cut ∙ slice_get_last w.pieces piece,
-        λ i. cut (stores_are_sums n history honest j there.0 there.1 i) (digest_of (stores_are_sums n history honest k here.0 here.1 i)) places,
+        λ i. cut (stores_are_sums n history apart j there.0 there.1 i) (digest_of (stores_are_sums n history apart k here.0 here.1 i)) places,
       )
 
   -- a node that is given the full answer to its latest ask holds the join of both stores
@@ -297,17 +297,17 @@ module _ (n : ℕ) (history : List Event) (honest : IsHonest (puts_of n history)
   merge_is_joined =
       let there = node_at n history j from in
       let here = node_at n history k to in
-      let one = stores_are_sums n history honest k here.0 here.1 in
-      let other = stores_are_sums n history honest j there.0 there.1 in
+      let one = stores_are_sums n history apart k here.0 here.1 in
+      let other = stores_are_sums n history apart j there.0 there.1 in
       let answer = answer_is None in
-      let both : IsHonest (edits_of (sum_of (took w k)) ++ edits_of (sum_of (took w j))) = λ e f he hf. honest e f (put e he) (put f hf) in
-      given_is_joined n (Cut j a None ∷ Ask k ∷ history) honest (length w.pieces) k answer.0 answer.1 to
+      let both : AreToldApart (edits_of (sum_of (took w k)) ++ edits_of (sum_of (took w j))) = λ e f he hf. apart e f (put e he) (put f hf) in
+      given_is_joined n (Cut j a None ∷ Ask k ∷ history) apart (length w.pieces) k answer.0 answer.1 to
       ∙ ap (λ xs. join (sum_of xs) answer.0.entries) (took-Cut (happens w (Ask k)) j a None k ∙ took-Ask w k k)
       ∙ ap (join (sum_of (took w k))) answer.2
       ∙ whole_answer (sum_of (took w k)) (sum_of (took w j)) both
     where
       put : (e : Edit) → IsAmong e (edits_of (sum_of (took w k)) ++ edits_of (sum_of (took w j))) → IsAmong e (puts_of n history)
       put e h = elim (IsAmong-append_cases e (edits_of (sum_of (took w k))) (edits_of (sum_of (took w j))) h) [
-        | inl l ↦ let here = node_at n history k to in held_was_put n history honest k here.0 here.1 e (subst (λ (s : EntryMap). IsAmong e (edits_of s)) (sym (stores_are_sums n history honest k here.0 here.1)) l)
-        | inr r ↦ let there = node_at n history j from in held_was_put n history honest j there.0 there.1 e (subst (λ (s : EntryMap). IsAmong e (edits_of s)) (sym (stores_are_sums n history honest j there.0 there.1)) r)
+        | inl l ↦ let here = node_at n history k to in held_was_put n history apart k here.0 here.1 e (subst (λ (s : EntryMap). IsAmong e (edits_of s)) (sym (stores_are_sums n history apart k here.0 here.1)) l)
+        | inr r ↦ let there = node_at n history j from in held_was_put n history apart j there.0 there.1 e (subst (λ (s : EntryMap). IsAmong e (edits_of s)) (sym (stores_are_sums n history apart j there.0 there.1)) r)
       ]

@@ -2,8 +2,8 @@
 -- Source (causal history, and strong eventual consistency): Shapiro, Preguica, Baquero, Zawirski 2011; asks and pieces
 -- after Almeida, Shoker, Baquero 2018.
 use Rattle.std.proofs.Common.{if◌then◌else◌, ◌++◌, ◌<◌, ◌==◌, ◌↔◌, ◌∷◌, ◌≡◌}
-use Rattle.world_law.specs.Prelude.{[], Edit, edits_of, EntryMap, IfSome, IsAboveEdits, IsAmong, IsHonest, IsStoreBelow, join, List, nat_lt, None, Option, PlaceParts, replicate, slice_get, Some, suc, sum_of, zero, ℕ}
-use Rattle.world_law.specs.{Cuts.{at_places, cut, digest_of, VersionMap}, declared.events.Event.{Event, TheVariants.{Ask, Cut, Give, Put}}}
+use Rattle.world_law.specs.Prelude.{[], Edit, edits_of, EntryMap, IfSome, IsAboveEdits, IsAmong, IsStoreBelow, join, List, nat_lt, None, Option, PlaceParts, replicate, slice_get, Some, suc, sum_of, zero, ℕ}
+use Rattle.world_law.specs.{Cuts.{AreToldApart, at_places, cut, digest_of, VersionMap}, declared.events.Event.{Event, TheVariants.{Ask, Cut, Give, Put}}}
 use Rattle.std.specs.FinMap as finmap
 
 -- a node: its store, and the edits that it took
@@ -84,12 +84,12 @@ puts_of n (Give p k ∷ es) = puts_of n es
 -- each node's store is the sum of what the node took
 abbrev pub EachStoreIsItsSum : ℕ → List Event → Type 0
 EachStoreIsItsSum n events =
-    IsHonest (puts_of n events) → (k : ℕ) → IfSome (slice_get (after events (blank n)).nodes k) (λ node. node.store ≡ sum_of node.took)
+    AreToldApart (puts_of n events) → (k : ℕ) → IfSome (slice_get (after events (blank n)).nodes k) (λ node. node.store ≡ sum_of node.took)
 
 -- it is also the least store above these edits: a store is above it exactly if it is above each of them
 abbrev pub EachStoreIsLeast : ℕ → List Event → Type 0
 EachStoreIsLeast n events =
-    IsHonest (puts_of n events) → (k : ℕ) → IfSome (slice_get (after events (blank n)).nodes k) (λ node. (s : EntryMap) → IsStoreBelow node.store s ↔ IsAboveEdits node.took s)
+    AreToldApart (puts_of n events) → (k : ℕ) → IfSome (slice_get (after events (blank n)).nodes k) (λ node. (s : EntryMap) → IsStoreBelow node.store s ↔ IsAboveEdits node.took s)
 
 -- the same edits, in any order and with any repetitions
 abbrev pub AreSameEdits : List Edit → List Edit → Type 0
@@ -98,7 +98,7 @@ AreSameEdits xs ys = ((e : Edit) → IsAmong e xs → IsAmong e ys) × ((e : Edi
 -- two nodes that took the same edits hold the same store, at one moment or at two
 abbrev pub SameTookSameStore : ℕ → List Event → List Event → Type 0
 SameTookSameStore n before later =
-    IsHonest (puts_of n (before ++ later)) →
+    AreToldApart (puts_of n (before ++ later)) →
     (k l : ℕ) →
     IfSome (slice_get (after before (blank n)).nodes k) (λ a. IfSome (slice_get (after (before ++ later) (blank n)).nodes l) (λ b.
     AreSameEdits a.took b.took → a.store ≡ b.store))

@@ -1,7 +1,7 @@
 //! Answers lines.
 ghost use Rattle.std.specs.Prelude.{IfOk, MatchResult};
 ghost use Rattle.script_commands.specs.Commands.{command_of};
-ghost use Rattle.fleet_script.specs.{Does.{Does, Refuses}, Holds.{Continues, Goes, HasRoom, kept_in}, Scripts.{AnswersLine}};
+ghost use Rattle.fleet_script.specs.{Does.{Does, Refuses}, Holds.{Continues, Goes, kept_in}, Scripts.{AnswersLine}};
 
 use crate::states::{Rendered, Shell};
 use script_answers::refused;
@@ -17,7 +17,6 @@ const LINE_LIMIT: usize = 300_000;
 impl Shell {
     // Executes the command of a line.
     fn execute<R: AllocGlobal + Threads + Wait + Sync>(&mut self, rt: &R, line: &[u8]) -> Rendered
-        requires room { HasRoom (kept_in self.old) }
         ensures done { Goes (kept_in self.old) (kept_in self.new) (λ before outcome after.
             MatchResult (command_of line.now) (λ command. Does before command outcome after)
             (λ refusal. Refuses before refusal outcome after)) result }
@@ -81,7 +80,6 @@ impl Shell {
         rt: &R,
         line: &[u8],
     ) -> Result<Vec<u8>, AllocError>
-        requires room { HasRoom (kept_in self.old) }
         ensures answered { IfOk result (λ answer. Continues (kept_in self.old) (kept_in self.new)
             (λ old new. AnswersLine old line.now answer.items new)) }
     {

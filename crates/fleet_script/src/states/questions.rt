@@ -1,10 +1,11 @@
 //! Commands that only read.
 ghost use Rattle.script_commands.specs.declared.commands.Command.TheVariants.{Files, Text, Cat, Same, Crowd};
 ghost use Rattle.script_answers.specs.Renders.{RendersInquiry};
-ghost use Rattle.fleet_script.specs.{Does.{Reads}, Holds.{Executes, Goes, HasRoom, kept_in}};
+ghost use Rattle.fleet_script.specs.{Does.{Reads}, Holds.{Executes, Goes, kept_in}};
 
 use crate::states::{Rendered, Shell};
-use script_answers::{list_files, render_crowd, render_files, render_inquiry, render_text};
+use place_texts::render_text;
+use script_answers::{list_files, render_crowd, render_files, render_inquiry};
 use script_commands::{EditCount, Inquiry, Word};
 use std::alloc::Global;
 use std::sync::Wait;
@@ -87,7 +88,6 @@ impl Shell {
         seats: u32,
         edits: EditCount,
     ) -> Rendered
-        requires room { HasRoom (kept_in self.now) }
         ensures done { Executes self.now self.now (Crowd node.now seats edits) result }
     {
         let replica = self.replica(alloc, node)?;

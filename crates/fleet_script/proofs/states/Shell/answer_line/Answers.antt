@@ -1,4 +1,4 @@
-use Rattle.fleet_script.proofs.{Lines.{answered_line}, Prelude.{Err, IfOk-weaker, kept_in, Ok, refl, rules, sym}}
+use Rattle.fleet_script.proofs.{Lines.{answered_line}, Prelude.{Err, IfOk-weaker, kept_in, Ok, refl, sym}}
 use Rattle.fleet_script.proofs.states.Shell.answer_line.Goals as goal
 
 pub returns-in-Ok : goal.returns-in-Ok
@@ -10,6 +10,3 @@ returns-in-Err-Refused g c = record {
       (λ answer is. answered_line (kept_in c.args.self.now) (kept_in c.execute.new.self) c.args.line.now answer.items (Err c.in-Err-Refused.refusal) c.if-line-gt-LINE_LIMIT.false (sym c.if-is_passed_over.ensures.value) is (rw c.in-Err-Refused.field-0-is at c.in-Err-Refused.ensures.done))
       c.refused-in-Err-Refused.ensures.line;
 }
-
-pub execute-requires-clause-room : goal.execute-requires-clause-room
-execute-requires-clause-room g c = (let room = c.requires.room in search rules)

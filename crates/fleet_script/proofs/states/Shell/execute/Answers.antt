@@ -1,4 +1,4 @@
-use Rattle.fleet_script.proofs.{Lines.{executed}, Prelude.{ap, Ask, Cat, Crowd, Files, kept_in, Link, Merge, Node, Ok, Part, Put, Remove, rules, Same, Send, Sweep, sym, Text, Workers, ◌∙◌}}
+use Rattle.fleet_script.proofs.{Lines.{executed}, Prelude.{ap, Ask, Cat, Crowd, Files, kept_in, Link, Merge, Node, Ok, Part, Put, Remove, Same, Send, Sweep, sym, Text, Workers, ◌∙◌}}
 use Rattle.fleet_script.proofs.states.Shell.execute.Goals as goal
 use Rattle.script_commands.specs.declared.commands.Command.TheVariants as command
 
@@ -49,6 +49,3 @@ returns-in-Profile g c = record { done = executed (kept_in c.args.self.now) (kep
 
 pub returns-in-Crowd : goal.returns-in-Crowd
 returns-in-Crowd g c = record { done = executed (kept_in c.args.self.now) (kept_in c.args.self.now) c.args.line.now (Crowd c.in-Crowd.node c.in-Crowd.seats c.in-Crowd.edits) c.crowd.result (ap Ok (sym c.in-Crowd.is) ∙ c.in_ok-name.ensures.command) (rw c.as_slice-in-Crowd.ensures.bytes at c.crowd.ensures.done) }
-
-pub crowd-requires-clause-room : goal.crowd-requires-clause-room
-crowd-requires-clause-room g c = (let room = c.requires.room in search rules)

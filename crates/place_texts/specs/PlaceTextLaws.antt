@@ -1,7 +1,7 @@
 -- The text of a place has one answer.
 use Rattle.std.proofs.Common.{◌≡◌}
-use Rattle.script_answers.specs.Prelude.{ap, Content, EntryMap, Err, false, is_spent, List, MatchOption, MatchResult, None, NotVisible, Ok, Option, Outcome, place_of, PlaceFault, PlaceParts, Result, Some, sym, visible_at, ℕ, ◌∙◌}
-use Rattle.script_answers.specs.PlaceTexts.{RefusesPlace, RendersText, RendersVisible, shown_text}
+use Rattle.place_texts.specs.Prelude.{ap, Content, EntryMap, Err, false, is_spent, List, MatchOption, MatchResult, None, NotVisible, Ok, Option, Outcome, place_of, PlaceFault, PlaceParts, Result, Some, sym, visible_at, ℕ, ◌∙◌}
+use Rattle.place_texts.specs.PlaceTexts.{RefusesPlace, RendersText, RendersVisible, shown_text}
 use Rattle.load_places.specs.declared.places.PlaceFault.TheVariants as place
 
 -- what is visible at a place has one answer, or one refusal

@@ -1,9 +1,16 @@
 -- What is visible at a place, and how it is written.
--- Source: files as in `Files.antt`; the texts of links and of refusals are this project's own.
-use Rattle.std.proofs.Common.{◌++◌, ◌≡◌}
-use Rattle.script_answers.specs.Prelude.{[], codes, Component, Content, Depth, Directory, EntryMap, Err, File, Gone, HostName, Link, List, MatchOption, MatchResult, NotVisible, Ok, Outcome, place_of, place_text, PlaceFault, PlaceParts, visible_at, ℕ}
-use Rattle.script_answers.specs.Files.{file_lines}
+-- Source: files as `systemctl cat` shows them (systemctl(1)); the texts of links and of refusals are this project's own.
+use Rattle.std.proofs.Common.{if◌then◌else◌, ◌++◌, ◌≡◌}
+use Rattle.place_texts.specs.Prelude.{[], codes, Component, Content, Depth, Directory, ends_with, EntryMap, Err, File, Gone, HostName, Link, List, MatchOption, MatchResult, nat_eq, NotVisible, Ok, Outcome, place_of, place_text, PlaceFault, PlaceParts, visible_at, ℕ}
 use Rattle.load_places.specs.declared.places.PlaceFault.TheVariants as place
+
+-- a line feed, unless the last byte is one
+abbrev pub line_end : List ℕ → List ℕ
+line_end bytes = if ends_with nat_eq bytes (codes "\n") then [] else codes "\n"
+
+-- a file: its place after `# `, and its bytes, with a line feed added if the last byte is none
+abbrev pub file_lines : PlaceParts → List ℕ → List ℕ
+file_lines place bytes = codes "# " ++ place_text place ++ codes "\n" ++ bytes ++ line_end bytes
 
 -- what stands at a place: a file as `cat` writes it, or the place and the target of a link; nothing of a removal
 abbrev pub shown_lines : PlaceParts → Content → List ℕ

@@ -1,14 +1,28 @@
-//! The answer to `text`: what is visible at a place.
+//! What is visible at a place, as text.
 ghost use Rattle.std.specs.Prelude.{◌≡◌, ◌++◌, IfOk, OnOk};
 ghost use Rattle.edit_sums.specs.declared.contents.Content.TheVariants.{Link};
 ghost use Rattle.script_commands.specs.Outcomes.{IsSaid};
-ghost use Rattle.script_answers.specs.PlaceTexts.{RendersText, shown_lines, shown_text};
+ghost use Rattle.place_texts.specs.PlaceTexts.{RendersText, file_lines, shown_lines, shown_text};
 
-use crate::files::append_file;
 use edit_sums::Content;
 use replica_store::{LinkTarget, Place, Store};
 use script_commands::{Fault, LineRefusal, read_place};
 use std::alloc::{AllocError, Global};
+
+/// Appends a file: its place after `# `, and its bytes, with a line feed added if the last byte is none. Fails only if
+/// memory runs out.
+pub fn append_file(out: &mut Vec<u8>, place: &Place, bytes: &[u8]) -> Result<(), AllocError>
+    ensures appended { OnOk result (out.new.items ≡ out.old.items ++ file_lines place.now bytes.now) }
+{
+    out.extend_from_slice(b"# ")?;
+    place.append_to(out)?;
+    out.push(b'\n')?;
+    out.extend_from_slice(bytes)?;
+    if bytes.last() != Some(&b'\n') {
+        out.push(b'\n')?;
+    }
+    Ok(())
+}
 
 // Appends a link: its place, and its target.
 fn append_link(out: &mut Vec<u8>, place: &Place, target: &LinkTarget) -> Result<(), AllocError>
@@ -23,11 +37,7 @@ fn append_link(out: &mut Vec<u8>, place: &Place, target: &LinkTarget) -> Result<
 
 /// Appends what stands at a place: a file as `cat` writes it, or the place and the target of a link; nothing of a
 /// removal. Linear in what is written. Fails only if memory runs out.
-pub(crate) fn append_shown(
-    out: &mut Vec<u8>,
-    place: &Place,
-    content: &Content,
-) -> Result<(), AllocError>
+pub fn append_shown(out: &mut Vec<u8>, place: &Place, content: &Content) -> Result<(), AllocError>
     ensures appended { OnOk result (out.new.items ≡ out.old.items ++ shown_lines place.now content.now) }
 {
     match content {
