@@ -1,0 +1,30 @@
+-- What the words ask for.
+-- Source: this project's own.
+use Rattle.std.specs.Prelude.{◌≡◌, ℕ, codes, List, option_map, Some}
+use Rattle.clap.specs.Words.{first_value}
+use Rattle.clap.specs.declared.parser.matches.Found.{Found}
+use Rattle.fleet_node.specs.declared.requests.{Asked.{Asked}, FileRequest.{FileRequest}}
+use Rattle.fleet_node.specs.declared.requests.Asked.TheVariants.{Delta, Digest, History, Id, Run, Store, Take, Tree}
+use Rattle.fleet_node.specs.declared.requests.FileRequest.TheVariants.{Compact, Init, Over}
+
+-- the first value of FILE
+abbrev pub HasFile : Found → List ℕ → Type 0
+HasFile words file = first_value words (codes "FILE") ≡ Some file
+
+-- this subcommand with these words asks for this over an open file
+abbrev pub AsksOver : List ℕ → Found → Asked → Type 0
+AsksOver name words Run = name ≡ codes "run"
+AsksOver name words Digest = name ≡ codes "digest"
+AsksOver name words Store = name ≡ codes "store"
+AsksOver name words Id = name ≡ codes "id"
+AsksOver name words Delta = name ≡ codes "delta"
+AsksOver name words Take = name ≡ codes "take"
+AsksOver name words (History place) = (name ≡ codes "history") × (first_value words (codes "PLACE") ≡ Some place.now)
+AsksOver name words (Tree folder host) =
+    (name ≡ codes "tree") × (first_value words (codes "DIR") ≡ Some folder.now) × (first_value words (codes "host") ≡ option_map (λ h. h.now) host)
+
+-- this subcommand with these words asks for this
+abbrev pub Asks : List ℕ → Found → FileRequest → Type 0
+Asks name words (Init file writer) = (name ≡ codes "init") × HasFile words file.now
+Asks name words (Compact file) = (name ≡ codes "compact") × HasFile words file.now
+Asks name words (Over file asked) = HasFile words file.now × AsksOver name words asked

@@ -1,0 +1,79 @@
+//! What is done over a file, and how the program ends.
+ghost use Rattle.std.specs.Prelude.{◌≡◌};
+ghost use Rattle.fleet_node.specs.Status.{status_of};
+
+use crate::faults::FleetFault;
+use crate::requests::{Asked, FileRequest};
+use crate::works::{Job, Work, do_job, host_of, now};
+use load_places::Place;
+use node_commands::{CommandFault, read_digest, read_piece};
+use node_files::{compact, create, open};
+use script_pipes::Watched;
+use sqlite::Unknown;
+use std::sync::Wait;
+use std::thread::Threads;
+
+fn init(rt: &HostRuntime, file: &str, writer: u32) -> Result<(), CommandFault> {
+    create(rt, file, writer, Unknown)?;
+    Ok(())
+}
+
+// Opens the file, and does a job over it.
+fn over_file<W: AllocGlobal + Threads + Wait + Sync>(
+    rt: &HostRuntime,
+    workers: &W,
+    file: &str,
+    job: Job<'_>,
+) -> Result<(), FleetFault> {
+    let node = open(rt, file, Unknown)?;
+    do_job(rt, workers, node, job)
+}
+
+// What is to be done over a file, with what is read for it. Bytes are read before the file is opened, so that one pipe may
+// lead from a file over another one back to it.
+fn job_of<'a>(rt: &HostRuntime, asked: &Asked<'a>) -> Result<Job<'a>, FleetFault> {
+    let alloc = rt.alloc();
+    let work = match *asked {
+        Asked::Run => return Ok(Job::Script),
+        Asked::Digest => Work::Digest,
+        Asked::Store => Work::Store,
+        Asked::Id => Work::Id,
+        Asked::Delta => Work::Delta(read_digest(alloc, &mut Watched::new(rt.reader()))?),
+        Asked::Take => Work::Take(read_piece(alloc, &mut Watched::new(rt.reader()))?),
+        Asked::History { place } => Work::History(Place::parse(alloc, place.as_bytes())?),
+        Asked::Tree { folder, host } => Work::Tree {
+            folder,
+            host: host_of(alloc, host)?,
+        },
+    };
+    Ok(Job::Work(work))
+}
+
+/// Does what is asked for. Scripts load units by threads of `workers`.
+pub fn run<W: AllocGlobal + Threads + Wait + Sync>(
+    rt: &HostRuntime,
+    workers: &W,
+    request: &FileRequest,
+) -> Result<(), FleetFault> {
+    match *request {
+        FileRequest::Init { file, writer } => init(rt, file, writer)?,
+        FileRequest::Compact { file } => compact(rt, file, now(rt), Unknown, Unknown)?,
+        FileRequest::Over { file, ref asked } => over_file(rt, workers, file, job_of(rt, asked)?)?,
+    }
+    Ok(())
+}
+
+/// Writes to standard error why something was not done, and returns the exit status.
+///
+/// If standard error refuses the line, it is lost: there is nowhere left to report that.
+pub fn finish(rt: &impl Eprint, outcome: Result<(), FleetFault>) -> u8
+    ensures status { result ≡ status_of outcome }
+{
+    match outcome {
+        Ok(()) => 0,
+        Err(fault) => {
+            let _ = eprintln!(rt; "fleet: {fault}");
+            1
+        }
+    }
+}

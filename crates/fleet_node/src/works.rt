@@ -1,0 +1,149 @@
+//! What is done with an open node, whatever its log.
+ghost use Rattle.std.specs.Prelude.{◌≡◌, [], false};
+
+use crate::faults::FleetFault;
+use delta_pieces::{Digest, Piece};
+use durable_node::{EditLog, NodeFault, NodeFile};
+use file_scripts::{LastingHome, run_at};
+use fleet_script::KeptFault;
+use host_trees::tree;
+use load_places::{HostName, Place};
+use node_commands::{
+    CommandFault, take_piece, write_delta, write_digest, write_history, write_id, write_store,
+};
+use script_pipes::Watched;
+use std::alloc::Global;
+use std::io;
+use std::rt::Clock;
+use std::sync::Wait;
+use std::thread::Threads;
+use std::time::{SystemTime, UNIX_EPOCH};
+use tree_files::write_tree;
+
+/// What is to be done with an open node.
+#[derive(Drop)]
+pub enum Job<'a> {
+    /// Answer the script on standard input.
+    Script,
+    /// A piece of work.
+    Work(Work<'a>),
+}
+
+/// A piece of work at an open node, with what was read for it.
+#[derive(Drop)]
+pub enum Work<'a> {
+    /// Write the digest.
+    Digest,
+    /// Write the store.
+    Store,
+    /// Write the identity.
+    Id,
+    /// Write what the owner of a digest lacks.
+    Delta(Digest),
+    /// Commit a piece.
+    Take(Piece),
+    /// Write the history of a place.
+    History(Place),
+    /// Write the unit files into a folder.
+    Tree {
+        folder: &'a str,
+        host: Option<HostName>,
+    },
+}
+
+/// The time in seconds since 1970, or 0 if the clock can't be read.
+pub fn now(rt: &impl Clock) -> u32 {
+    let Ok(time) = SystemTime::now(rt) else {
+        return 0;
+    };
+    let Ok(since) = time.duration_since(UNIX_EPOCH) else {
+        return 0;
+    };
+    u32::try_from(since.as_secs()).unwrap_or(u32::MAX)
+}
+
+/// The host of a tree, if it has one.
+pub fn host_of(alloc: Global, host: Option<&str>) -> Result<Option<HostName>, FleetFault> {
+    match host {
+        Some(name) => Ok(Some(HostName::parse(alloc, name.as_bytes())?)),
+        None => Ok(None),
+    }
+}
+
+// Why a script was not answered to its end. `refused` is what the node's log refused.
+fn fault_of(fault: KeptFault, refused: Option<NodeFault>) -> FleetFault {
+    match fault {
+        KeptFault::Read => FleetFault::Command(CommandFault::Read),
+        KeptFault::Write => FleetFault::Command(CommandFault::Write),
+        KeptFault::Memory => FleetFault::Memory,
+        KeptFault::Unkept => {
+            FleetFault::Command(CommandFault::Node(refused.unwrap_or(NodeFault::Disk)))
+        }
+    }
+}
+
+// Answers the script on standard input at the node.
+fn answer_script<W: AllocGlobal + Threads + Wait + Sync, L: EditLog + Drop>(
+    rt: &HostRuntime,
+    workers: &W,
+    node: NodeFile<L>,
+) -> Result<(), FleetFault>
+    requires whole { node.is_spent ≡ false }
+    requires saved { node.unsaved ≡ [] }
+{
+    let mut home = LastingHome::new(node, now(rt));
+    let mut source = Watched::new(rt.reader());
+    let mut sink = Watched::new(io::writer(rt));
+    match run_at(workers, &mut home, &mut source, &mut sink) {
+        Ok(()) => Ok(()),
+        Err(fault) => Err(fault_of(fault, home.refused())),
+    }
+}
+
+// Writes the unit files that a host sees, or the fleet's, into a folder.
+fn write_files<L: EditLog>(
+    rt: &HostRuntime,
+    node: &NodeFile<L>,
+    folder: &str,
+    host: Option<&HostName>,
+) -> Result<(), FleetFault> {
+    let tree = tree(rt.alloc(), node.replica().store(), host)?;
+    write_tree(rt, folder, &tree)?;
+    Ok(())
+}
+
+// Writes what is asked of a node, or commits a piece.
+fn answer_work<L: EditLog>(
+    rt: &HostRuntime,
+    node: &mut NodeFile<L>,
+    work: Work<'_>,
+) -> Result<(), FleetFault> {
+    let alloc = rt.alloc();
+    let mut sink = Watched::new(io::writer(rt));
+    match work {
+        Work::Digest => write_digest(alloc, node, &mut sink)?,
+        Work::Store => write_store(node, &mut sink)?,
+        Work::Id => write_id(alloc, node, &mut sink)?,
+        Work::Delta(asked) => write_delta(alloc, node, &asked, &mut sink)?,
+        Work::Take(piece) => take_piece(alloc, node, &piece, now(rt), &mut sink)?,
+        Work::History(place) => write_history(alloc, node, &place, &mut sink)?,
+        Work::Tree { folder, host } => write_files(rt, node, folder, host.as_ref())?,
+    }
+    Ok(())
+}
+
+/// Does what is to be done with a node that was just opened, and drops it. Scripts load units by threads of `workers`.
+pub fn do_job<W: AllocGlobal + Threads + Wait + Sync, L: EditLog + Drop>(
+    rt: &HostRuntime,
+    workers: &W,
+    mut node: NodeFile<L>,
+    job: Job<'_>,
+) -> Result<(), FleetFault>
+    requires whole { node.is_spent ≡ false }
+    requires saved { node.unsaved ≡ [] }
+{
+    match job {
+        Job::Script => answer_script(rt, workers, node),
+        Job::Work(work) => answer_work(rt, &mut node, work),
+    }
+}

@@ -1,0 +1,25 @@
+//! What an operator asks of a node that lasts: its digest, its store, what another node lacks of it, what it takes of another,
+//! its identity, and the history of a place. All stand over any log, any reader and any writer.
+//!
+//! Promise: bytes are read exactly; a commit is whole.
+//!
+//! - `write_digest`, `write_store`, `write_id`: write what the node holds, in the bytes of `store_bytes`.
+//! - `read_digest`, `read_piece`: read what another node sent.
+//! - `write_delta`: writes the piece that a digest's owner lacks. `take_piece`: takes a piece, commits it, and tells how many
+//!   places that changed.
+//! - `write_history`: writes a line for each edit of a place that stands in the log.
+//! - `CommandFault`: why a command was not done.
+#![tactic(auto)]
+
+mod exchanges;
+mod faults;
+mod histories;
+mod inputs;
+mod outputs;
+
+pub use byte_fields::SpellingFault;
+pub use exchanges::{take_piece, write_delta};
+pub use faults::CommandFault;
+pub use histories::write_history;
+pub use inputs::{MAX_INPUT_BYTES, read_digest, read_piece};
+pub use outputs::{write_digest, write_id, write_store};

@@ -1,0 +1,30 @@
+//! A log of edits in an SQLite file, which SQLite's own programs open. Each edit is a row of the table `edit`, and what the
+//! log says of itself is the one row of the table `meta`.
+//!
+//! Promise: a commit is whole; a file opens as what it holds.
+//!
+//! Edits are inserted and never changed, each group in one transaction. What a crash leaves of one, what an open finds, and
+//! when a read gives other bytes than were written: the kit's crate `sqlite` says it, and each sentence here has its premise,
+//! a clean disk.
+//!
+//! - `SqliteLog`: the log, over any store of the crate `sqlite`; `create` and `open` are its calls at a path, and its `close`
+//!   leaves one file.
+//! - `found_again`, `found_closed`: what an open finds is what a crash of an earlier log left, or its close.
+#![tactic(auto)]
+
+mod adding;
+mod closing;
+mod faults;
+mod files;
+mod log;
+mod making;
+mod reading;
+mod restarts;
+mod schemas;
+mod spelling;
+mod values;
+
+pub use closing::found_closed;
+pub use files::{create, open};
+pub use log::SqliteLog;
+pub use restarts::found_again;
