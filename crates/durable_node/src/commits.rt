@@ -13,8 +13,8 @@ impl<L: EditLog> NodeFile<L> {
     /// the log comes to the replica's store, whatever crashes.
     ///
     /// A refused commit leaves the replica as it was, and the next open finds of what it wrote all or nothing: what it would
-    /// have found before, or what comes to the replica's store (`found`). The node is
-    /// then spent: it answers `Spent` to each further commit, and has to be opened anew.
+    /// have found before, or what comes to the replica's store (`found`). The node is then spent: it answers `Spent` to each
+    /// further commit, and has to be opened anew.
     pub fn commit(&mut self, time: u32) -> Result<(), NodeFault>
         ensures spent { IsErrOf result NodeFault.Spent ↔ (self.old.is_spent ≡ true) }
         ensures held { L.is_honest self.new.log → OnOk result (IsPermutation (L.held self.old.log ++ stamped time self.old.unsaved) (L.held self.new.log)) }

@@ -11,8 +11,8 @@ use Rattle.durable_node.specs.Nodes.{Node}
 abbrev pub here : List ℕ
 here = codes "here"
 
--- The node holds just this store and is unspent; and if the files are honest, its log comes to the store, and a crash leaves
--- what stands in the log.
+-- The node holds just this store; and if the files are honest, its log comes to the store, and a crash leaves what stands in
+-- the log.
 pub record IsHeldIn {L : Type 0} (is_honest : L → Type 0) (held : L → List LogRow) (may_leave : L → List LogRow → Type 0) (node : Node L) (s : EntryMap) : Type 0 where
   pub store : node.replica.store ≡ s
   pub sum : is_honest node.log → sum_of (edits_in (held node.log)) ≡ s

@@ -31,13 +31,6 @@ impl<L: EditLog> LastingHome<L> {
         }
     }
 
-    /// Borrows the node.
-    pub fn node(&self) -> &NodeFile<L>
-        ensures node { result.now ≡ self.now.node }
-    {
-        &self.node
-    }
-
     /// Why something was not kept, if anything was not.
     pub fn refused(&self) -> Option<NodeFault>
         ensures refused { result ≡ self.now.refused }

@@ -1,13 +1,18 @@
 -- Properties of steps: each has one outcome, leaves one world, keeps the world valid, raises counters by at most one,
 -- and finds them spent only if they are. One lemma for each word of the meaning.
-use Rattle.std.proofs.Common.{◌∷◌, ◌++◌, ◌+◌, ◌-◌, ◌<◌, ◌==◌, ◌≡◌, ◌≤◌, ◌⊎◌}
-use Rattle.fleet_script.proofs.Prelude.{[], answered, ap, arith, Ask, AtNode, AtPiece, AtPlace, AtPlaces, BadLink, BadText, Bool, Cat, changed_line, changed_places, codes, Command, Component, Content, Crowd, crowds_are_rendered_once, crowds_spend_nothing, cut, Depth, digest_of, Directory, Does, Edit, entries_line, EntryMap, Err, false, Files, files_are_rendered_once, files_spend_nothing, FileTooLarge, Gives, happened, held, high_of, honest_put, HostName, if_any, inl, inr, is_file, is_spent, is_target, is_used, IsAmong, IsHonest, IsPutUpTo, IsRead, IsValid, IsWorkerCount, length, LineRefusal, Link, List, map, MatchBool, MatchOption, MatchResult, Member, Merge, merged, merged_all, named_within, next_ask, next_edit, next_piece, Node, node_named, NodeTaken, None, Nothing, NoWorkerCount, numbers_from, Ok, ok_line, Option, Outcome, Part, parted, piece_named, place_of, PlaceFault, PlaceParts, places_of, Put, put_next, put_same, puts, puts_merged_all, puts_with_node, form_of, question_by, questions_are_rendered_once, questions_spend_nothing, Reads, refl, Refuses, RefusesPlace, Remove, RendersCrowd, RendersFiles, RendersInquiry, RendersPlaces, RendersText, Result, Same, ScriptWorld, Send, Some, spells_one, state, subst, suc, Sweep, swept, sym, Text, texts_are_rendered_once, texts_spend_nothing, took, took_stays, took_with_node, true, true≢false, UnknownNode, UnknownPiece, valid_answered, valid_given, valid_merged, valid_put, valid_with_node, valid_with_profile, VersionsSpent, visible_at, with_node, with_profile, WithFile, WithTarget, WithText, Workers, WriterTaken, Writes, zero, ℕ, ◌∙◌}
+use Rattle.std.proofs.Common.{◌∷◌, ◌++◌, ◌+◌, ◌-◌, ◌<◌, ◌==◌, ◌||◌, ◌≡◌, ◌≤◌, ◌⊎◌}
+use Rattle.fleet_script.proofs.Prelude.{[], answered, ap, arith, Ask, AtNode, AtPiece, AtPlace, AtPlaces, BadLink, BadText, Bool, Cat, changed_line, changed_places, codes, Command, Component, cond, Content, Crowd, crowds_are_rendered_once, crowds_spend_nothing, cut, Depth, digest_of, Directory, Does, Edit, entries_line, EntryMap, Err, false, Files, files_are_rendered_once, files_spend_nothing, FileTooLarge, Gives, happened, has_writer, has_writer-push, held, high_of, honest_put, HostName, if_any, inl, inr, is_file, is_spent, is_target, is_used, IsAmong, IsHonest, IsPutUpTo, IsRead, IsValid, IsWorkerCount, length, LineRefusal, Link, List, map, MatchBool, MatchOption, MatchResult, Member, Merge, merged, merged_all, named_within, next_ask, next_edit, next_piece, Node, node_named, NodeTaken, None, Nothing, NoWorkerCount, numbers_from, Ok, ok_line, Option, Outcome, Part, parted, piece_named, place_of, PlaceFault, PlaceParts, places_of, Put, put_next, put_same, puts, puts_merged_all, puts_with_node, form_of, question_by, questions_are_rendered_once, questions_spend_nothing, Reads, refl, Refuses, RefusesPlace, Remove, RendersCrowd, RendersFiles, RendersInquiry, RendersPlaces, RendersText, Result, Same, ScriptWorld, Send, Some, spells_one, state, subst, suc, Sweep, swept, sym, Text, texts_are_rendered_once, texts_spend_nothing, took, took_stays, took_with_node, true, true≢false, UnknownNode, used_put, used_with_node, UnknownPiece, valid_answered, valid_given, valid_merged, valid_put, valid_with_node, valid_with_profile, VersionsSpent, visible_at, with_node, with_profile, WithFile, WithTarget, WithText, Workers, WriterTaken, Writes, zero, ℕ, ◌∙◌}
 use Rattle.fleet_script.proofs.Between.{merged_all-append, merged_nodes}
 use Rattle.std.specs.FinMap as finmap
+use Rattle.std.specs.List.{list_any}
 use Rattle.load_places.specs.declared.places.PlaceFault.TheVariants as place
 use Rattle.edit_sums.specs.declared.contents.Content.TheVariants as content
 use Rattle.world_law.specs.declared.events.Event.TheVariants as event
 use Rattle.script_commands.specs.declared.commands.Command.TheVariants as command
+
+-- a writer number is used exactly where a node has it
+abbrev pub HaveNumbers : ScriptWorld → Type 0
+HaveNumbers world = (writer : ℕ) → is_used world writer ≡ has_writer world.nodes writer
 
 -- a valid world is followed by a valid one, each version still belongs to one edit if each did, the greatest counter that was
 -- put grows by at most one, and each node has what it took
@@ -16,6 +21,7 @@ pub record Follows (old new : ScriptWorld) : Type 0 where
   pub honest : IsValid old → IsHonest (puts old) → IsHonest (puts new)
   pub counted : (n : ℕ) → IsValid old → IsPutUpTo n old → IsPutUpTo (suc n) new
   pub grows : IsValid old → (k : ℕ) (e : Edit) → IsAmong e (took (state old) k) → IsAmong e (took (state new) k)
+  pub numbers : IsValid old → HaveNumbers old → HaveNumbers new
 
 -- no node holds the greatest counter
 abbrev pub HasCounters : ScriptWorld → Type 0
@@ -68,16 +74,18 @@ merged_all_take world (pair ∷ pairs) k e a = merged_all_take (merged world pai
 
 module _ (old : ScriptWorld) where
   -- no more edits are put
-  puts_nothing : (new : ScriptWorld) → (IsValid old → IsValid new) → puts new ≡ puts old → ((k : ℕ) (e : Edit) → IsAmong e (took (state old) k) → IsAmong e (took (state new) k)) → Follows old new
-  puts_nothing new valid same grows = record {
+  puts_nothing : (new : ScriptWorld) → (IsValid old → IsValid new) → new.nodes ≡ old.nodes → puts new ≡ puts old → ((k : ℕ) (e : Edit) → IsAmong e (took (state old) k) → IsAmong e (took (state new) k)) → Follows old new
+  puts_nothing new valid nodes same grows = record {
     valid = valid;
     honest = λ l honest. subst (λ (es : List Edit). IsHonest es) (sym same) honest;
     counted = λ n l up. put_same n old new same up;
     grows = λ l. grows;
+    numbers = λ l have writer.
+        (λ j. has_writer (nodes j) writer || list_any (λ (e : Edit). e.version.writer == writer) (same j)) ∙ have writer ∙ ap (λ (ms : List Member). has_writer ms writer) (sym nodes);
   }
 
   pub stays : (new : ScriptWorld) → new ≡ old → Follows old new
-  stays new same = subst (λ (w : ScriptWorld). Follows old w) (sym same) (puts_nothing old (λ l. l) refl (λ k e a. a))
+  stays new same = subst (λ (w : ScriptWorld). Follows old w) (sym same) (puts_nothing old (λ l. l) refl refl (λ k e a. a))
 
   pub gives : (words : List ℕ) (world : ScriptWorld) → Follows old world → IsStep old (λ outcome new. Gives words world outcome new)
   gives words world follows = record {
@@ -170,6 +178,7 @@ module _ (old : ScriptWorld) where
         honest = λ l. honest_put old k at c l lt;
         counted = λ n l up. put_next n old k at c l lt up;
         grows = λ l j e. took_stays (state old) (event.Put k edit) j e;
+        numbers = λ l have writer. used_put old k at c lt writer ∙ have writer;
       }))
 
   with_file : (bytes : List ℕ) (P : Content → Outcome → ScriptWorld → Type 0) → IsStep old (P (content.File bytes)) → IsStep old (λ outcome new. WithFile old outcome new bytes (λ c. P c outcome new))
@@ -233,6 +242,7 @@ module _ (old : ScriptWorld) where
         honest = λ l honest. subst (λ (es : List Edit). IsHonest es) (sym (puts_with_node old name writer l.within)) honest;
         counted = λ n l up. put_same n old (with_node old name writer) (puts_with_node old name writer l.within) up;
         grows = λ l k e. subst (λ (es : List Edit). IsAmong e es) (sym (took_with_node old name writer l.within k));
+        numbers = λ l have number. used_with_node old name writer number l.within ∙ ap (λ b. cond (writer == number) true b) (have number) ∙ sym (has_writer-push old.nodes (record { name = name; writer = writer }) number);
       })))
       (λ k is. refuses NodeTaken refl)
   does (Put node text file) =
@@ -252,13 +262,13 @@ module _ (old : ScriptWorld) where
   does (Merge from to) =
       let G : ℕ → ℕ → Outcome → ScriptWorld → Type 0 = λ j k outcome new. Gives (changed_line (changed_places (held old k) (held (merged old j k) k))) (merged old j k) outcome new in
       at_node from (λ j outcome new. AtNode old outcome new to (λ k. G j k outcome new))
-      (λ j lt_from. at_node to (G j) (λ k lt_to. gives (changed_line (changed_places (held old k) (held (merged old j k) k))) (merged old j k) (puts_nothing (merged old j k) (λ l. valid_merged old j k l lt_from lt_to) refl (merged_takes old j k))))
+      (λ j lt_from. at_node to (G j) (λ k lt_to. gives (changed_line (changed_places (held old k) (held (merged old j k) k))) (merged old j k) (puts_nothing (merged old j k) (λ l. valid_merged old j k l lt_from lt_to) refl refl (merged_takes old j k))))
   does (Part piece from to texts) =
       let words : ℕ → ℕ → List PlaceParts → List ℕ = λ j k places. entries_line (length (finmap.entries (cut (held old j) (digest_of (held old k)) (if_any places)))) in
       let G : ℕ → ℕ → List PlaceParts → Outcome → ScriptWorld → Type 0 = λ j k places outcome new. Gives (words j k places) (parted old piece j k (if_any places)) outcome new in
       at_node from (λ j outcome new. AtNode old outcome new to (λ k. AtPlaces old outcome new texts (λ places. G j k places outcome new)))
       (λ j lt_from. at_node to (λ k outcome new. AtPlaces old outcome new texts (λ places. G j k places outcome new))
-      (λ k lt_to. at_all_written texts (G j k) (λ places. gives (words j k places) (parted old piece j k (if_any places)) (puts_nothing (parted old piece j k (if_any places)) (λ l. valid_parted piece j k places l lt_from lt_to) refl (answered_takes old j k (if_any places))))))
+      (λ k lt_to. at_all_written texts (G j k) (λ places. gives (words j k places) (parted old piece j k (if_any places)) (puts_nothing (parted old piece j k (if_any places)) (λ l. valid_parted piece j k places l lt_from lt_to) refl refl (answered_takes old j k (if_any places))))))
     where
       valid_parted : (name : List ℕ) (j k : ℕ) (places : List PlaceParts) → IsValid old → j < length old.nodes → k < length old.nodes → IsValid (parted old name j k (if_any places))
       valid_parted name j k places valid lt_from lt_to =
@@ -267,17 +277,17 @@ module _ (old : ScriptWorld) where
   does (Send piece node) =
       let G : ℕ → ℕ → Outcome → ScriptWorld → Type 0 = λ p k outcome new. Gives (changed_line (changed_places (held old k) (held (happened old (event.Give p k)) k))) (happened old (event.Give p k)) outcome new in
       at_piece piece (λ p outcome new. AtNode old outcome new node (λ k. G p k outcome new))
-      (λ p. at_node node (G p) (λ k lt. gives (changed_line (changed_places (held old k) (held (happened old (event.Give p k)) k))) (happened old (event.Give p k)) (puts_nothing (happened old (event.Give p k)) (λ l. valid_given old p k l lt) refl (λ j e. took_stays (state old) (event.Give p k) j e))))
+      (λ p. at_node node (G p) (λ k lt. gives (changed_line (changed_places (held old k) (held (happened old (event.Give p k)) k))) (happened old (event.Give p k)) (puts_nothing (happened old (event.Give p k)) (λ l. valid_given old p k l lt) refl refl (λ j e. took_stays (state old) (event.Give p k) j e))))
   does Sweep =
       let others = numbers_from 1 (length old.nodes - 1) in
-      gives (codes "ok\n") (swept old) (puts_nothing (swept old) (valid_swept old) (puts_merged_all old (map (λ k. (k, 0)) others ++ map (λ k. (0, k)) others))
+      gives (codes "ok\n") (swept old) (puts_nothing (swept old) (valid_swept old) (merged_nodes old (map (λ k. (k, 0)) others ++ map (λ k. (0, k)) others)) (puts_merged_all old (map (λ k. (k, 0)) others ++ map (λ k. (0, k)) others))
       (merged_all_take old (map (λ k. (k, 0)) others ++ map (λ k. (0, k)) others)))
   does (Files node) = reads node RendersPlaces (λ s a b p q. p ∙ sym q) (λ s outcome p. ap is_spent p)
   does (Text node text) = reads node (RendersText text) (texts_are_rendered_once text) (texts_spend_nothing text)
   does (Cat node host unit) = reads node (RendersFiles host unit) (files_are_rendered_once host unit) (files_spend_nothing host unit)
   does (Ask node host inquiry) = reads node (RendersInquiry old.profile host inquiry) (questions_are_rendered_once (form_of inquiry) (question_by old.profile inquiry) host) (questions_spend_nothing (form_of inquiry) (question_by old.profile inquiry) host)
   does (Workers count) = gives_or_refuses (IsWorkerCount count) (codes "ok\n") NoWorkerCount refl
-  does (command.Profile profile) = gives (codes "ok\n") (with_profile old profile) (puts_nothing (with_profile old profile) (valid_with_profile old profile) refl (λ k e a. a))
+  does (command.Profile profile) = gives (codes "ok\n") (with_profile old profile) (puts_nothing (with_profile old profile) (valid_with_profile old profile) refl refl (λ k e a. a))
   does (Same left right) =
       let C : ℕ → ℕ → Outcome → ScriptWorld → Type 0 = λ j k outcome new. ((held old j ≡ held old k) × Gives (codes "same\n") old outcome new) ⊎ ((held old j ≡ held old k → ⊥) × Gives (codes "differ\n") old outcome new) in
       at_node left (λ j outcome new. AtNode old outcome new right (λ k. C j k outcome new))

@@ -2,8 +2,8 @@
 -- never spent.
 use Rattle.std.proofs.Common.{◌++◌, ◌+◌, ◌==◌, ◌∷◌, ◌≡◌, ◌≤◌, ◌⊎◌}
 use Rattle.script_words.specs.Lines.{lines_of}
-use Rattle.fleet_script.proofs.Prelude.{[], Answers, AnswersCommand, AnswersLine, ap, append_assoc, Arguments, arith, BeginsWithVerb, begun, blank, Bool, Command, command_of, cond, count_by-le-length, counted, CountersAreLines, CountsOn, Does, Edit, Err, error_line, false, held, high_of, high_among-edits_of, counter_among, edits_of, EntryMap, inl, inr, is_passed_over, is_spent, IsAmong, IsHonest, IsPutUpTo, IsStoreBelow, IsValid, length, length-slice_split, length-take, LineRefusal, lines_of_parts, LineTooLong, List, MatchBool, MatchResult, nat_lt, ne_eqb, NoLineIsRefusedForVersions, Ok, others_are_refused, Outcome, outcome_text, PrefixesAreOfTheWhole, put_blank, puts, puts_begun, refl, Refuses, Result, Run, Says, ScriptWorld, slice_split, state, StaysHonest, store_below_refl, subst, suc, sum_of-least, sym, take, took, true, true≢false, UnknownCommand, valid_begun, valid_blank, VersionsAreNeverSpent, VersionsSpent, words_of, zero, ℕ, ◌∙◌}
-use Rattle.fleet_script.proofs.StepKinds.{does, Follows, HasCounters, refused_once, stays}
+use Rattle.fleet_script.proofs.Prelude.{[], Answers, AnswersCommand, AnswersLine, ap, append_assoc, Arguments, arith, BeginsWithVerb, begun, blank, Bool, Command, command_of, cond, count_by-le-length, counted, CountersAreLines, CountsOn, Does, Edit, Err, error_line, false, held, high_of, high_among-edits_of, counter_among, edits_of, EntryMap, inl, inr, is_passed_over, is_spent, IsAmong, IsHonest, IsPutUpTo, IsStoreBelow, IsValid, length, length-slice_split, length-take, LineRefusal, lines_of_parts, LineTooLong, List, MatchBool, MatchResult, nat_lt, ne_eqb, NodesHaveTheNumbers, NoLineIsRefusedForVersions, Ok, others_are_refused, Outcome, outcome_text, PrefixesAreOfTheWhole, put_blank, puts, puts_begun, refl, Refuses, Result, Run, Says, ScriptWorld, slice_split, state, StaysHonest, store_below_refl, subst, suc, sum_of-least, sym, take, took, true, true≢false, UnknownCommand, valid_begun, valid_blank, VersionsAreNeverSpent, VersionsSpent, words_of, zero, ℕ, ◌∙◌}
+use Rattle.fleet_script.proofs.StepKinds.{does, Follows, HasCounters, HaveNumbers, refused_once, stays}
 
 -- a line has one answer and leaves one world, which follows
 record IsLine {X : Type 0} (old : ScriptWorld) (A : X → ScriptWorld → Type 0) : Type 0 where
@@ -147,6 +147,15 @@ no_line_is_refused_for_versions script k written world line answer new short r a
 
 pub blank_stays_honest : (lines : List (List ℕ)) (written : List ℕ) (world : ScriptWorld) → Run blank lines written world → IsHonest (puts world)
 blank_stays_honest lines written world r = run_honest lines blank written world valid_blank (λ e f a b same. absurd a) r
+
+run_numbers : (lines : List (List ℕ)) (old : ScriptWorld) (written : List ℕ) (new : ScriptWorld) → IsValid old → HaveNumbers old → Run old lines written new → HaveNumbers new
+run_numbers [] old written new valid have r = subst (λ (w : ScriptWorld). HaveNumbers w) (sym r.1) have
+run_numbers (line ∷ lines) old written new valid have r =
+    let step = (line_is old line).follows r.0 r.2 r.4 in
+    run_numbers lines r.2 r.1 new (step.valid valid) (step.numbers valid have) r.5
+
+pub nodes_have_the_numbers : NodesHaveTheNumbers
+nodes_have_the_numbers lines written world r = run_numbers lines blank written world valid_blank (λ writer. refl) r
 
 pub stays_honest : StaysHonest
 stays_honest name writer s lines written world r honest =

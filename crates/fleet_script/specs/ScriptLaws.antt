@@ -1,6 +1,6 @@
 -- What is true of every script.
 use Rattle.std.proofs.Common.{◌+◌, ◌≡◌, ◌≤◌}
-use Rattle.fleet_script.specs.{Does.{Does}, Prelude.{begun, blank, Command, edits_of, EntryMap, Err, high_of, IsCountedTo, IsHonest, length, lines_of, List, puts, ScriptWorld, take, VersionsSpent, ℕ}, Scripts.{Answers, AnswersCommand, AnswersPrefix, Run}}
+use Rattle.fleet_script.specs.{Does.{Does}, Prelude.{begun, blank, Command, edits_of, EntryMap, Err, has_writer, high_of, is_used, IsCountedTo, IsHonest, length, lines_of, List, puts, ScriptWorld, take, VersionsSpent, ℕ}, Scripts.{Answers, AnswersCommand, AnswersPrefix, Run}}
 
 -- a prefix of the answers to a script's first lines is a prefix of the answers to the whole script, if that has answers
 abbrev pub PrefixesAreOfTheWhole : Type 0
@@ -22,6 +22,11 @@ abbrev pub NoLineIsRefusedForVersions : Type 0
 NoLineIsRefusedForVersions = (script : List ℕ) (k : ℕ) (written : List ℕ) (world : ScriptWorld) (line answer : List ℕ) (new : ScriptWorld)
     → length script ≤ 16777216 → Run blank (take k (lines_of script)) written world
     → (answered : AnswersCommand world line answer new) → answered.0 ≡ Err VersionsSpent → ⊥
+
+-- in a script without a store at its begin a writer number is used exactly where a node has it
+abbrev pub NodesHaveTheNumbers : Type 0
+NodesHaveTheNumbers = (lines : List (List ℕ)) (written : List ℕ) (world : ScriptWorld) → Run blank lines written world
+    → (writer : ℕ) → is_used world writer ≡ has_writer world.nodes writer
 
 -- after some lines of a script whose world begins with a store, each version belongs to one edit if it did in the store, and
 -- no counter is greater than the store's greatest and the number of these lines

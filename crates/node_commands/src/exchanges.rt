@@ -87,7 +87,7 @@ pub fn take_piece<L: EditLog, K: Sink>(
     ensures lasts { L.is_honest node.new.log → OnOk result (LeavesJust (L.held node.new.log) (L.may_leave node.new.log)) }
     ensures crash { L.is_honest node.new.log → (added : List Edit) ×
         LeavesAllOrNone (L.held node.old.log) (stamped time added) (L.may_leave node.old.log) (L.may_leave node.new.log) }
-    ensures untold { (refused : NodeFault) → IsErrOf result (Node refused) → sink.new ≡ sink.old }
+    ensures unwritten { (refused : NodeFault) → IsErrOf result (Node refused) → sink.new ≡ sink.old }
     ensures kept { (refused : NodeFault) → IsErrOf result (Node refused) → (node.new.is_spent ≡ true) ⊎ (node.new ≡ node.old) }
     ensures refused { IsErrOf result Write → FailedSince (K.refusals sink.old) (K.refusals sink.new) }
     ensures head { L.head node.new.log ≡ L.head node.old.log }

@@ -69,24 +69,24 @@ count_in (Int (pos n)) = n
 count_in _ = 0
 
 abbrev pub cells_in : Row → Cells
-cells_in row = record {
-  place = bytes (column row 2);
-  counter = count_in (column row 3);
-  writer = count_in (column row 4);
-  kind = count_in (column row 5);
-  content = bytes (column row 6);
-  time = count_in (column row 7);
+cells_in values = record {
+  place = bytes (column values 2);
+  counter = count_in (column values 3);
+  writer = count_in (column values 4);
+  kind = count_in (column values 5);
+  content = bytes (column values 6);
+  time = count_in (column values 7);
 }
 
 -- what a query shows of an edit
 abbrev pub cells_shown : Row → Cells
-cells_shown row = record {
-  place = bytes (column row 0);
-  counter = count_in (column row 1);
-  writer = count_in (column row 2);
-  kind = count_in (column row 3);
-  content = bytes (column row 4);
-  time = count_in (column row 5);
+cells_shown values = record {
+  place = bytes (column values 0);
+  counter = count_in (column values 1);
+  writer = count_in (column values 2);
+  kind = count_in (column values 3);
+  content = bytes (column values 4);
+  time = count_in (column values 5);
 }
 
 -- the row of a head
