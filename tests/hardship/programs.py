@@ -1,4 +1,4 @@
-"""Runs of a program at which memory, reads and writes are refused; refuse.c says how."""
+"""Runs of a program at which memory, reads, writes and calls at files are refused; refuse.c says how."""
 import os
 import struct
 import subprocess
@@ -30,6 +30,7 @@ class Run:
     reads: int
     writes: int
     threads: int
+    files: int
 
 
 class Hung(Exception):
@@ -58,14 +59,14 @@ class Bench:
                 file.write(text)
             self.given = text
 
-    def run(self, name, text, limit=LIMIT, is_heard=True, **hardships):
-        """Runs a program on these bytes, with what is refused named as refuse.c names it. Unless it is heard, its standard error is closed."""
+    def run(self, name, text, words=(), limit=LIMIT, is_heard=True, **hardships):
+        """Runs a program on these words and bytes, with what is refused named as refuse.c names it. Unless it is heard, its standard error is closed."""
         self.give(text)
         surroundings = {"LD_PRELOAD": self.shim, "HARDSHIP_COUNTS": self.counts}
         surroundings.update({key: str(value) for key, value in hardships.items()})
         with open(self.input, "rb") as source:
             process = subprocess.Popen(
-                [self.program(name)],
+                [self.program(name), *words],
                 stdin=source,
                 stdout=subprocess.PIPE,
                 stderr=subprocess.PIPE,
@@ -83,7 +84,7 @@ class Bench:
     def counted(self):
         """What the last run asked for."""
         with open(self.counts, "rb") as file:
-            return struct.unpack("<5Q", file.read(40))
+            return struct.unpack("<6Q", file.read(48))
 
 
 def strides(requests):

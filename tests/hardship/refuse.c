@@ -1,8 +1,8 @@
 // refuse.c: stands between a program and the C library, and refuses what the environment names.
 //
 // It is preloaded. It counts the requests for memory that the program makes, starts of threads among them, its reads
-// of standard input and its writes to standard output, each from 1 on, over all threads. A list of numbers is `3`,
-// `3,8` or `3-`, which is 3 and all behind it.
+// of standard input, its writes to standard output and its calls at files, each from 1 on, over all threads. A list of
+// numbers is `3`, `3,8` or `3-`, which is 3 and all behind it.
 //
 //     REFUSE_MEMORY=LIST      these requests are refused
 //     FAIL_READS=LIST         these reads fail
@@ -12,20 +12,24 @@
 //     INTERRUPT_WRITES=LIST   these writes are interrupted
 //     EMPTY_WRITES=LIST       these writes take no byte
 //     SHORT_WRITES=1          each write takes a byte at most
-//     HARDSHIP_COUNTS=FILE    the counts stand in this file: requests, refusals, reads, writes, as numbers of 8 bytes
+//     FAIL_FILES=LIST         these calls at files fail: opens, reads, writes, syncs, cuts, renames, removals, looks
+//     HARDSHIP_COUNTS=FILE    the counts stand in this file, as numbers of 8 bytes: requests, refusals, reads, writes,
+//                             threads, calls at files
 //
-// Other descriptors are passed on as they are, so that standard error can say what went wrong.
+// Standard error is passed on as it is, so that it can say what went wrong.
 #define _GNU_SOURCE
 #include <dlfcn.h>
 #include <errno.h>
 #include <fcntl.h>
 #include <pthread.h>
+#include <stdarg.h>
 #include <stdatomic.h>
 #include <stdbool.h>
 #include <stdint.h>
 #include <stdlib.h>
 #include <string.h>
 #include <sys/mman.h>
+#include <sys/stat.h>
 #include <sys/syscall.h>
 #include <unistd.h>
 
@@ -44,6 +48,7 @@ struct counts {
     _Atomic uint64_t reads;
     _Atomic uint64_t writes;
     _Atomic uint64_t threads;
+    _Atomic uint64_t files;
 };
 
 static struct list refused_memory;
@@ -51,6 +56,7 @@ static struct list failed_reads;
 static struct list failed_writes;
 static struct list interrupted_writes;
 static struct list empty_writes;
+static struct list failed_files;
 static uint64_t interrupted_each;
 static bool reads_are_short;
 static bool writes_are_short;
@@ -114,6 +120,7 @@ __attribute__((constructor)) static void begin(void) {
     read_list(&failed_writes, "FAIL_WRITES");
     read_list(&interrupted_writes, "INTERRUPT_WRITES");
     read_list(&empty_writes, "EMPTY_WRITES");
+    read_list(&failed_files, "FAIL_FILES");
     interrupted_each = number_of("INTERRUPT_READS");
     reads_are_short = number_of("SHORT_READS") > 0;
     writes_are_short = number_of("SHORT_WRITES") > 0;
@@ -166,9 +173,25 @@ static ssize_t fails(int reason) {
     return -1;
 }
 
+// Counts a call at a file, and whether it is one that fails.
+static bool file_fails(void) {
+    if (!is_counting)
+        return false;
+    uint64_t number = atomic_fetch_add(&counts->files, 1) + 1;
+    if (!has(&failed_files, number))
+        return false;
+    atomic_fetch_add(&counts->refusals, 1);
+    return true;
+}
+
+// A call at a file that is open, but for standard input, output and error, which have counts of their own.
+#define AT_FILE(file, call) ((file) > STDERR_FILENO && file_fails() ? fails(EIO) : (call))
+// A call at the name of a file.
+#define AT_NAME(call) (file_fails() ? fails(EIO) : (call))
+
 ssize_t read(int file, void *room, size_t size) {
     if (file != STDIN_FILENO)
-        return syscall(SYS_read, file, room, size);
+        return AT_FILE(file, syscall(SYS_read, file, room, size));
     uint64_t number = atomic_fetch_add(&counts->reads, 1) + 1;
     if (has(&failed_reads, number))
         return fails(EIO);
@@ -179,7 +202,7 @@ ssize_t read(int file, void *room, size_t size) {
 
 ssize_t write(int file, const void *bytes, size_t size) {
     if (file != STDOUT_FILENO)
-        return syscall(SYS_write, file, bytes, size);
+        return AT_FILE(file, syscall(SYS_write, file, bytes, size));
     uint64_t number = atomic_fetch_add(&counts->writes, 1) + 1;
     if (has(&failed_writes, number))
         return fails(EIO);
@@ -188,4 +211,36 @@ ssize_t write(int file, const void *bytes, size_t size) {
     if (has(&empty_writes, number))
         return 0;
     return syscall(SYS_write, file, bytes, writes_are_short && size > 1 ? 1 : size);
+}
+
+int open(const char *path, int flags, ...) {
+    va_list more;
+    va_start(more, flags);
+    mode_t mode = flags & (O_CREAT | __O_TMPFILE) ? va_arg(more, mode_t) : 0;
+    va_end(more);
+    return AT_NAME(syscall(SYS_openat, AT_FDCWD, path, flags, mode));
+}
+
+ssize_t pread(int file, void *room, size_t size, off_t from) {
+    return AT_FILE(file, syscall(SYS_pread64, file, room, size, from));
+}
+
+ssize_t pwrite(int file, const void *bytes, size_t size, off_t to) {
+    return AT_FILE(file, syscall(SYS_pwrite64, file, bytes, size, to));
+}
+
+int fsync(int file) { return AT_FILE(file, syscall(SYS_fsync, file)); }
+
+int fdatasync(int file) { return AT_FILE(file, syscall(SYS_fdatasync, file)); }
+
+int ftruncate(int file, off_t length) { return AT_FILE(file, syscall(SYS_ftruncate, file, length)); }
+
+int rename(const char *from, const char *to) { return AT_NAME(syscall(SYS_rename, from, to)); }
+
+int unlink(const char *path) { return AT_NAME(syscall(SYS_unlink, path)); }
+
+int mkdir(const char *path, mode_t mode) { return AT_NAME(syscall(SYS_mkdir, path, mode)); }
+
+int statx(int folder, const char *restrict path, int flags, unsigned mask, struct statx *restrict found) {
+    return AT_NAME(syscall(SYS_statx, folder, path, flags, mask, found));
 }

@@ -1,6 +1,6 @@
 //! A node that lasts, as the home of a script.
 ghost use Rattle.std.specs.Prelude.{◌≡◌, None, OnOk};
-ghost use Rattle.fleet_script.specs.Holds.{IsHeldNext, StaysKept};
+ghost use Rattle.script_homes.specs.Homes.{IsHeldNext, StaysKept};
 ghost use Rattle.file_scripts.specs.{Kept.{IsFoundIn, IsHeldIn}, KeptLaws.{found_from_held}};
 
 use durable_node::{EditLog, NodeFault, NodeFile};

@@ -1,12 +1,13 @@
 //! What is done over a file, and how the program ends.
-ghost use Rattle.std.specs.Prelude.{◌≡◌};
+ghost use Rattle.std.specs.Prelude.{◌≡◌, IfOk};
+ghost use Rattle.fleet_node.specs.Jobs.{IsJobFor};
 ghost use Rattle.fleet_node.specs.Status.{status_of};
 
 use crate::faults::FleetFault;
 use crate::requests::{Asked, FileRequest};
-use crate::works::{Job, Work, do_job, host_of, now};
+use crate::works::{Job, do_job, host_of, now};
 use load_places::Place;
-use node_commands::{CommandFault, read_digest, read_piece};
+use node_commands::{CommandFault, Work, read_digest, read_piece};
 use node_files::{compact, create, open};
 use script_pipes::Watched;
 use sqlite::Unknown;
@@ -31,22 +32,27 @@ fn over_file<W: AllocGlobal + Threads + Wait + Sync>(
 
 // What is to be done over a file, with what is read for it. Bytes are read before the file is opened, so that one pipe may
 // lead from a file over another one back to it.
-fn job_of<'a>(rt: &HostRuntime, asked: &Asked<'a>) -> Result<Job<'a>, FleetFault> {
+fn job_of<'a>(rt: &HostRuntime, asked: &Asked<'a>) -> Result<Job<'a>, FleetFault>
+    ensures job { IfOk result (IsJobFor asked.now) }
+{
     let alloc = rt.alloc();
-    let work = match *asked {
-        Asked::Run => return Ok(Job::Script),
-        Asked::Digest => Work::Digest,
-        Asked::Store => Work::Store,
-        Asked::Id => Work::Id,
-        Asked::Delta => Work::Delta(read_digest(alloc, &mut Watched::new(rt.reader()))?),
-        Asked::Take => Work::Take(read_piece(alloc, &mut Watched::new(rt.reader()))?),
-        Asked::History { place } => Work::History(Place::parse(alloc, place.as_bytes())?),
-        Asked::Tree { folder, host } => Work::Tree {
+    Ok(match *asked {
+        Asked::Run => Job::Script,
+        Asked::Digest => Job::Work(Work::Digest),
+        Asked::Store => Job::Work(Work::Store),
+        Asked::Id => Job::Work(Work::Id),
+        Asked::Delta => {
+            Job::Work(Work::Delta(read_digest(alloc, &mut Watched::new(rt.reader()))?))
+        }
+        Asked::Take => Job::Work(Work::Take(read_piece(alloc, &mut Watched::new(rt.reader()))?)),
+        Asked::History { place } => {
+            Job::Work(Work::History(Place::parse(alloc, place.as_bytes())?))
+        }
+        Asked::Tree { folder, host } => Job::Tree {
             folder,
             host: host_of(alloc, host)?,
         },
-    };
-    Ok(Job::Work(work))
+    })
 }
 
 /// Does what is asked for. Scripts load units by threads of `workers`.

@@ -1,16 +1,15 @@
 //! What is done with an open node, whatever its log.
-ghost use Rattle.std.specs.Prelude.{◌≡◌, [], false};
+ghost use Rattle.std.specs.Prelude.{◌≡◌, [], false, IfOk, IfSome, OnOk, option_map};
+ghost use Rattle.fleet_node.specs.Jobs.{IsHostOf};
+ghost use Rattle.node_commands.specs.Works.{Commits, replica_after};
 
 use crate::faults::FleetFault;
-use delta_pieces::{Digest, Piece};
 use durable_node::{EditLog, NodeFault, NodeFile};
 use file_scripts::{LastingHome, run_at};
 use fleet_script::KeptFault;
 use host_trees::tree;
-use load_places::{HostName, Place};
-use node_commands::{
-    CommandFault, take_piece, write_delta, write_digest, write_history, write_id, write_store,
-};
+use load_places::HostName;
+use node_commands::{CommandFault, Work, do_work};
 use script_pipes::Watched;
 use std::alloc::Global;
 use std::io;
@@ -25,26 +24,9 @@ use tree_files::write_tree;
 pub enum Job<'a> {
     /// Answer the script on standard input.
     Script,
-    /// A piece of work.
-    Work(Work<'a>),
-}
-
-/// A piece of work at an open node, with what was read for it.
-#[derive(Drop)]
-pub enum Work<'a> {
-    /// Write the digest.
-    Digest,
-    /// Write the store.
-    Store,
-    /// Write the identity.
-    Id,
-    /// Write what the owner of a digest lacks.
-    Delta(Digest),
-    /// Commit a piece.
-    Take(Piece),
-    /// Write the history of a place.
-    History(Place),
-    /// Write the unit files into a folder.
+    /// A piece of work, whose answer goes to standard output.
+    Work(Work),
+    /// Write the unit files into a folder: those that a host sees, or the fleet's.
     Tree {
         folder: &'a str,
         host: Option<HostName>,
@@ -63,7 +45,9 @@ pub fn now(rt: &impl Clock) -> u32 {
 }
 
 /// The host of a tree, if it has one.
-pub fn host_of(alloc: Global, host: Option<&str>) -> Result<Option<HostName>, FleetFault> {
+pub fn host_of(alloc: Global, host: Option<&str>) -> Result<Option<HostName>, FleetFault>
+    ensures host { IfOk result (λ made. IsHostOf (option_map (λ h. h.now) host.entry) made) }
+{
     match host {
         Some(name) => Ok(Some(HostName::parse(alloc, name.as_bytes())?)),
         None => Ok(None),
@@ -112,23 +96,18 @@ fn write_files<L: EditLog>(
     Ok(())
 }
 
-// Writes what is asked of a node, or commits a piece.
+// Does a piece of work at the node, and writes its answer to standard output.
 fn answer_work<L: EditLog>(
     rt: &HostRuntime,
     node: &mut NodeFile<L>,
-    work: Work<'_>,
-) -> Result<(), FleetFault> {
-    let alloc = rt.alloc();
+    work: &Work,
+) -> Result<(), FleetFault>
+    ensures replica { OnOk result (node.new.replica ≡ replica_after work.now node.old.replica) }
+    ensures committed { L.is_honest node.new.log → OnOk result (Commits work.now
+        (L.held node.new.log) (L.may_leave node.new.log) node.new.replica.store) }
+{
     let mut sink = Watched::new(io::writer(rt));
-    match work {
-        Work::Digest => write_digest(alloc, node, &mut sink)?,
-        Work::Store => write_store(node, &mut sink)?,
-        Work::Id => write_id(alloc, node, &mut sink)?,
-        Work::Delta(asked) => write_delta(alloc, node, &asked, &mut sink)?,
-        Work::Take(piece) => take_piece(alloc, node, &piece, now(rt), &mut sink)?,
-        Work::History(place) => write_history(alloc, node, &place, &mut sink)?,
-        Work::Tree { folder, host } => write_files(rt, node, folder, host.as_ref())?,
-    }
+    do_work(rt.alloc(), node, work, now(rt), &mut sink)?;
     Ok(())
 }
 
@@ -144,6 +123,7 @@ pub fn do_job<W: AllocGlobal + Threads + Wait + Sync, L: EditLog + Drop>(
 {
     match job {
         Job::Script => answer_script(rt, workers, node),
-        Job::Work(work) => answer_work(rt, &mut node, work),
+        Job::Work(work) => answer_work(rt, &mut node, &work),
+        Job::Tree { folder, host } => write_files(rt, &node, folder, host.as_ref()),
     }
 }

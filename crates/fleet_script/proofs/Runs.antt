@@ -169,10 +169,6 @@ nothing_written first script a Kept kept = record { count = 0; answers = []; las
 pub longer : (old new : Option (List ℕ)) (xs ys : List ℕ) → AppendsPrefix old new xs → AppendsPrefix old new (xs ++ ys)
 longer old new xs ys p = let more = prefix_of_prefix p.0 xs ys in (more.0, subst (λ v. Appends old new v) more.1 p.1)
 
--- the whole is a prefix of itself
-pub all_is_prefix : (old new : Option (List ℕ)) (bytes : List ℕ) → Appends old new bytes → AppendsPrefix old new bytes
-all_is_prefix old new bytes all = (length bytes, subst (λ v. Appends old new v) (sym (take_all (length bytes) bytes (omega arith))) all)
-
 -- what is true of every fault
 pub whatever : {T E : Type 0} (P : Type 0) (r : Result T E) → P → OnErr r P
 whatever P (Ok x) p = tt
@@ -216,6 +212,10 @@ on_err (Err e) P R p f = f p
 pub on_ok : {T E : Type 0} (r : Result T E) (P R : Type 0) → OnOk r P → (P → R) → OnOk r R
 on_ok (Ok x) P R p f = f p
 on_ok (Err e) P R p f = tt
+
+pub or_then : {A B C : Type 0} → A ⊎ B → (B → C) → A ⊎ C
+or_then (inl a) f = inl a
+or_then (inr b) f = inr (f b)
 
 -- What was left to read is answered, or a prefix of the answers is written.
 

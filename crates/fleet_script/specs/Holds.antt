@@ -8,6 +8,7 @@ use Rattle.std.specs.BTreeMap as maps
 use Rattle.std.specs.BTreeSet as sets
 use Rattle.world_law.specs.Worlds as worlds
 use Rattle.profiles.specs.declared.profiles.Profile.TheVariants as profiles
+use Rattle.script_homes.specs.Homes.{IsHeldNext}
 
 pub record Keeps : Type 0 where
   pub nodes : List Replicated
@@ -96,14 +97,6 @@ joined_with node other = record node { store = join node.store other.store }
 -- the store of one node is joined into that of another, and all else stays as it was
 abbrev pub IsJoinedAt : Keeps → ℕ → ℕ → Keeps → Type 0
 IsJoinedAt old from to new = (d : Replicated) → new ≡ record old { nodes = slice_set old.nodes to (joined_with (slice_index_or old.nodes to d) (slice_index_or old.nodes from d)) }
-
--- what was true of a store once still is
-abbrev pub StaysKept : (EntryMap → Type 0) → (EntryMap → Type 0) → Type 0
-StaysKept before after = (s : EntryMap) → before s → after s
-
--- a store is held now, if less was held before
-abbrev pub IsHeldNext : EntryMap → (EntryMap → Type 0) → (EntryMap → Type 0) → Type 0
-IsHeldNext next before after = (s : EntryMap) → before s → IsStoreBelow s next → after next
 
 -- what the first node holds is held now, in whatever world the shell represents
 abbrev pub FirstIsHeld : Keeps → (EntryMap → Type 0) → (EntryMap → Type 0) → Type 0

@@ -8,12 +8,11 @@
 #![tactic(auto)]
 
 mod faults;
-mod homes;
 mod laws;
 mod running;
 mod states;
 
-pub use faults::{KeptFault, ShellFault};
-pub use homes::{Home, Unkept};
+pub use faults::ShellFault;
 pub use laws::{readings_agree, script_laws};
 pub use running::{run, run_kept};
+pub use script_homes::{Home, KeptFault, Unkept};

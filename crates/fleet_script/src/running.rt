@@ -1,18 +1,16 @@
 //! Reads a script, and writes its answers.
-ghost use Rattle.std.specs.{Prelude.{◌≡◌, ◌⊎◌, IsErrOf, OnErr, OnOk}, Io.KnownBytes.{Appends}};
-ghost use Rattle.script_pipes.specs.{Failures.{FailedSince}, KnownBytes.{AppendsPrefix}};
-ghost use Rattle.edit_sums.specs.Sums.{EntryMap};
+ghost use Rattle.std.specs.Prelude.{◌≡◌, IsErrOf, OnErr, OnOk};
+ghost use Rattle.script_pipes.specs.Failures.{FailedSince};
 ghost use Rattle.script_worlds.specs.Worlds.{ScriptWorld, begun, held};
 ghost use Rattle.fleet_script.specs.Ends.{AnswersFrom, IsAnswered, IsAnsweredFrom, IsPrefixFrom, IsPrefixWritten, IsUnread, PrefixFrom};
-ghost use Rattle.fleet_script.specs.Holds.{FirstIsHeld, Holds, StaysKept, kept_in};
+ghost use Rattle.fleet_script.specs.Holds.{Holds, kept_in};
 
-use crate::faults::{KeptFault, ShellFault};
-use crate::homes::{Home, Nowhere};
+use crate::faults::ShellFault;
 use crate::states::Shell;
 use replica_store::Replica;
-use script_pipes::{MAX_SCRIPT_BYTES, ReadFault, Sink, Source, WriteFault, read_all, write_all};
+use script_homes::{Home, KeptFault, Nowhere, give_up};
+use script_pipes::{MAX_SCRIPT_BYTES, ReadFault, Sink, Source, read_all};
 use script_words::cut_line;
-use std::alloc::Global;
 use std::sync::Wait;
 use std::thread::Threads;
 
@@ -21,45 +19,6 @@ const BATCH: usize = 65_536;
 
 /// The name of the node whose edits are kept.
 const HERE: &[u8] = b"here";
-
-// Keeps what the first node holds, and then writes the answers so far.
-fn write_kept<H: Home, K: Sink>(
-    alloc: Global,
-    shell: &Shell,
-    home: &mut H,
-    writer: &mut K,
-    pending: &[u8],
-) -> Result<(), KeptFault>
-    ensures written { OnOk result (Appends (K.contents writer.old) (K.contents writer.new) pending.now) }
-    ensures prefix { OnErr result (AppendsPrefix (K.contents writer.old) (K.contents writer.new) pending.now) }
-
-    // What the first node holds is kept before an answer is written.
-    ensures held { OnOk result (FirstIsHeld (kept_in shell.now) (H.holds home.old) (H.holds home.new)) }
-    ensures first { (writer.new ≡ writer.old) ⊎ FirstIsHeld (kept_in shell.now) (H.holds home.old) (H.holds home.new) }
-    ensures kept { StaysKept (H.keeps home.old) (H.keeps home.new) }
-    ensures write { IsErrOf result KeptFault.Write → FailedSince (K.refusals writer.old) (K.refusals writer.new) }
-    ensures unrefused { OnOk result (K.refusals writer.new ≡ K.refusals writer.old) }
-    ensures read { IsErrOf result KeptFault.Read → ⊥ }
-{
-    shell.keep_first(alloc, home)?;
-    write_all(writer, pending)?;
-    Ok(())
-}
-
-// Writes the answers so far, when memory ran out for the next one. Where a home keeps what the first node holds, nothing is
-// written: nobody knows what that node holds now.
-fn give_up<H: Home, K: Sink>(home: &H, writer: &mut K, pending: &[u8]) -> KeptFault
-    ensures memory { result ≡ KeptFault.Memory }
-    ensures prefix { AppendsPrefix (K.contents writer.old) (K.contents writer.new) pending.now }
-    ensures free { (writer.new ≡ writer.old) ⊎ ((s : EntryMap) → H.keeps home.now s) }
-{
-    if home.is_bound() {
-        return KeptFault::Memory;
-    }
-    match write_all(writer, pending) {
-        Ok(()) | Err(WriteFault) => KeptFault::Memory,
-    }
-}
 
 // Writes the answers to a script, in large blocks. Before each block what the first node holds is kept.
 fn answer_all<R: AllocGlobal + Threads + Wait + Sync, H: Home, K: Sink>(
@@ -89,11 +48,11 @@ fn answer_all<R: AllocGlobal + Threads + Wait + Sync, H: Home, K: Sink>(
         }
         rest = later;
         if pending.len() >= BATCH {
-            write_kept(alloc, &shell, home, writer, &pending)?;
+            shell.write_kept(alloc, home, writer, &pending)?;
             pending.clear();
         }
     }
-    write_kept(alloc, &shell, home, writer, &pending)
+    shell.write_kept(alloc, home, writer, &pending)
 }
 
 // What ended a run without a home.

@@ -8,6 +8,7 @@
 //! - `write_delta`: writes the piece that a digest's owner lacks. `take_piece`: takes a piece, commits it, and tells how many
 //!   places that changed.
 //! - `write_history`: writes a line for each edit of a place that stands in the log.
+//! - `Work`, `do_work`: each of these as a value, and what does it.
 //! - `CommandFault`: why a command was not done.
 #![tactic(auto)]
 
@@ -16,6 +17,7 @@ mod faults;
 mod histories;
 mod inputs;
 mod outputs;
+mod works;
 
 pub use byte_fields::SpellingFault;
 pub use exchanges::{take_piece, write_delta};
@@ -23,3 +25,4 @@ pub use faults::CommandFault;
 pub use histories::write_history;
 pub use inputs::{MAX_INPUT_BYTES, read_digest, read_piece};
 pub use outputs::{write_digest, write_id, write_store};
+pub use works::{Work, do_work};

@@ -9,7 +9,7 @@ ghost use Rattle.sqlite_log.specs.Closed.{HoldsLog};
 ghost use Rattle.sqlite_log.specs.States.{held_in, Stands};
 ghost use Rattle.node_files.specs.Compacted.{Compacts};
 
-use crate::names::{beside_name, fault_of, remove_both, remove_log};
+use crate::names::{beside_name, fault_of, or_removed};
 use crate::opening::{PathLog, PathNode, open};
 use durable_node::{EditLog, NodeFault, NodeFile};
 use sqlite::{FileFrom, Files, Start};
@@ -40,12 +40,12 @@ fn make_compacted<L: EditLog, T: Start>(
     time: u32,
     start: T,
 ) -> Result<PathLog<T>, NodeFault>
-    ensures running { IfOk result (λ log. Stands log.head (file_state log.conn)) }
-    ensures head { IfOk result (λ log. log.head ≡ L.head node.now.log) }
-    ensures once { IfOk result (λ log. HasCleanDisk (file_state log.conn) →
-        IsPermutation (stamped time (edits_of node.now.replica.store)) (held_in (file_state log.conn).committed.trees)) }
-    ensures sum { IfOk result (λ log. HasCleanDisk (file_state log.conn) →
-        sum_of (edits_in (held_in (file_state log.conn).committed.trees)) ≡ node.now.replica.store) }
+    ensures running { IfOk result (λ log. Stands log.inside.head (file_state log.inside.conn)) }
+    ensures head { IfOk result (λ log. log.inside.head ≡ L.head node.now.log) }
+    ensures once { IfOk result (λ log. HasCleanDisk (file_state log.inside.conn) →
+        IsPermutation (stamped time (edits_of node.now.replica.store)) (held_in (file_state log.inside.conn).committed.trees)) }
+    ensures sum { IfOk result (λ log. HasCleanDisk (file_state log.inside.conn) →
+        sum_of (edits_in (held_in (file_state log.inside.conn).committed.trees)) ≡ node.now.replica.store) }
 {
     let mut log = sqlite_log::create(rt, path, node.head(), start)?;
     node.compact_into(&mut log, time)?;
@@ -54,10 +54,10 @@ fn make_compacted<L: EditLog, T: Start>(
 
 // Closes the file of a node, so that it needs nothing beside it.
 fn close<S: Start>(node: PathNode<S>) -> Result<Files<FileFrom<S>>, NodeFault>
-    requires running { Stands node.log.head (file_state node.log.conn) }
+    requires running { Stands node.log.inside.head (file_state node.log.inside.conn) }
     ensures alone { IfOk result (λ files. AreClean ⟦<FileFrom<S> as Disk>⟧ files.log files.db →
-        HoldsLog ⟦<FileFrom<S> as Disk>⟧ files node.log.head (held_in (file_state node.log.conn).committed.trees)) }
-    ensures clean { IfOk result (λ files. AreClean ⟦<FileFrom<S> as Disk>⟧ files.log files.db → HasCleanDisk (file_state node.log.conn)) }
+        HoldsLog ⟦<FileFrom<S> as Disk>⟧ files node.log.inside.head (held_in (file_state node.log.inside.conn).committed.trees)) }
+    ensures clean { IfOk result (λ files. AreClean ⟦<FileFrom<S> as Disk>⟧ files.log files.db → HasCleanDisk (file_state node.log.inside.conn)) }
 {
     let log = node.into_log();
     let files = log.close()?;
@@ -72,37 +72,15 @@ fn close_both<S: Start, T: Start>(
     time: u32,
     start: T,
 ) -> Result<(Files<FileFrom<S>>, Files<FileFrom<T>>), NodeFault>
-    requires running { Stands node.log.head (file_state node.log.conn) }
-    requires sum { HasCleanDisk (file_state node.log.conn) →
-        node.replica.store ≡ sum_of (edits_in (held_in (file_state node.log.conn).committed.trees)) }
+    requires running { Stands node.log.inside.head (file_state node.log.inside.conn) }
+    requires sum { HasCleanDisk (file_state node.log.inside.conn) →
+        node.replica.store ≡ sum_of (edits_in (held_in (file_state node.log.inside.conn).committed.trees)) }
     ensures alike { IfOk result (λ both. Compacts ⟦<FileFrom<S> as Disk>⟧ ⟦<FileFrom<T> as Disk>⟧ time both.0 both.1) }
 {
     let log = make_compacted(rt, &node, path, time, start)?;
     let fresh = log.close()?;
     let old = close(node)?;
     Ok((old, fresh))
-}
-
-// Does the same, and removes what it made at the path if it fails.
-fn close_both_or_remove<S: Start, T: Start>(
-    rt: &HostRuntime,
-    node: PathNode<S>,
-    path: &str,
-    time: u32,
-    start: T,
-) -> Result<(Files<FileFrom<S>>, Files<FileFrom<T>>), NodeFault>
-    requires running { Stands node.log.head (file_state node.log.conn) }
-    requires sum { HasCleanDisk (file_state node.log.conn) →
-        node.replica.store ≡ sum_of (edits_in (held_in (file_state node.log.conn).committed.trees)) }
-    ensures alike { IfOk result (λ both. Compacts ⟦<FileFrom<S> as Disk>⟧ ⟦<FileFrom<T> as Disk>⟧ time both.0 both.1) }
-{
-    match close_both(rt, node, path, time, start) {
-        Ok(both) => Ok(both),
-        Err(fault) => {
-            let _ = remove_both(rt, path);
-            Err(fault)
-        }
-    }
 }
 
 /// Makes a file beside the one of the node at a path, under a name that ends in `.compact`, which holds each entry of the node
@@ -125,8 +103,9 @@ pub fn prepare<S: Start, T: Start>(
     let name = String::from_str(rt.alloc(), path)?;
     let beside = beside_name(rt.alloc(), path)?;
     let node = open(rt, path, start)?;
-    remove_both(rt, beside.as_str())?;
-    let (old, fresh) = close_both_or_remove(rt, node, beside.as_str(), time, fresh_start)?;
+    sqlite_log::remove(rt, beside.as_str())?;
+    let made = close_both(rt, node, beside.as_str(), time, fresh_start);
+    let (old, fresh) = or_removed(rt, beside.as_str(), made)?;
     Ok(Compacted {
         path: name,
         beside,
@@ -176,23 +155,30 @@ where
     sync_folder(rt, to)
 }
 
+// Renames a closed file over another. What stands beside both is removed first, for they hold all by themselves.
+fn put_over<R: rt::Files + AllocGlobal>(rt: &R, from: &str, to: &str) -> Result<(), NodeFault>
+where
+    R::File: Drop,
+{
+    sqlite_log::remove_write_ahead_log(rt, from)?;
+    sqlite_log::remove_write_ahead_log(rt, to)?;
+    match rename_over(rt, from, to) {
+        Ok(()) => Ok(()),
+        Err(error) => Err(fault_of(error)),
+    }
+}
+
 impl<S: Start, T: Start> Compacted<S, T> {
-    /// Renames the new file over the node's. What stands beside both database files is removed first, for they hold all by
-    /// themselves.
+    /// Renames the new file over the node's.
     ///
-    /// A crash, or `Disk`, leaves the old file or the new one under the node's name, which have one sum; either opens.
+    /// A crash, or `Disk`, leaves the old file or the new one under the node's name, which have one sum; either opens. After
+    /// `Disk` nothing else is left, if the disk lets it be removed.
     pub fn replace<R: rt::Files + AllocGlobal>(self, rt: &R) -> Result<(), NodeFault>
     where
         R::File: Drop,
     {
-        let path = self.path.as_str();
         let beside = self.beside.as_str();
-        remove_log(rt, beside)?;
-        remove_log(rt, path)?;
-        match rename_over(rt, beside, path) {
-            Ok(()) => Ok(()),
-            Err(error) => Err(fault_of(error)),
-        }
+        or_removed(rt, beside, put_over(rt, beside, self.path.as_str()))
     }
 }
 
@@ -213,7 +199,7 @@ fn real_name<R: rt::Files + AllocGlobal>(rt: &R, path: &str) -> Result<PathBuf, 
 /// old file, whose name is gone: let none run.
 ///
 /// Fails as `open` does, and with `Disk` if the disk or the folder refuses. Then the file at the path, the old one or the new
-/// one, holds the same sum. The same holds of each crash.
+/// one, holds the same sum, and nothing is left beside it if the disk lets that be removed. The first holds of each crash too.
 pub fn compact<S: Start, T: Start>(
     rt: &HostRuntime,
     path: &str,

@@ -9,13 +9,14 @@ ghost use Rattle.edit_log.specs.Logs.{edits_in};
 ghost use Rattle.sqlite_log.specs.States.{held_in, Stands};
 ghost use Rattle.node_files.specs.Found.{FindsHeld};
 
+use crate::names::or_removed;
 use durable_node::{FORMAT, LogHead, NodeFault, NodeFile};
-use sqlite::{FileFrom, FileStore, Start};
-use sqlite_log::SqliteLog;
+use sqlite::{FileFrom, Start};
+use sqlite_log::FileLog;
 use std::random::RandomSource;
 
 /// The log in the file at a path.
-pub type PathLog<S> = SqliteLog<FileStore<FileFrom<S>>>;
+pub type PathLog<S> = FileLog<FileFrom<S>>;
 
 /// A node whose log is the file at a path.
 pub type PathNode<S> = NodeFile<PathLog<S>>;
@@ -40,7 +41,8 @@ fn new_head(rt: &impl RandomSource, writer: u32) -> Result<LogHead, NodeFault>
 /// No other process opens it until the node is dropped. A writer number belongs to one file alone.
 ///
 /// Fails with `Exists` if something is there, which stays as it is; with `Disk` if the disk or the folder refuses; and with
-/// `Memory`. After the last two a file may be left that no `open` takes for a node.
+/// `Memory`. After the last two nothing is left at the path, if the disk lets it be removed. A crash meanwhile may leave a file
+/// that no `open` takes for a node.
 pub fn create<S: Start>(
     rt: &HostRuntime,
     path: &str,
@@ -48,17 +50,16 @@ pub fn create<S: Start>(
     start: S,
 ) -> Result<PathNode<S>, NodeFault>
     ensures writer { IfOk result (λ node. node.replica.writer ≡ writer) }
-    ensures empty { IfOk result (λ node. HasCleanDisk (file_state node.log.conn) → node.replica.store ≡ finmap.empty) }
-    ensures held { IfOk result (λ node. HasCleanDisk (file_state node.log.conn) → held_in (file_state node.log.conn).committed.trees ≡ []) }
-    ensures format { IfOk result (λ node. node.log.head.format ≡ FORMAT) }
-    ensures log_writer { IfOk result (λ node. node.log.head.writer ≡ writer) }
+    ensures empty { IfOk result (λ node. HasCleanDisk (file_state node.log.inside.conn) → node.replica.store ≡ finmap.empty) }
+    ensures held { IfOk result (λ node. HasCleanDisk (file_state node.log.inside.conn) → held_in (file_state node.log.inside.conn).committed.trees ≡ []) }
+    ensures format { IfOk result (λ node. node.log.inside.head.format ≡ FORMAT) }
+    ensures log_writer { IfOk result (λ node. node.log.inside.head.writer ≡ writer) }
     ensures saved { IfOk result (λ node. node.unsaved ≡ []) }
     ensures whole { IfOk result (λ node. node.is_spent ≡ false) }
 {
     let head = new_head(rt, writer)?;
     let log = sqlite_log::create(rt, path, head, start)?;
-    let node = NodeFile::open(rt.alloc(), log)?;
-    Ok(node)
+    or_removed(rt, path, NodeFile::open(rt.alloc(), log))
 }
 
 /// Opens the node at a path: its replica holds the sum of what the file holds, under the file's writer number. No other
@@ -68,12 +69,12 @@ pub fn create<S: Start>(
 /// process has it open, with `Disk` if the disk refuses or the file is damaged, and with `Memory`. Then the file holds what
 /// it held.
 pub fn open<S: Start>(rt: &HostRuntime, path: &str, start: S) -> Result<PathNode<S>, NodeFault>
-    ensures writer { IfOk result (λ node. node.replica.writer ≡ node.log.head.writer) }
-    ensures format { IfOk result (λ node. node.log.head.format ≡ FORMAT) }
-    ensures sum { IfOk result (λ node. HasCleanDisk (file_state node.log.conn) →
-        node.replica.store ≡ sum_of (edits_in (held_in (file_state node.log.conn).committed.trees))) }
-    ensures found { IfOk result (λ node. HasCleanDisk (file_state node.log.conn) → FindsHeld (image_at S.Start) node.log.conn) }
-    ensures running { IfOk result (λ node. Stands node.log.head (file_state node.log.conn)) }
+    ensures writer { IfOk result (λ node. node.replica.writer ≡ node.log.inside.head.writer) }
+    ensures format { IfOk result (λ node. node.log.inside.head.format ≡ FORMAT) }
+    ensures sum { IfOk result (λ node. HasCleanDisk (file_state node.log.inside.conn) →
+        node.replica.store ≡ sum_of (edits_in (held_in (file_state node.log.inside.conn).committed.trees))) }
+    ensures found { IfOk result (λ node. HasCleanDisk (file_state node.log.inside.conn) → FindsHeld (image_at S.Start) node.log.inside.conn) }
+    ensures running { IfOk result (λ node. Stands node.log.inside.head (file_state node.log.inside.conn)) }
     ensures saved { IfOk result (λ node. node.unsaved ≡ []) }
     ensures whole { IfOk result (λ node. node.is_spent ≡ false) }
 {

@@ -15,7 +15,6 @@ use Rattle.edit_sums.specs.declared.contents.Content.TheVariants.{Gone, Link, Fi
 use Rattle.edit_sums.specs.declared.entries.Edit.{Edit}
 use Rattle.edit_log.specs.declared.logs.LogRow.{LogRow}
 use Rattle.edit_log.specs.declared.logs.LogHead.{LogHead}
-use Rattle.std.specs.Prelude.{string_bytes}
 use Rattle.sqlite_log.specs.declared.reading.EditCells.{EditCells}
 
 -- the cells of a row of the table of edits, without its number
@@ -94,10 +93,10 @@ abbrev pub head_row : ℤ → LogHead → Row
 head_row id h = Int id ∷ Null ∷ Int (pos h.format) ∷ Int (pos h.writer) ∷ Bytes h.mark ∷ []
 
 abbrev pub head_in : Row → LogHead
-head_in row = record { format = count_in (column row 2); writer = count_in (column row 3); mark = bytes (column row 4) }
+head_in values = record { format = count_in (column values 2); writer = count_in (column values 3); mark = bytes (column values 4) }
 
 abbrev pub head_shown : Row → LogHead
-head_shown row = record { format = count_in (column row 0); writer = count_in (column row 1); mark = bytes (column row 2) }
+head_shown values = record { format = count_in (column values 0); writer = count_in (column values 1); mark = bytes (column values 2) }
 
 -- ---- edits that can be spelled
 
@@ -113,4 +112,4 @@ pub record IsEdit (e : Edit) : Type 0 where
 
 -- the cells as they are read
 abbrev pub cells_read : EditCells → Cells
-cells_read c = record { place = string_bytes c.place; counter = c.counter; writer = c.writer; kind = c.kind; content = c.content.items; time = c.time }
+cells_read c = record { place = c.place.now; counter = c.counter; writer = c.writer; kind = c.kind; content = c.content.items; time = c.time }

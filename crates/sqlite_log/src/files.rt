@@ -8,9 +8,8 @@ ghost use Rattle.sqlite_log.specs.Found.{FindsLog};
 ghost use Rattle.sqlite_log.specs.States.{held_in, Stands};
 
 use crate::faults::fault_of;
-use crate::log::SqliteLog;
-use crate::making::make_log;
-use crate::reading::open_head;
+use crate::file_logs::FileLog;
+use crate::removing::remove;
 use edit_log::{LogFault, LogHead};
 use sqlite::{Connection, FileFrom, FileStore, Start};
 use std::fs::{self, File};
@@ -72,38 +71,52 @@ pub fn open<S: Start>(
     rt: &HostRuntime,
     path: &str,
     start: S,
-) -> Result<SqliteLog<FileStore<FileFrom<S>>>, LogFault>
-    ensures log { IfOk result (λ log. Stands log.head (file_state log.conn)) }
-    ensures found { IfOk result (λ log. HasCleanDisk (file_state log.conn) → FindsLog (image_at S.Start) log.conn) }
+) -> Result<FileLog<FileFrom<S>>, LogFault>
+    ensures log { IfOk result (λ log. Stands log.inside.head (file_state log.inside.conn)) }
+    ensures found { IfOk result (λ log. HasCleanDisk (file_state log.inside.conn) → FindsLog (image_at S.Start) log.inside.conn) }
 {
     find_file(rt, path)?;
-    let mut conn = connect(rt, path, start)?;
-    let head = open_head(&mut conn)?;
-    Ok(SqliteLog {
-        alloc: rt.alloc(),
-        conn,
-        head,
-    })
+    let conn = connect(rt, path, start)?;
+    let log = FileLog::find(rt.alloc(), conn)?;
+    Ok(log)
 }
 
-/// Makes a log with this head and no edits at a path. `Exists` if a file is there. A crash leaves a log that has this head
-/// and no edits, or a file that no open takes for a log.
+// Makes a log with this head and no edits in a file that was just made.
+fn make_in<S: Start>(
+    rt: &HostRuntime,
+    path: &str,
+    head: LogHead,
+    start: S,
+) -> Result<FileLog<FileFrom<S>>, LogFault>
+    ensures log { IfOk result (λ log. Stands log.inside.head (file_state log.inside.conn)) }
+    ensures head { IfOk result (λ log. log.inside.head ≡ head) }
+    ensures empty { IfOk result (λ log. HasCleanDisk (file_state log.inside.conn) → held_in (file_state log.inside.conn).committed.trees ≡ []) }
+{
+    let conn = connect(rt, path, start)?;
+    FileLog::make(rt.alloc(), conn, head)
+}
+
+/// Makes a log with this head and no edits at a path. `Exists` if a file is there, which stays as it is. With `Disk` and `Memory`
+/// nothing is left at the path, if the disk lets it be removed. A crash leaves a log that has this head and no edits, or a file
+/// that no open takes for a log.
 pub fn create<S: Start>(
     rt: &HostRuntime,
     path: &str,
     head: LogHead,
     start: S,
-) -> Result<SqliteLog<FileStore<FileFrom<S>>>, LogFault>
-    ensures log { IfOk result (λ log. Stands log.head (file_state log.conn)) }
-    ensures head { IfOk result (λ log. log.head ≡ head) }
-    ensures empty { IfOk result (λ log. HasCleanDisk (file_state log.conn) → held_in (file_state log.conn).committed.trees ≡ []) }
+) -> Result<FileLog<FileFrom<S>>, LogFault>
+    ensures log { IfOk result (λ log. Stands log.inside.head (file_state log.inside.conn)) }
+    ensures head { IfOk result (λ log. log.inside.head ≡ head) }
+    ensures empty { IfOk result (λ log. HasCleanDisk (file_state log.inside.conn) → held_in (file_state log.inside.conn).committed.trees ≡ []) }
 {
     make_file(rt, path)?;
-    let mut conn = connect(rt, path, start)?;
-    make_log(&mut conn, &head)?;
-    Ok(SqliteLog {
-        alloc: rt.alloc(),
-        conn,
-        head,
-    })
+    match make_in(rt, path, head, start) {
+        Ok(log) => Ok(log),
+        Err(fault) => {
+            if fault != LogFault::Busy {
+                let _ = remove(rt, path);
+            }
+            Err(fault)
+        }
+    }
 }

@@ -14,11 +14,20 @@ use sqlite::{Alter, Connection};
 use std::alloc::Global;
 
 /// A log of edits in an SQLite database. Its files are honest while its disk is clean.
-#[derive(Drop)]
 pub struct SqliteLog<S: Alter> {
     pub(crate) alloc: Global,
     pub(crate) conn: Connection<S>,
     pub(crate) head: LogHead,
+}
+
+impl<S: Alter + Drop> Drop for SqliteLog<S> {
+    fn drop(self) {
+        let SqliteLog {
+            alloc: _,
+            conn: _,
+            head: _,
+        } = self;
+    }
 }
 
 impl<S: Alter> EditLog for SqliteLog<S> {
@@ -56,5 +65,19 @@ impl<S: Alter> EditLog for SqliteLog<S> {
 
     fn read(&mut self, alloc: Global) -> Result<Vec<LogRow>, LogFault> {
         read_all(alloc, &mut self.conn)
+    }
+}
+
+impl<S: Alter> SqliteLog<S> {
+    // Returns its connection, and drops the rest.
+    pub(crate) fn into_conn(self) -> Connection<S>
+        ensures conn { result ≡ self.conn }
+    {
+        let SqliteLog {
+            alloc: _,
+            conn,
+            head: _,
+        } = self;
+        conn
     }
 }

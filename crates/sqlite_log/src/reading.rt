@@ -1,6 +1,7 @@
 //! Reading a log.
-ghost use Rattle.std.specs.Prelude.{◌≡◌, ◌∷◌, [], IfOk, IsPermutation, OnOk, Some, map, string_bytes};
+ghost use Rattle.std.specs.Prelude.{◌≡◌, ◌∷◌, [], IfOk, IsPermutation, OnOk, Some, map};
 ghost use Rattle.sqlite.specs.Held.{state};
+ghost use Rattle.sqlite.specs.Order.{bytes, column};
 ghost use Rattle.sqlite.specs.State.{HasCleanDisk, IsUnchanged, Opens, Survives};
 ghost use Rattle.sqlite_log.specs.Cells.{cells_read, cells_shown, head_shown, row_in};
 ghost use Rattle.sqlite_log.specs.States.{heads_of, held_in, IsLog, log_of, Stands};
@@ -11,13 +12,14 @@ use crate::spelling::{content_in, place_in};
 use edit_log::{LogFault, LogHead, LogRow};
 use edit_sums::Edit;
 use join_law::Version;
+use sqlite::types::{Type, ValueRef};
 use sqlite::{Alter, Connection, Error, Row};
 use std::alloc::Global;
 
-// The cells of an edit's row, as they are read.
+// The cells of an edit's row, as they are read: the text is the row's own.
 #[derive(Drop)]
-pub(crate) struct EditCells {
-    place: String,
+pub(crate) struct EditCells<'a> {
+    place: &'a [u8],
     counter: u64,
     writer: u32,
     kind: u32,
@@ -48,11 +50,21 @@ fn all_heads<S: Alter>(conn: &mut Connection<S>) -> Result<Vec<Row>, Error>
     conn.query_all("SELECT format, writer, mark FROM meta", &[])
 }
 
-fn cells_of_row(row: &Row) -> Result<EditCells, Error>
+// The text in a column, which stays the row's.
+fn text_at<'a>(row: &'a Row, at: usize) -> Result<&'a [u8], Error>
+    ensures text { IfOk result (λ text. text.now ≡ bytes (column row.now at)) }
+{
+    match row.get_ref(at)? {
+        ValueRef::Text(text) => Ok(text),
+        other => Err(Error::InvalidColumnType(at, Type::of(other))),
+    }
+}
+
+fn cells_of_row<'a>(row: &'a Row) -> Result<EditCells<'a>, Error>
     ensures cells { IfOk result (λ cells. cells_read cells ≡ cells_shown row.now) }
 {
     Ok(EditCells {
-        place: row.get(0)?,
+        place: text_at(row, 0)?,
         counter: row.get(1)?,
         writer: row.get(2)?,
         kind: row.get(3)?,
@@ -62,8 +74,8 @@ fn cells_of_row(row: &Row) -> Result<EditCells, Error>
 }
 
 // The row of the log that cells spell. `NotANode` if they spell none.
-fn row_of_cells(alloc: Global, cells: EditCells) -> Result<LogRow, LogFault>
-    ensures row { IfOk result (λ row. row_in (cells_read cells) ≡ Some row) }
+fn row_of_cells(alloc: Global, cells: EditCells<'_>) -> Result<LogRow, LogFault>
+    ensures row { IfOk result (λ row. row_in (cells_read cells.entry) ≡ Some row) }
 {
     let EditCells {
         place,
@@ -73,7 +85,7 @@ fn row_of_cells(alloc: Global, cells: EditCells) -> Result<LogRow, LogFault>
         content,
         time,
     } = cells;
-    let place = place_in(alloc, place.as_bytes())?;
+    let place = place_in(alloc, place)?;
     let content = content_in(kind, content)?;
     let version = Version { counter, writer };
     Ok(LogRow {

@@ -1,7 +1,11 @@
 use Rattle.sqlite_log.proofs.files.open.Goals as goal
 
 pub returns-clause-found : goal.returns-clause-found
-returns-clause-found g c clean = record { was = c.in_ok-conn.conn; found = c.in_ok-conn.ensures.found (c.open_head.ensures.clean clean); same = c.in_ok-head.ensures.same clean }
+returns-clause-found g c clean = record {
+  was = c.in_ok-conn.conn;
+  found = c.in_ok-conn.ensures.found (c.in_ok-log.ensures.clean clean);
+  same = c.in_ok-log.ensures.same clean;
+}
 
-pub open_head-requires : goal.open_head-requires
-open_head-requires g c = record { opened = λ clean. (c.in_ok-conn.ensures.opened clean).0 }
+pub find-requires : goal.find-requires
+find-requires g c = record { opened = λ clean. (c.in_ok-conn.ensures.opened clean).0 }

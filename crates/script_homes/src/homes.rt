@@ -1,7 +1,7 @@
 //! Where what a script's first node holds is kept.
 ghost use Rattle.std.specs.Prelude.{◌≡◌, OnOk, false};
 ghost use Rattle.edit_sums.specs.Sums.{EntryMap, IsStoreBelow};
-ghost use Rattle.fleet_script.specs.Holds.{IsHeldNext, StaysKept};
+ghost use Rattle.script_homes.specs.Homes.{IsHeldNext, StaysKept};
 
 use replica_store::Store;
 use thiserror::Error;
@@ -34,7 +34,7 @@ pub trait Home {
 
 /// No home: nothing is kept, and nothing is claimed of it.
 #[derive(Clone, Copy, Debug)]
-pub(crate) struct Nowhere;
+pub struct Nowhere;
 
 impl Home for Nowhere {
     ghost holds = { λ home s. Unit {0} };

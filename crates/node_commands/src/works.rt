@@ -1,0 +1,58 @@
+//! Pieces of work at a node.
+ghost use Rattle.std.specs.Prelude.{◌≡◌, OnOk};
+ghost use Rattle.durable_node.specs.declared.histories.Logged.{Logged};
+ghost use Rattle.node_commands.specs.Works.{Answers, Commits, replica_after};
+
+use crate::exchanges::{take_piece, write_delta};
+use crate::faults::CommandFault;
+use crate::histories::write_history;
+use crate::outputs::{write_digest, write_id, write_store};
+use delta_pieces::{Digest, Piece};
+use durable_node::{EditLog, Logged, NodeFile};
+use load_places::Place;
+use script_pipes::Sink;
+use std::alloc::Global;
+
+/// A piece of work at a node, with what was read for it.
+#[derive(Drop)]
+pub enum Work {
+    /// Write the digest.
+    Digest,
+    /// Write the store.
+    Store,
+    /// Write the identity.
+    Id,
+    /// Write what the owner of a digest lacks.
+    Delta(Digest),
+    /// Commit a piece.
+    Take(Piece),
+    /// Write the history of a place.
+    History(Place),
+}
+
+/// Does a piece of work at a node, and writes its answer. A piece is committed with this time, in seconds since 1970.
+///
+/// The faults, and what each leaves, are those of the call for each work.
+pub fn do_work<L: EditLog, K: Sink>(
+    alloc: Global,
+    node: &mut NodeFile<L>,
+    work: &Work,
+    time: u32,
+    sink: &mut K,
+) -> Result<(), CommandFault>
+    ensures answered { L.is_honest node.new.log → OnOk result (Answers ⟦<Logged as Ord>⟧.cmp work.now
+        node.old.replica.store node.new.replica.store (L.held node.old.log) (K.contents sink.old) (K.contents sink.new)) }
+    ensures replica { OnOk result (node.new.replica ≡ replica_after work.now node.old.replica) }
+    ensures committed { L.is_honest node.new.log → OnOk result (Commits work.now
+        (L.held node.new.log) (L.may_leave node.new.log) node.new.replica.store) }
+    ensures head { L.head node.new.log ≡ L.head node.old.log }
+{
+    match work {
+        Work::Digest => write_digest(alloc, node, sink),
+        Work::Store => write_store(node, sink),
+        Work::Id => write_id(alloc, node, sink),
+        Work::Delta(asked) => write_delta(alloc, node, asked, sink),
+        Work::Take(piece) => take_piece(alloc, node, piece, time, sink),
+        Work::History(place) => write_history(alloc, node, place, sink),
+    }
+}
