@@ -1,7 +1,9 @@
 //! Pieces of work at a node.
-ghost use Rattle.std.specs.Prelude.{◌≡◌, OnOk};
-ghost use Rattle.durable_node.specs.declared.histories.Logged.{Logged};
+ghost use Rattle.std.specs.Prelude.{◌≡◌, IsErrOf, OnOk};
+ghost use Rattle.script_pipes.specs.Failures.{FailedSince};
+ghost use Rattle.durable_node.specs.declared.{faults.NodeFault.{NodeFault}, histories.Logged.{Logged}};
 ghost use Rattle.node_commands.specs.Works.{Answers, Commits, replica_after};
+ghost use Rattle.node_commands.specs.declared.faults.CommandFault.TheVariants.{Node, Write};
 
 use crate::exchanges::{take_piece, write_delta};
 use crate::faults::CommandFault;
@@ -45,6 +47,8 @@ pub fn do_work<L: EditLog, K: Sink>(
     ensures replica { OnOk result (node.new.replica ≡ replica_after work.now node.old.replica) }
     ensures committed { L.is_honest node.new.log → OnOk result (Commits work.now
         (L.held node.new.log) (L.may_leave node.new.log) node.new.replica.store) }
+    ensures unwritten { (refused : NodeFault) → IsErrOf result (Node refused) → sink.new ≡ sink.old }
+    ensures refused { IsErrOf result Write → FailedSince (K.refusals sink.old) (K.refusals sink.new) }
     ensures head { L.head node.new.log ≡ L.head node.old.log }
 {
     match work {

@@ -9,7 +9,7 @@ ghost use Rattle.sqlite_log.specs.States.{held_in, Stands};
 
 use crate::faults::fault_of;
 use crate::file_logs::FileLog;
-use crate::removing::remove;
+use crate::removing::{log_name, remove};
 use edit_log::{LogFault, LogHead};
 use sqlite::{Connection, FileFrom, FileStore, Start};
 use std::fs::{self, File};
@@ -32,8 +32,7 @@ fn is_blank(rt: &HostRuntime, path: &str) -> io::Result<bool> {
     if fs::metadata(rt, path)?.len() > 0 {
         return Ok(false);
     }
-    let mut log = String::from_str(rt.alloc(), path)?;
-    log.push_str("-wal")?;
+    let log = log_name(rt.alloc(), path)?;
     Ok(!fs::exists(rt, log.as_str())?)
 }
 

@@ -8,7 +8,7 @@ use std::io::ErrorKind;
 use std::rt::Files;
 
 // The name of the write-ahead log of a database file, which has what was committed last.
-fn log_name(alloc: Global, path: &str) -> Result<String, AllocError>
+pub(crate) fn log_name(alloc: Global, path: &str) -> Result<String, AllocError>
     ensures name { IfOk result (λ name. string_bytes name ≡ path.now ++ codes "-wal") }
 {
     format!(in alloc; "{path}-wal")
