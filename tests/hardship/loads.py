@@ -1,9 +1,10 @@
-"""Loads and graphs of stores that are refused memory: the lines of worked_answers."""
+"""Loads and graphs of stores that are refused memory: the lines of worked_threads that aren't of nodes."""
 from cases import Case
 from lines import answers_below, is_silent, name_of
+from nodes import CALLS
 from programs import first_line, judge_in_turn
 
-PROGRAM = "worked_answers"
+PROGRAM = "worked_threads"
 REFUSED = b"out of memory"
 ASKED = b"the gate was asked for"
 
@@ -74,5 +75,5 @@ def cases():
     """All lines but those at whose gate two workers wait for one another."""
     for line, answers in answers_below(PROGRAM):
         call = line.split(b" ", 1)[0].decode()
-        if call != "meet":
+        if call != "meet" and call not in CALLS:
             yield Case(f"loads: {call}", name_of(line), once, (line, answers), weight=100, refuses=True)

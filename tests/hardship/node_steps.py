@@ -1,4 +1,4 @@
-"""The steps of a line of worked_nodes, walked over the answers that were given.
+"""The steps of a line of worked_threads, walked over the answers that were given.
 
 A step says, for a node and its answers, in which states the node may be then; in none where it must not give these
 answers.

@@ -1,11 +1,14 @@
-"""Running nodes that are refused memory: the lines of worked_nodes."""
+"""Running nodes that are refused memory: lines of worked_threads."""
 from cases import Case
 from lines import answers_below, is_silent, name_of
 from node_model import Wrong
 from node_steps import walk
 from programs import first_line, judge_in_turn
 
-PROGRAM = "worked_nodes"
+PROGRAM = "worked_threads"
+# The first words of its lines of nodes, and which of those wait for other threads.
+CALLS = ("node", "over", "threads", "crowd", "pair")
+WAITING = ("threads", "pair")
 X, Y, Z = (f"/etc/systemd/system/{name}" for name in "xyz")
 
 # Lines, and what each answers where something is refused at each answer that says so, and nowhere else. A node takes
@@ -207,7 +210,7 @@ def cases():
     """The lines, but those of many threads and of one that waits for another; and what takes several refusals."""
     for line, answers in answers_below(PROGRAM):
         call = line.split(b" ", 1)[0].decode()
-        if call not in ("threads", "meet") and b" beside " not in line:
+        if call in CALLS and call not in WAITING and b" beside " not in line:
             words = (line.decode(), [answer.decode() for answer in answers])
             yield Case(f"nodes: {call}", name_of(line), once, words, weight=100, refuses=True)
     for line, wanted in WANTED:

@@ -17,13 +17,16 @@ mod choices;
 mod contents;
 mod drop_ins;
 mod edits;
+mod fakes;
 mod implied;
 mod join_maps;
 mod joins;
+mod lives;
 mod names;
 mod orders;
 mod paths;
 mod pieces;
+mod pipes;
 mod places;
 mod replicas;
 mod script_lines;
@@ -49,6 +52,7 @@ fn answer(words: &mut Words, out: &mut Answer) -> Result<(), LineFault> {
         b"setting" => settings::answer(words, out),
         b"implied" => implied::answer(words, out),
         b"script" => script_lines::answer(words, out),
+        b"pipe" => pipes::answer(words, out),
         b"version" => joins::answer(words, out),
         b"map" => join_maps::answer(words, out),
         b"content" => contents::answer(words, out),
@@ -58,6 +62,7 @@ fn answer(words: &mut Words, out: &mut Answer) -> Result<(), LineFault> {
         b"digest" => pieces::answer_digest(words, out),
         b"bytes" => bytes::answer(words, out),
         b"world" => worlds::answer(words, out),
+        b"life" => lives::answer(words, out),
         b"fragment" => choices::answer(words, out),
         b"dropins" => drop_ins::answer(words, out),
         b"tree" => trees::answer(words, out),

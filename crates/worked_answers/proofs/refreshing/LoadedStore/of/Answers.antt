@@ -1,5 +1,0 @@
-use Rattle.worked_answers.proofs.Loading.{own_load}
-use Rattle.worked_answers.proofs.refreshing.LoadedStore.of.Goals as goal
-
-pub returns : goal.returns
-returns c = record { load = own_load c.args.store c.args.viewer.now c.args.names.now c.in_ok-load.load c.in_ok-load.ensures.load }

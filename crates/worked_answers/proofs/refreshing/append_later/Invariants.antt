@@ -1,5 +1,0 @@
-use Rattle.worked_answers.proofs.Prelude.{host_view_of, IsLoad}
-use Rattle.worked_answers.proofs.refreshing.append_later.Given as goal
-
-abbrev pub invariant-loop-count : goal.invariant-loop-count
-invariant-loop-count l = IsLoad (host_view_of l.held.store l.held.load.viewer) l.held.load.extra l.held.load
