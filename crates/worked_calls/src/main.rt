@@ -28,6 +28,7 @@ mod paths;
 mod pieces;
 mod pipes;
 mod places;
+mod ranges;
 mod replicas;
 mod script_lines;
 mod sections;
@@ -59,6 +60,7 @@ fn answer(words: &mut Words, out: &mut Answer) -> Result<(), LineFault> {
         b"store" => stores::answer(words, out),
         b"replica" => replicas::answer(words, out),
         b"piece" => pieces::answer(words, out),
+        b"range" => ranges::answer(words, out),
         b"digest" => pieces::answer_digest(words, out),
         b"bytes" => bytes::answer(words, out),
         b"world" => worlds::answer(words, out),

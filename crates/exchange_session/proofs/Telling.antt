@@ -1,0 +1,52 @@
+-- What is told of ranges.
+use Rattle.std.proofs.Common.{◌+◌, ◌∷◌, ◌≡◌, ◌≢◌}
+use Rattle.std.specs.FinMap as finmap
+use Rattle.exchange_session.proofs.Prelude.{[], All, ap, ArePartsOf, arith, Bool, cond, false, find, FinMap, from_T, inl, inr, IsAmong, is_sorted, IsTrue, is_within, List, map, place_cmp, place_cmp-IsAntisymmetric, place_cmp_total, PlaceParts, Range, refl, same_map, suc, sym, times_within, true, Version, within, zero, ℕ, ◌∙◌}
+use Rattle.exchange_session.specs.Answered.{own_ask}
+use Rattle.exchange_session.specs.Told.{Covers, IsOwnAsk, IsOwnPrint, own_print}
+use Rattle.exchange_session.specs.declared.messages.{RangeAsk.{RangeAsk}, RangePrint.{RangePrint}}
+
+-- a map with these entries
+pub of_entries : (m : FinMap place_cmp Version) (es : List (PlaceParts × Version)) → finmap.entries m ≡ es → m ≡ finmap.from_entries {R = place_cmp} es
+of_entries m es is = same_map place_cmp_total place_cmp-IsAntisymmetric m (finmap.from_entries es) (λ q.
+    finmap.get-entries m q ∙ ap (find place_cmp q) is ∙ sym (finmap.get-from_entries place_cmp_total es q))
+
+-- an ask with these versions
+pub asked : (own : List (PlaceParts × Version)) (r : Range) (versions : FinMap place_cmp Version) → versions ≡ finmap.from_entries {R = place_cmp} (within r own) → ◌≡◌ {A = RangeAsk} (record { range = r; versions = versions }) (own_ask own r)
+asked own r versions is = ap {B = RangeAsk} (λ (m : FinMap place_cmp Version). record { range = r; versions = m }) is
+
+-- own prints are own
+pub all_own : (seed : ℕ) (own : List (PlaceParts × Version)) (rs : List Range) → All (IsOwnPrint seed own) (map (own_print seed own) rs)
+all_own seed own [] k d lt = absurd (omega arith)
+all_own seed own (r ∷ rs) zero d lt = refl
+all_own seed own (r ∷ rs) (suc k) d lt = all_own seed own rs k d (omega arith)
+
+-- a place that is in one of some ranges is in one whose print is told
+told_of : (seed : ℕ) (own : List (PlaceParts × Version)) (p : PlaceParts) (rs : List Range) → times_within p rs ≢ 0
+    → (it : RangePrint) × (IsAmong it (map (own_print seed own) rs) × (is_within it.range p ≡ true))
+told_of seed own p [] some = absurd (some refl)
+told_of seed own p (r ∷ rs) some = elim (is_within r p) as (λ b. is_within r p ≡ b → (it : RangePrint) × (IsAmong it (map (own_print seed own) (r ∷ rs)) × (is_within it.range p ≡ true))) [
+  | true ↦ λ e. (own_print seed own r, (inl refl, e))
+  | false ↦ λ e.
+      let rest = told_of seed own p rs (λ none. some (ap (λ b. cond b 1 0 + times_within p rs) e ∙ ap (λ n. 0 + n) none)) in
+      (rest.0, (inr rest.1.0, rest.1.1))
+] refl
+
+-- the parts of a range cover it
+pub parts_cover : (seed : ℕ) (own : List (PlaceParts × Version)) (r : Range) (rs : List Range) (asks : List RangeAsk) → ArePartsOf r rs → Covers r (map (own_print seed own) rs) asks
+parts_cover seed own r rs asks are p inside =
+    let once : times_within p rs ≡ 1 = are p ∙ ap (λ (b : Bool). cond b 1 0) inside in
+    inl (told_of seed own p rs (λ none. let not_both : 0 ≡ 1 = sym none ∙ once in absurd (omega arith)))
+
+-- an ask for a range covers it
+pub ask_covers : (r : Range) (ask : RangeAsk) → ask.range ≡ r → Covers r [] (ask ∷ [])
+ask_covers r ask is p inside = inr (ask, (inl refl, ap (λ (q : Range). is_within q p) is ∙ inside))
+
+-- a single ask
+pub one_own : (own : List (PlaceParts × Version)) (ask : RangeAsk) → IsOwnAsk own ask → All (IsOwnAsk own) (ask ∷ [])
+one_own own ask is zero d lt = is
+one_own own ask is (suc k) d lt = absurd (omega arith)
+
+-- the entries of a map ascend
+pub entries_ascend : (m : FinMap place_cmp Version) → IsTrue (is_sorted place_cmp (finmap.entries m))
+entries_ascend m = from_T _ (finmap.entries_sorted m)

@@ -1,0 +1,87 @@
+//! Replies to messages.
+ghost use Rattle.std.specs.Prelude.{◌≡◌, ◌++◌, ◌∷◌, [], All, IfOk, List, map, OnOk};
+ghost use Rattle.std.specs.FinMap as finmap;
+ghost use Rattle.edit_sums.specs.Sums.{IsStoreBelow};
+ghost use Rattle.world_law.specs.Cuts.{digest_of};
+ghost use Rattle.exchange_session.specs.{Answered.{asks_back, piece_for, versions_of}, Joined.{EndsWith, joined}, Told.{IsOwnAsk, IsOwnPrint, IsPursued, own_print}};
+ghost use Rattle.range_prints.specs.Ranges.{everything};
+ghost use Rattle.exchange_session.specs.declared.messages.RangeAsk.{RangeAsk};
+
+use crate::asking::{ask_back, pieces_for};
+use crate::comparing::{compare_all, prints_of};
+use crate::messages::Message;
+use delta_pieces::{Piece, digest, take};
+use range_prints::Range;
+use replica_store::Replica;
+use std::alloc::{AllocError, Global};
+
+// Takes pieces one after another. If memory runs out, the replica lies between what it was and what it would be.
+fn take_all(node: &mut Replica, pieces: Vec<Piece>) -> Result<(), AllocError>
+    ensures taken { OnOk result (node.new.store ≡ joined node.old.store pieces.items) }
+    ensures writer { node.new.writer ≡ node.old.writer }
+    ensures kept { IsStoreBelow node.old.store node.new.store }
+{
+    for piece in pieces {
+        match take(node, piece) {
+            Ok(_) => (),
+            Err(_) => return Err(AllocError),
+        }
+    }
+    Ok(())
+}
+
+/// Takes the pieces of a message, and returns what the replica says to the rest of it.
+///
+/// Where a print isn't its own, it asks for the range if few of its versions are in it, and else cuts it into parts and
+/// tells their prints. It answers each ask with a piece of what it has newer, or what isn't told of, at its places in the
+/// range; and if the ask tells of something newer, it asks for the range itself. Every piece is a cut for an ask that was
+/// made, and every ask is told of what the replica holds: so whatever is lost, repeated or cut off, what comes to a replica
+/// is what pieces of a world bring.
+///
+/// One pass over the replica, and a search for each place of a piece. Fails only if memory runs out: then the replica has
+/// taken some of the pieces, and lost nothing.
+pub fn reply(
+    alloc: Global,
+    node: &mut Replica,
+    seed: u64,
+    message: Message,
+) -> Result<Message, AllocError>
+    ensures taken { OnOk result (node.new.store ≡ joined node.old.store message.pieces.items) }
+    ensures writer { node.new.writer ≡ node.old.writer }
+    ensures kept { IsStoreBelow node.old.store node.new.store }
+    ensures prints { IfOk result (λ told. All (IsOwnPrint seed (versions_of node.new.store)) told.prints.items) }
+    ensures asks { IfOk result (λ told. All (IsOwnAsk (versions_of node.new.store)) told.asks.items) }
+    ensures pieces { IfOk result (λ told. told.pieces.items ≡ map (piece_for node.new.store) message.asks.items) }
+    ensures pursued { IfOk result (λ told. All (IsPursued seed (versions_of node.new.store) told.prints.items told.asks.items)
+        message.prints.items) }
+    ensures asked_back { IfOk result (λ told. EndsWith told.asks.items (asks_back (digest_of node.new.store) message.asks.items)) }
+{
+    let (prints, asks, pieces) = message.into_parts();
+    take_all(node, pieces)?;
+    let own = digest(alloc, node)?;
+    let compared = compare_all(alloc, seed, own.versions(), prints)?;
+    let (prints, mut told) = compared.into_parts();
+    let pieces = pieces_for(alloc, node, &own, &asks)?;
+    ask_back(alloc, &own, asks, &mut told)?;
+    Ok(Message {
+        prints,
+        asks: told,
+        pieces,
+    })
+}
+
+/// Returns what a side says first: the print of all that its replica holds. One pass. Fails only if memory runs out.
+pub fn open(alloc: Global, node: &Replica, seed: u64) -> Result<Message, AllocError>
+    ensures print { IfOk result (λ told. told.prints.items ≡ own_print seed (versions_of node.now.store) everything ∷ []) }
+    ensures asks { IfOk result (λ told. told.asks.items ≡ []) }
+    ensures pieces { IfOk result (λ told. told.pieces.items ≡ []) }
+{
+    let own = digest(alloc, node)?;
+    let mut ranges = Vec::new(alloc);
+    ranges.push(Range::everything())?;
+    Ok(Message {
+        prints: prints_of(alloc, seed, own.versions(), ranges)?,
+        asks: Vec::new(alloc),
+        pieces: Vec::new(alloc),
+    })
+}

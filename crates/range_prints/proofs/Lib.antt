@@ -1,0 +1,4 @@
+pub mod Prelude
+pub mod Bounds
+pub mod CutRanges
+pub mod Sums
