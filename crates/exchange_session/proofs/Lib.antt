@@ -5,3 +5,5 @@ pub mod Taking
 pub mod Parting
 pub mod Minding
 pub mod Replying
+pub mod Running
+pub mod Meeting

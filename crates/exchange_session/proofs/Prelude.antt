@@ -18,3 +18,8 @@ pub use Rattle.std.specs.{declared.cmp.Ordering.{Ordering, TheVariants.{Equal, G
 pub use Rattle.list_laws.specs.Orderings.{turned}
 pub use Rattle.world_law.specs.{CutLaws.{get-cut, get-digest_of, get_from_cut}, Cuts.{digest_of, is_newer, is_wanted}}
 pub use Rattle.join_law.specs.VersionOrder.{version_cmp}
+pub use Rattle.edit_sums.specs.{CounterLaws.{edits_of-found}, declared.entries.Edit.{Edit}, EntryLaws.{larger-left, larger-None, larger_cases}, Sums.{edit_of, edits_of, entry_of}}
+pub use Rattle.world_law.specs.Cuts.{AreToldApart}
+pub use Rattle.edit_sums.specs.{GreatestLaws.{get_from_edits_of}, SumLaws.{join-right}}
+pub use Rattle.list_laws.specs.Members.{IsAmong-append_cases}
+pub use Rattle.std.{proofs.Common.{Err, Ok, Result}, specs.Prelude.{MatchOption, OnOk}}

@@ -137,9 +137,9 @@ minded_by_print seed sender own reply it p apart here sound pursued = elim (deci
   | inl same ↦
       let lists : within it.range (versions_of sender) ≡ within it.range (versions_of own) = sound same in
       let found : find place_cmp p (versions_of sender) ≡ find place_cmp p (versions_of own) =
-          sym (find-those (is_within it.range) p (versions_of sender) here) ∙ ap (λ (l : Versions). find place_cmp p l) lists ∙ find-those (is_within it.range) p (versions_of own) here in
+      sym (find-those (is_within it.range) p (versions_of sender) here) ∙ ap (λ (l : Versions). find place_cmp p l) lists ∙ find-those (is_within it.range) p (versions_of own) here in
       let versions : option_map (λ (x : Entry). x.version) (finmap.get sender p) ≡ option_map (λ (x : Entry). x.version) (finmap.get own p) =
-          sym (get-digest_of sender p) ∙ finmap.get-entries (digest_of sender) p ∙ found ∙ sym (finmap.get-entries (digest_of own) p) ∙ get-digest_of own p in
+      sym (get-digest_of sender p) ∙ finmap.get-entries (digest_of sender) p ∙ found ∙ sym (finmap.get-entries (digest_of own) p) ∙ get-digest_of own p in
       inl (by_versions sender own p apart versions)
   | inr other ↦ inr (inl (pursued other p here))
 ]
@@ -153,11 +153,11 @@ pub replies_stand : RepliesStand
 replies_stand seed sender receiver said reply stands apart is = elim (checked seed sender (joined receiver said.pieces) said.prints) [
   | inl found ↦ inl found
   | inr sound ↦ inr (record {
-      prints = is.prints;
-      asks = is.asks;
-      pieces = subst (λ (l : List EntryMap). All (λ (q : EntryMap). IsStoreBelow q (joined receiver said.pieces)) l) (sym is.pieces) (pieces_below (joined receiver said.pieces) said.asks);
-      minded = λ p. by sound p (stands.minded p);
-    })
+    prints = is.prints;
+    asks = is.asks;
+    pieces = subst (λ (l : List EntryMap). All (λ (q : EntryMap). IsStoreBelow q (joined receiver said.pieces)) l) (sym is.pieces) (pieces_below (joined receiver said.pieces) said.asks);
+    minded = λ p. by sound p (stands.minded p);
+  })
 ]
   where
     by : All (IsSound seed sender (joined receiver said.pieces)) said.prints → (p : PlaceParts) → IsMinded sender receiver said p → IsMinded (joined receiver said.pieces) sender reply p

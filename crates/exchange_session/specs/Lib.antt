@@ -4,3 +4,4 @@ pub mod Answered
 pub mod Joined
 pub mod Events
 pub mod Standing
+pub mod Runs

@@ -12,3 +12,5 @@ pub use Rattle.std.proofs.Common.{[], None, Option, slice_get}
 pub use Rattle.world_law.specs.{Cuts.{at_places}, declared.events.Event.{Event, TheVariants.{Cut, Give}}, Worlds.{EventWorld, happens, Node}}
 pub use Rattle.edit_sums.specs.{Entries.{Entry, IsBelow}, Sums.{IsStoreBelow}}
 pub use Rattle.std.proofs.Common.{All}
+pub use Rattle.edit_sums.specs.Sums.{edits_of}
+pub use Rattle.world_law.specs.Cuts.{AreToldApart}

@@ -17,8 +17,10 @@ mod asking;
 mod comparing;
 mod laws;
 mod messages;
+mod reconciling;
 mod replies;
 
 pub use laws::session_laws;
 pub use messages::{Message, RangeAsk, RangePrint};
+pub use reconciling::reconcile;
 pub use replies::{open, reply};

@@ -79,6 +79,18 @@ impl Message {
         self.prints.is_empty() && self.asks.is_empty()
     }
 
+    /// Returns its pieces alone.
+    pub fn into_pieces(self) -> Vec<Piece>
+        ensures pieces { result ≡ self.pieces }
+    {
+        let Message {
+            prints: _,
+            asks: _,
+            pieces,
+        } = self;
+        pieces
+    }
+
     /// Takes the message apart.
     pub fn into_parts(self) -> (Vec<RangePrint>, Vec<RangeAsk>, Vec<Piece>)
         ensures prints { result.0 ≡ self.prints }

@@ -1,7 +1,7 @@
 //! Replies to messages.
 ghost use Rattle.std.specs.Prelude.{◌≡◌, ◌++◌, ◌∷◌, [], All, IfOk, List, map, OnOk};
 ghost use Rattle.std.specs.FinMap as finmap;
-ghost use Rattle.edit_sums.specs.Sums.{IsStoreBelow};
+ghost use Rattle.edit_sums.specs.Sums.{IsStoreBelow, join};
 ghost use Rattle.world_law.specs.Cuts.{digest_of};
 ghost use Rattle.exchange_session.specs.{Answered.{asks_back, piece_for, versions_of}, Joined.{EndsWith, joined}, Told.{IsOwnAsk, IsOwnPrint, IsPursued, own_print}};
 ghost use Rattle.range_prints.specs.Ranges.{everything};
@@ -15,17 +15,27 @@ use range_prints::Range;
 use replica_store::Replica;
 use std::alloc::{AllocError, Global};
 
-// Takes pieces one after another. If memory runs out, the replica lies between what it was and what it would be.
-fn take_all(node: &mut Replica, pieces: Vec<Piece>) -> Result<(), AllocError>
+/// Takes a piece. If memory runs out, some of it may be taken.
+pub fn take_one(node: &mut Replica, piece: Piece) -> Result<(), AllocError>
+    ensures taken { OnOk result (node.new.store ≡ join node.old.store piece) }
+    ensures writer { node.new.writer ≡ node.old.writer }
+    ensures kept { IsStoreBelow node.old.store node.new.store }
+{
+    match take(node, piece) {
+        Ok(_) => (),
+        Err(_) => return Err(AllocError),
+    }
+    Ok(())
+}
+
+/// Takes pieces one after another. If memory runs out, some of them may be taken.
+pub fn take_all(node: &mut Replica, pieces: Vec<Piece>) -> Result<(), AllocError>
     ensures taken { OnOk result (node.new.store ≡ joined node.old.store pieces.items) }
     ensures writer { node.new.writer ≡ node.old.writer }
     ensures kept { IsStoreBelow node.old.store node.new.store }
 {
     for piece in pieces {
-        match take(node, piece) {
-            Ok(_) => (),
-            Err(_) => return Err(AllocError),
-        }
+        take_one(node, piece)?;
     }
     Ok(())
 }

@@ -2,7 +2,7 @@
 use crate::edits::{append_store, append_version};
 use crate::pieces::holder;
 use delta_pieces::digest;
-use exchange_session::{Message, RangeAsk, RangePrint, open, reply};
+use exchange_session::{Message, RangeAsk, RangePrint, open, reconcile, reply};
 use join_law::Version;
 use range_prints::{Range, parts, print, within};
 use replica_store::{Place, Replica};
@@ -18,6 +18,7 @@ pub fn answer(words: &mut Words, out: &mut Answer) -> Result<(), LineFault> {
         b"parts" => append_parts(words, out),
         b"print" => append_print(words, out),
         b"turns" => append_turns(words, out),
+        b"reconcile" => append_reconciled(words, out),
     )
 }
 
@@ -183,5 +184,20 @@ fn append_turns(words: &mut Words, out: &mut Answer) -> Result<(), LineFault> {
     say(words, out, seed, &mut one, &mut other)?;
     out.write(b": ");
     out.either(one.store().same(other.store()), b"the same", b"others");
+    Ok(())
+}
+
+// Writes what two replicas hold once they are reconciled.
+fn append_reconciled(words: &mut Words, out: &mut Answer) -> Result<(), LineFault> {
+    let seed = words.number()?;
+    let mut one = holder(words)?;
+    let mut other = holder(words)?;
+    reconcile(words.alloc, seed, &mut one, &mut other)?;
+    append_store(out, one.store())?;
+    out.either(
+        one.store().same(other.store()),
+        b", both",
+        b", and the other something else",
+    );
     Ok(())
 }
