@@ -15,12 +15,15 @@ pub data Run (seed : ℕ) (one other : EntryMap) : EntryMap → EntryMap → Sai
   -- the first
   begun : Run seed one other one other (opening seed one)
   -- the reply to one before
-  answered : {sender receiver : EntryMap} {said reply : Said} → Run seed one other sender receiver said → IsReply seed (joined receiver said.pieces) said reply
+  answered : {sender receiver : EntryMap} {said reply : Said} → Run seed one other sender receiver said
+      → IsReply seed (joined receiver said.pieces) said reply
       → Run seed one other (joined receiver said.pieces) sender reply
 
 -- in an exchange a print was told that was the receiver's own too, though its versions were not the sender's
 abbrev pub Collided : ℕ → EntryMap → EntryMap → Type 0
-Collided seed one other = (sender : EntryMap) × ((receiver : EntryMap) × ((said : Said) × (Run seed one other sender receiver said × Collides seed sender (joined receiver said.pieces) said)))
+Collided seed one other =
+    (sender : EntryMap) × ((receiver : EntryMap) × ((said : Said)
+    × (Run seed one other sender receiver said × Collides seed sender (joined receiver said.pieces) said)))
 
 -- at each place the store holds what one of these holds
 abbrev pub IsFrom : EntryMap → EntryMap → EntryMap → Type 0

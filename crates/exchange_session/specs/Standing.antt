@@ -14,7 +14,8 @@ pub record Said : Type 0 where
 
 -- no two different entries of these stores at one place have one version
 abbrev pub AreToldApartIn : EntryMap → EntryMap → Type 0
-AreToldApartIn s t = (p : PlaceParts) (x y : Entry) → finmap.get s p ≡ Some x → finmap.get t p ≡ Some y → x.version ≡ y.version → x ≡ y
+AreToldApartIn s t =
+    (p : PlaceParts) (x y : Entry) → finmap.get s p ≡ Some x → finmap.get t p ≡ Some y → x.version ≡ y.version → x ≡ y
 
 -- of the place nothing is forgotten: sender and receiver hold the same; or a range that has it is told of or asked for; or a
 -- piece brings what the sender holds, and the receiver holds nothing newer
@@ -22,7 +23,8 @@ abbrev pub IsMinded : EntryMap → EntryMap → Said → PlaceParts → Type 0
 IsMinded sender receiver said p =
     (finmap.get sender p ≡ finmap.get receiver p)
     ⊎ (IsTold p said.prints said.asks
-    ⊎ ((piece : EntryMap) × (IsAmong piece said.pieces × ((finmap.get piece p ≡ finmap.get sender p) × IsBelow (finmap.get receiver p) (finmap.get sender p)))))
+    ⊎ ((piece : EntryMap) × (IsAmong piece said.pieces
+    × ((finmap.get piece p ≡ finmap.get sender p) × IsBelow (finmap.get receiver p) (finmap.get sender p)))))
 
 -- a message on its way: it tells what its sender holds, and no place is forgotten
 pub record Stands (seed : ℕ) (sender receiver : EntryMap) (said : Said) : Type 0 where
@@ -50,7 +52,8 @@ OpeningsStand = (seed : ℕ) (sender receiver : EntryMap) → Stands seed sender
 -- a print that is told is the receiver's own, but its versions aren't
 abbrev pub Collides : ℕ → EntryMap → EntryMap → Said → Type 0
 Collides seed sender own said = (it : RangePrint) × (IsAmong it said.prints
-    × ((it.print ≡ print seed (within it.range (versions_of own))) × (within it.range (versions_of sender) ≢ within it.range (versions_of own))))
+    × ((it.print ≡ print seed (within it.range (versions_of own)))
+    × (within it.range (versions_of sender) ≢ within it.range (versions_of own))))
 
 -- a reply to a message on its way is one itself, unless prints collide
 abbrev pub RepliesStand : Type 0

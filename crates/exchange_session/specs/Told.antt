@@ -20,7 +20,8 @@ IsOwnAsk own it = it.versions ≡ finmap.from_entries {R = place_cmp} (within it
 -- the place is in a range whose print is told, or in one that is asked for
 abbrev pub IsTold : PlaceParts → List RangePrint → List RangeAsk → Type 0
 IsTold p prints asks =
-    ((it : RangePrint) × (IsAmong it prints × (is_within it.range p ≡ true))) ⊎ ((it : RangeAsk) × (IsAmong it asks × (is_within it.range p ≡ true)))
+    ((it : RangePrint) × (IsAmong it prints × (is_within it.range p ≡ true)))
+    ⊎ ((it : RangeAsk) × (IsAmong it asks × (is_within it.range p ≡ true)))
 
 -- of each place of the range something is told
 abbrev pub Covers : Range → List RangePrint → List RangeAsk → Type 0
