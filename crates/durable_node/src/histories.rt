@@ -1,5 +1,6 @@
 //! Histories of places.
-ghost use Rattle.std.specs.Prelude.{◌≡◌, ◌↔◌, true, IfOk, IsErrOf, IsPermutation, IsSorted, OnOk};
+ghost use Rattle.std.specs.Prelude.{◌≡◌, ◌↔◌, ◌⊎◌, true, IfOk, IsErrOf, IsPermutation, IsSorted, OnErr, OnOk};
+ghost use Rattle.edit_log.specs.Logs.{LeavesNothingNew};
 ghost use Rattle.durable_node.specs.Histories.{logged_at, logged_of};
 
 use crate::faults::NodeFault;
@@ -57,12 +58,15 @@ fn rows_at(alloc: Global, rows: &[LogRow], place: &Place) -> Result<Vec<Logged>,
 
 impl<L: EditLog> NodeFile<L> {
     /// Returns the edits of a place that stand in the log, in the order of their versions: what was committed, and not
-    /// compacted away. A refusal of the log leaves the node spent.
+    /// compacted away. Linear in the log. A refusal of the log leaves the node spent; where memory for the answer runs out,
+    /// the log holds what it held.
     pub fn history(&mut self, alloc: Global, place: &Place) -> Result<Vec<Logged>, NodeFault>
         ensures spent { IsErrOf result NodeFault.Spent ↔ (self.old.is_spent ≡ true) }
         ensures rows { L.is_honest self.new.log → IfOk result (λ logged. IsPermutation (logged_at place.now (L.held self.old.log)) logged.items) }
         ensures sorted { IfOk result (λ logged. IsSorted ⟦<Logged as Ord>⟧.cmp logged.items) }
         ensures held { L.is_honest self.new.log → OnOk result (L.held self.new.log ≡ L.held self.old.log) }
+        ensures refused { OnErr result ((self.new.is_spent ≡ true) ⊎ (L.is_honest self.new.log → L.held self.new.log ≡ L.held self.old.log)) }
+        ensures crash { L.is_honest self.new.log → LeavesNothingNew (L.may_leave self.old.log) (L.may_leave self.new.log) }
         ensures replica { self.new.replica ≡ self.old.replica }
         ensures unsaved { self.new.unsaved ≡ self.old.unsaved }
         ensures head { L.head self.new.log ≡ L.head self.old.log }

@@ -3,7 +3,6 @@
 use Rattle.std.specs.Prelude.{◌++◌, ℕ, codes, flat_map, length, List}
 use Rattle.std.specs.Fmt.{decimal}
 use Rattle.hex.specs.Hex.{encode_lower}
-use Rattle.join_law.specs.declared.versions.Version.{Version}
 use Rattle.edit_sums.specs.declared.contents.Content.{Content}
 use Rattle.edit_sums.specs.declared.contents.Content.TheVariants.{File, Gone, Link}
 use Rattle.edit_sums.specs.Sums.{EntryMap}

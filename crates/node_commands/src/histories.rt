@@ -2,10 +2,11 @@
 ghost use Rattle.std.specs.Prelude.{◌≡◌, ◌⊎◌, ◌++◌, IfErr, IfOk, IsErrOf, IsPermutation, IsSorted, List, OnErr, OnOk, true};
 ghost use Rattle.std.specs.Io.KnownBytes.{Appends};
 ghost use Rattle.script_pipes.specs.{Failures.{FailedSince}, KnownBytes.{AppendsPrefix}};
-ghost use Rattle.durable_node.specs.declared.histories.Logged.{Logged};
+ghost use Rattle.edit_log.specs.Logs.{LeavesNothingNew};
+ghost use Rattle.durable_node.specs.declared.{faults.NodeFault.{NodeFault}, histories.Logged.{Logged}};
 ghost use Rattle.durable_node.specs.Histories.{logged_at};
 ghost use Rattle.node_commands.specs.Texts.{content_text, history_text, logged_line};
-ghost use Rattle.node_commands.specs.declared.faults.CommandFault.TheVariants.{Write};
+ghost use Rattle.node_commands.specs.declared.faults.CommandFault.TheVariants.{Node, Write};
 
 use crate::faults::CommandFault;
 use crate::outputs::write_made;
@@ -60,7 +61,8 @@ fn history_bytes(alloc: Global, logged: &[Logged]) -> Result<Vec<u8>, AllocError
 /// Writes a line for each edit of a place that stands in the log, in the order of their versions: the version, `@` and the
 /// time of its commit in seconds since 1970, and what it wrote: `gone`, `link TARGET` or `file LENGTH`.
 ///
-/// Fails with `Node` if the log refuses, and then nothing is written and the node is spent; with `Write`; or with `Memory`.
+/// Fails with `Node` if the log refuses, and then the node is spent, or if memory for the edits runs out, and then the log
+/// holds what it held; with both nothing is written. Fails with `Write`; or with `Memory` if it runs out for the lines.
 pub fn write_history<L: EditLog, K: Sink>(
     alloc: Global,
     node: &mut NodeFile<L>,
@@ -72,6 +74,9 @@ pub fn write_history<L: EditLog, K: Sink>(
         × Appends (K.contents sink.old) (K.contents sink.new) (history_text logged)) }
     ensures kept { OnErr result ((IsErrOf result Write → ⊥) → sink.new ≡ sink.old) }
     ensures refused { IsErrOf result Write → FailedSince (K.refusals sink.old) (K.refusals sink.new) }
+    ensures spent { (refused : NodeFault) → IsErrOf result (Node refused) → (node.new.is_spent ≡ true)
+        ⊎ (L.is_honest node.new.log → L.held node.new.log ≡ L.held node.old.log) }
+    ensures crash { L.is_honest node.new.log → LeavesNothingNew (L.may_leave node.old.log) (L.may_leave node.new.log) }
     ensures replica { node.new.replica ≡ node.old.replica }
     ensures unsaved { node.new.unsaved ≡ node.old.unsaved }
     ensures head { L.head node.new.log ≡ L.head node.old.log }

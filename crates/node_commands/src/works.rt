@@ -1,6 +1,8 @@
 //! Pieces of work at a node.
-ghost use Rattle.std.specs.Prelude.{◌≡◌, IsErrOf, OnOk};
+ghost use Rattle.std.specs.Prelude.{◌≡◌, ◌⊎◌, IsErrOf, List, OnOk, true};
 ghost use Rattle.script_pipes.specs.Failures.{FailedSince};
+ghost use Rattle.edit_sums.specs.declared.entries.Edit.{Edit};
+ghost use Rattle.edit_log.specs.Logs.{LeavesAllOrNone, stamped};
 ghost use Rattle.durable_node.specs.declared.{faults.NodeFault.{NodeFault}, histories.Logged.{Logged}};
 ghost use Rattle.node_commands.specs.Works.{Answers, Commits, replica_after};
 ghost use Rattle.node_commands.specs.declared.faults.CommandFault.TheVariants.{Node, Write};
@@ -47,7 +49,11 @@ pub fn do_work<L: EditLog, K: Sink>(
     ensures replica { OnOk result (node.new.replica ≡ replica_after work.now node.old.replica) }
     ensures committed { L.is_honest node.new.log → OnOk result (Commits work.now
         (L.held node.new.log) (L.may_leave node.new.log) node.new.replica.store) }
+    ensures crash { L.is_honest node.new.log → (added : List Edit) ×
+        LeavesAllOrNone (L.held node.old.log) (stamped time added) (L.may_leave node.old.log) (L.may_leave node.new.log) }
     ensures unwritten { (refused : NodeFault) → IsErrOf result (Node refused) → sink.new ≡ sink.old }
+    ensures kept { (refused : NodeFault) → IsErrOf result (Node refused) → (node.new.is_spent ≡ true)
+        ⊎ ((node.new.replica ≡ node.old.replica) × (L.is_honest node.new.log → L.held node.new.log ≡ L.held node.old.log)) }
     ensures refused { IsErrOf result Write → FailedSince (K.refusals sink.old) (K.refusals sink.new) }
     ensures head { L.head node.new.log ≡ L.head node.old.log }
 {

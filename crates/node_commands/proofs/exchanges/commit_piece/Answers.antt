@@ -1,4 +1,4 @@
-use Rattle.std.proofs.Common.{[], inl, subst, sym, ◌∙◌}
+use Rattle.std.proofs.Common.{subst}
 use Rattle.edit_log.specs.Logs.{LeavesAllOrNone, stamped}
 use Rattle.node_commands.proofs.exchanges.commit_piece.Goals as goal
 
