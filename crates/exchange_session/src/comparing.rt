@@ -96,6 +96,8 @@ pub fn compare(
     ensures prints { IfOk result (λ compared. All (IsOwnPrint seed own.now) compared.prints.items) }
     ensures asks { IfOk result (λ compared. All (IsOwnAsk own.now) compared.asks.items) }
     ensures covered { IfOk result (λ compared. IsPursued seed own.now compared.prints.items compared.asks.items told) }
+    ensures agreed { IfOk result (λ compared. IsOwnPrint seed own.now told →
+        (compared.prints.items ≡ []) × (compared.asks.items ≡ [])) }
 {
     let mut compared = Compared::none(alloc);
     let here = within(own, &told.range);
@@ -122,6 +124,8 @@ pub fn compare_all(
     ensures prints { IfOk result (λ compared. All (IsOwnPrint seed own.now) compared.prints.items) }
     ensures asks { IfOk result (λ compared. All (IsOwnAsk own.now) compared.asks.items) }
     ensures covered { IfOk result (λ compared. All (IsPursued seed own.now compared.prints.items compared.asks.items) told.items) }
+    ensures agreed { IfOk result (λ compared. All (IsOwnPrint seed own.now) told.items →
+        (compared.prints.items ≡ []) × (compared.asks.items ≡ [])) }
 {
     let mut all = Compared::none(alloc);
     for print in told {

@@ -44,9 +44,10 @@ pub fn take_all(node: &mut Replica, pieces: Vec<Piece>) -> Result<(), AllocError
 ///
 /// Where a print isn't its own, it asks for the range if few of its versions are in it, and else cuts it into parts and
 /// tells their prints. It answers each ask with a piece of what it has newer, or what isn't told of, at its places in the
-/// range; and if the ask tells of something newer, it asks for the range itself. Every piece is a cut for an ask that was
-/// made, and every ask is told of what the replica holds: so whatever is lost, repeated or cut off, what comes to a replica
-/// is what pieces of a world bring.
+/// range; and if the ask tells of something newer, it asks for the range itself. Where all prints are its own, it tells none:
+/// so between equal replicas the reply to the first message ends the exchange. Every piece is a cut for an ask that was made,
+/// and every ask is told of what the replica holds: so whatever is lost, repeated or cut off, what comes to a replica is what
+/// pieces of a world bring.
 ///
 /// One pass over the replica, and a search for each place of a piece. Fails only if memory runs out: then the replica has
 /// taken some of the pieces, and lost nothing.
@@ -65,6 +66,8 @@ pub fn reply(
     ensures pursued { IfOk result (λ told. All (IsPursued seed (versions_of node.new.store) told.prints.items told.asks.items)
         message.prints.items) }
     ensures asked_back { IfOk result (λ told. EndsWith told.asks.items (asks_back (digest_of node.new.store) message.asks.items)) }
+    ensures agreed { IfOk result (λ told. All (IsOwnPrint seed (versions_of node.new.store)) message.prints.items →
+        (told.prints.items ≡ []) × (told.asks.items ≡ asks_back (digest_of node.new.store) message.asks.items)) }
 {
     let (prints, asks, pieces) = message.into_parts();
     take_all(node, pieces)?;

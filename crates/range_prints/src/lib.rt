@@ -1,5 +1,5 @@
 //! Ranges of places, and their prints. A print is a number of 64 bits that is made of the places and versions in a range:
-//! replicas with the same versions there have the same print, and others the same for one seed in 2^64 alone.
+//! replicas with the same versions there have the same print, and others as good as never.
 //!
 //! Promise: what is answered in an exchange is what a world cuts.
 //!

@@ -9,8 +9,9 @@ use std::hash::{FoldHasher, Hasher};
 /// Returns the print of some versions at places: the sum of theirs, modulo 2^64, of which each is a hash of the seed, the
 /// version and the place.
 ///
-/// Two lists of versions that differ have the same print for one seed in 2^64. The hash isn't cryptographic: whoever picks
-/// places or versions and knows the seed can make prints equal. Linear. Allocates nothing.
+/// If the hash mixes well, two lists of versions that differ have the same print for about one seed in 2^64; that isn't
+/// proved. It isn't cryptographic: whoever picks places or versions and knows the seed can make prints equal. Linear.
+/// Allocates nothing.
 pub fn print(seed: u64, versions: &[(Place, Version)]) -> u64
     ensures print { result ≡ print seed versions.now }
 {

@@ -1,5 +1,5 @@
 use Rattle.exchange_session.proofs.Prelude.{All-append}
-use Rattle.exchange_session.proofs.Pursuing.{pursued_more}
+use Rattle.exchange_session.proofs.Pursuing.{agreed_more, pursued_more}
 use Rattle.exchange_session.specs.Told.{IsOwnAsk, IsOwnPrint}
 use Rattle.exchange_session.proofs.comparing.compare_all.Goals as goal
 
@@ -14,4 +14,5 @@ loop-print-preserved c =
       prints = rw c.in_ok-append.ensures.items (All-append (IsOwnPrint seed own) before.prints.items more.prints.items known.prints c.in_ok-compared.ensures.prints);
       asks = rw c.in_ok-append-2.ensures.items (All-append (IsOwnAsk own) before.asks.items more.asks.items known.asks c.in_ok-compared.ensures.asks);
       pursued = rw (c.in_ok-append.ensures.items, c.in_ok-append-2.ensures.items) (pursued_more seed own before.prints.items more.prints.items before.asks.items more.asks.items c.loop-print.yielded c.in-Some.print known.pursued c.in_ok-compared.ensures.covered);
+      agreed = rw (c.in_ok-append.ensures.items, c.in_ok-append-2.ensures.items) (agreed_more (IsOwnPrint seed own) before.prints.items more.prints.items before.asks.items more.asks.items c.loop-print.yielded c.in-Some.print known.agreed c.in_ok-compared.ensures.agreed);
     }

@@ -1,5 +1,5 @@
 use Rattle.std.specs.FinMap as finmap
-use Rattle.exchange_session.proofs.Prelude.{All, All-append, ap, List, PlaceParts, subst, Version, VersionMap, ◌∙◌}
+use Rattle.exchange_session.proofs.Prelude.{All, All-append, ap, List, PlaceParts, refl, subst, Version, VersionMap, ◌∙◌}
 use Rattle.exchange_session.proofs.{Pursuing.{backs_own, pursued_wider}, Telling.{entries_ascend}}
 use Rattle.exchange_session.specs.{Answered.{asks_back, versions_of}, Told.{IsOwnAsk, IsPursued}}
 use Rattle.exchange_session.proofs.replies.reply.Goals as goal
@@ -27,3 +27,10 @@ returns-clause-pursued c =
     let told = rw c.into_parts-prints.ensures.prints at c.in_ok-compared.ensures.covered in
     let first = subst (λ (l : List (PlaceParts × Version)). All (IsPursued c.args.seed l prints asks) c.args.message.prints.items) all told in
     rw (c.in_ok-ask_back.ensures.back, c.into_parts-prints-2.ensures.prints, c.into_parts-prints-2.ensures.asks, c.into_parts-prints.ensures.asks) (pursued_wider c.args.seed here prints asks (asks_back own c.args.message.asks.items) c.args.message.prints.items first)
+
+pub returns-clause-agreed : goal.returns-clause-agreed
+returns-clause-agreed c all =
+    let own = c.in_ok-own.own in
+    let same = c.versions.ensures.versions ∙ ap (λ (m : VersionMap). finmap.entries m) c.in_ok-own.ensures.digest in
+    let told = c.in_ok-compared.ensures.agreed (rw (c.into_parts-prints.ensures.prints, same) all) in
+    rw (c.in_ok-ask_back.ensures.back, c.into_parts-prints-2.ensures.prints, c.into_parts-prints-2.ensures.asks, c.into_parts-prints.ensures.asks, told.0, told.1, c.in_ok-own.ensures.digest) (refl, refl)
