@@ -55,6 +55,20 @@ impl<'a> PathEntry<'a> {
         Ok(Path::from_parts(rank, folder, self.name.try_clone()?))
     }
 
+    // Returns the rank of the directory that its path is in. Allocates nothing.
+    pub(crate) fn rank(&self) -> u8
+        ensures rank { result ≡ self.now.0.rank }
+    {
+        self.rank as u8
+    }
+
+    // Returns the folder that its path is in; it is empty for a path of one component. Allocates nothing.
+    pub(crate) fn folder(&self) -> &'a Bytes
+        ensures folder { result.now ≡ self.now.0.folder }
+    {
+        self.folder
+    }
+
     /// Returns the name in its folder, which is the last component of its path. Allocates nothing.
     pub fn name(&self) -> &'a Bytes
         ensures name { result.now ≡ self.now.0.name }

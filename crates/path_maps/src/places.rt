@@ -53,6 +53,20 @@ impl<'a> Placed<'a> {
         self.scope
     }
 
+    /// Returns the rank of the directory that its path is in. Allocates nothing.
+    pub fn rank(&self) -> u8
+        ensures rank { result ≡ self.now.0.path.rank }
+    {
+        self.entry.rank()
+    }
+
+    /// Returns the folder that its path is in; it is empty for a path of one component. Allocates nothing.
+    pub fn folder(&self) -> &'a Bytes
+        ensures folder { result.now ≡ self.now.0.path.folder }
+    {
+        self.entry.folder()
+    }
+
     /// Returns the name in its folder, which is the last component of its path. Allocates nothing.
     pub fn name(&self) -> &'a Bytes
         ensures name { result.now ≡ self.now.0.path.name }
