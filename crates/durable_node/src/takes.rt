@@ -1,12 +1,12 @@
 //! What a node takes from others.
-ghost use Rattle.std.specs.Prelude.{◌≡◌, ◌↔◌, ◌++◌, ◌^◌, ◌≤◌, IfOk, IsErrOf, OnErr, OnOk};
+ghost use Rattle.std.specs.Prelude.{◌≡◌, ◌↔◌, ◌++◌, ◌⊎◌, ◌^◌, ◌≤◌, IfOk, IsErrOf, OnErr, OnOk, true};
 ghost use Rattle.std.specs.Option.{option_copied};
 ghost use Rattle.edit_sums.specs.Sums.{changed_places, edit_of, high_of, join};
 ghost use Rattle.durable_node.specs.News.{is_news, news_of};
 
 use crate::faults::NodeFault;
 use crate::nodes::{COUNTERS, NodeFile};
-use delta_pieces::Piece;
+use delta_pieces::{Piece, take};
 use edit_log::EditLog;
 use edit_sums::{Edit, Entry};
 use replica_store::{Placed, Replica, Store};
@@ -93,5 +93,35 @@ impl<L: EditLog> NodeFile<L> {
         self.unsaved.append(&mut news)?;
         self.replica = next;
         Ok(changed)
+    }
+
+    /// Joins a piece into the replica alone, as `take` does, but copies nothing of the replica: costs what the piece has, a
+    /// search for each of its places, or one pass over both, whichever is less.
+    ///
+    /// Fails with `Counter` exactly if the piece has a counter of 2^63 or more, and changes nothing. Fails with `Memory` only
+    /// if memory runs out: then it changes nothing, or the node is spent, and what stands in its log is as it was.
+    pub fn absorb(&mut self, piece: Piece) -> Result<u64, NodeFault>
+        ensures joined { OnOk result (self.new.replica ≡ record self.old.replica { store = join self.old.replica.store piece }) }
+        ensures changed { IfOk result (λ changed. changed ≡ changed_places self.old.replica.store self.new.replica.store) }
+        ensures unsaved { OnOk result (self.new.unsaved ≡ self.old.unsaved ++ news_of self.old.replica.store piece) }
+        ensures counter { IsErrOf result NodeFault.Counter ↔ (2 ^ 63 ≤ high_of piece) }
+        ensures above { 2 ^ 63 ≤ high_of piece → self.new ≡ self.old }
+        ensures kept { OnErr result ((self.new.is_spent ≡ true) ⊎ (self.new ≡ self.old)) }
+        ensures log { self.new.log ≡ self.old.log }
+        ensures whole { OnOk result (self.new.is_spent ≡ self.old.is_spent) }
+        ensures writer { self.new.replica.writer ≡ self.old.replica.writer }
+    {
+        if piece.store().high() >= COUNTERS {
+            return Err(NodeFault::Counter);
+        }
+        let mut news = news_of(self.replica.store(), piece.store())?;
+        self.unsaved.append(&mut news)?;
+        match take(&mut self.replica, piece) {
+            Ok(changed) => Ok(changed),
+            Err(_) => {
+                self.is_spent = true;
+                Err(NodeFault::Memory)
+            }
+        }
     }
 }

@@ -1,8 +1,8 @@
 -- What is known where two replicas answer each other.
 use Rattle.std.proofs.Common.{◌++◌, ◌∷◌, ◌≡◌, ◌⊎◌}
-use Rattle.exchange_session.proofs.Prelude.{[], All, AreToldApart, digest_of, Edit, edits_of, edits_of-found, EntryMap, Err, everything, get_from_edits_of, inl, inr, IsAmong, IsAmong-append_cases, IsAmong-append_left, IsAmong-append_right, IsStoreBelow, join, join-left, join-right, map, Ok, OnOk, Result, store_below_trans, subst, sym, ℕ, ◌∙◌}
+use Rattle.exchange_session.proofs.Prelude.{[], All, AreToldApart, digest_of, Edit, edits_of, edits_of-found, EntryMap, Err, everything, get_from_edits_of, inl, inr, IsAmong, IsAmong-append_cases, IsAmong-append_left, IsAmong-append_right, IsStoreBelow, join, join-left, join-right, map, Ok, OnOk, Result, store_below_trans, subst, sym, ℕ, ◌∙◌, versions_of}
 use Rattle.exchange_session.proofs.{Replying.{quiet_ends}, Running.{from_both, join_from, known, run_stands}}
-use Rattle.exchange_session.specs.{Answered.{asks_back, piece_for, versions_of}, Joined.{EndsWith, joined}, Runs.{answered, AreDone, begun, Collided, IsFrom, Run, said_of}, Standing.{IsReply, Said, Stands}, Told.{IsOwnAsk, IsOwnPrint, IsPursued, own_print}}
+use Rattle.exchange_session.specs.{Answered.{asks_back, piece_for}, Joined.{EndsWith, joined}, Runs.{answered, AreDone, begun, Collided, IsFrom, Run, said_of}, Standing.{IsReply, Said, Stands}, Told.{IsOwnAsk, IsOwnPrint, IsPursued, own_print}}
 use Rattle.exchange_session.specs.declared.messages.{Message.{Message}}
 
 -- a reply is the next message

@@ -1,8 +1,8 @@
 -- What a reply makes of a place of which nothing was forgotten.
 use Rattle.std.proofs.Common.{◌&&◌, ◌||◌, ◌∷◌, ◌≡◌}
 use Rattle.std.specs.FinMap as finmap
-use Rattle.exchange_session.proofs.Prelude.{[], ap, Bool, content_cmp, below_refl, cond, cut, digest_of, Entry, EntryMap, eq_by_cmp, Equal, false, filter, find, get-cut, get-digest_of, get_from_cut, Greater, inl, inr, IsAmong, IsAmong-append_right, IsBelow, is_asked, is_gt, is_newer, is_wanted, IsStoreBelow, is_within, Less, list_any, List, map, None, Option, option_map, Ordering, ordering_then, passed, place_cmp, PlaceParts, Range, refl, Some, subst, sym, tied, told, true, turned, Version, VersionMap, version_cmp, version_cmp-IsAntisymmetric, version_cmp_total, within, ◌∙◌}
-use Rattle.exchange_session.specs.{Answered.{asks_back, is_more, knows_more, own_ask, piece_for, places_within, versions_of}, Joined.{EndsWith}, Standing.{AreToldApartIn, IsMinded, Said}, Told.{IsOwnAsk, IsTold}}
+use Rattle.exchange_session.proofs.Prelude.{[], ap, Bool, content_cmp, below_refl, cond, cut, digest_of, Entry, EntryMap, eq_by_cmp, Equal, false, filter, find, get-cut, get-digest_of, get_from_cut, Greater, inl, inr, IsAmong, IsAmong-append_right, IsBelow, is_asked, is_gt, is_newer, is_wanted, IsStoreBelow, is_within, Less, list_any, List, map, None, Option, option_map, Ordering, ordering_then, passed, place_cmp, PlaceParts, Range, refl, Some, subst, sym, tied, told, true, turned, Version, VersionMap, version_cmp, version_cmp-IsAntisymmetric, version_cmp_total, within, ◌∙◌, versions_of}
+use Rattle.exchange_session.specs.{Answered.{asks_back, is_more, knows_more, own_ask, piece_for, places_within}, Joined.{EndsWith}, Standing.{AreToldApartIn, IsMinded, Said}, Told.{IsOwnAsk, IsTold}}
 use Rattle.exchange_session.specs.declared.messages.{RangeAsk.{RangeAsk}, RangePrint.{RangePrint}}
 
 -- an ask for a range that has the place tells of the version that its sender holds there

@@ -1,8 +1,8 @@
 -- Asks that are told in part, answered.
 use Rattle.std.proofs.Common.{◌++◌, ◌||◌, ◌∷◌, ◌≡◌}
-use Rattle.exchange_session.proofs.Prelude.{[], ap, at_places, cut_for, AreWithin, Bool, cond, cut, EntryMap, eq_by_cmp, false, is_within, list_any, List, map, Node, Option, place_cmp, PlaceParts, Range, refl, same_cut, Some, slice_get, sym, tied, true, Version, VersionMap, within, ◌∙◌}
+use Rattle.exchange_session.proofs.Prelude.{[], ap, at_places, cut_for, AreWithin, Bool, cond, cut, EntryMap, eq_by_cmp, false, is_within, list_any, List, map, Node, Option, place_cmp, PlaceParts, Range, refl, same_cut, Some, slice_get, sym, tied, true, Version, VersionMap, within, ◌∙◌, versions_of}
 use Rattle.world_law.specs.Worlds as world
-use Rattle.exchange_session.specs.{Answered.{piece_for, places_within, versions_of}, Events.{CutsForParts}}
+use Rattle.exchange_session.specs.{Answered.{piece_for, places_within}, Events.{CutsForParts}}
 
 -- the places of those in a range are in it
 inside : (r : Range) (vs : List (PlaceParts × Version)) → AreWithin r (places_within r vs)

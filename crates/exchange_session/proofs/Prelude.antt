@@ -1,11 +1,11 @@
 -- What the proofs use of std and of the crates below.
 pub use Rattle.edit_sums.specs.SumLaws.{join-left, store_below_refl, store_below_trans}
 pub use Rattle.edit_sums.specs.Sums.{EntryMap, IsStoreBelow, join}
-pub use Rattle.exchange_session.specs.Prelude.{everything, filter, IsAmong, is_within, place_cmp, PlaceParts, print, Range, Version, VersionMap, within}
+pub use Rattle.exchange_session.specs.Prelude.{everything, filter, IsAmong, is_within, place_cmp, PlaceParts, print, Range, Version, VersionMap, versions_of, within}
 pub use Rattle.list_laws.specs.{Members.{IsAmong-append_left, IsAmong-append_right}, Truths.{from_T}}
 pub use Rattle.load_places.specs.PlaceLaws.{place_cmp-IsAntisymmetric, place_cmp_total}
 pub use Rattle.range_prints.specs.Ranges.{ArePartsOf, times_within}
-pub use Rattle.std.{proofs.{Common.{[], All, ap, arith, Bool, cond, false, None, Option, slice_get, Some, get_or, inl, inr, IsTrue, length, List, map, refl, subst, suc, sym, true, zero, ℕ, ◌∙◌}, lemmas.{Bool.Decides.{Decides-eqb}, Cmp.{tied_itself}, List.Elements.{All-append, All-cons, All-push, All-weaker}}}, specs.FinMap.{Entries.{find, is_sorted}, FinMap, same_map}}
+pub use Rattle.std.{proofs.{Common.{[], All, ap, append-nil, arith, Bool, cond, false, None, Option, slice_get, Some, get_or, inl, inr, IsTrue, length, List, map, refl, subst, suc, sym, true, zero, ℕ, ◌∙◌}, lemmas.{Bool.Decides.{Decides-eqb}, Cmp.{tied_itself}, List.{nil_from_length, Elements.{All-append, All-cons, All-push, All-weaker}}}}, specs.FinMap.{Entries.{find, is_sorted}, FinMap, same_map}}
 pub use Rattle.edit_sums.specs.GreatestLaws.{tied}
 pub use Rattle.range_prints.specs.{Asked.{AreWithin, digest_within, IsSameCut}, AskedLaws.{same_cut}}
 pub use Rattle.std.specs.{List.{list_any}, Ordering.{eq_by_cmp}}

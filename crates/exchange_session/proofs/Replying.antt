@@ -1,10 +1,10 @@
 -- A reply to a message on its way.
 use Rattle.std.proofs.Common.{◌==◌, ◌∷◌, ◌≡◌, ◌≢◌, ◌⊎◌}
 use Rattle.std.specs.FinMap as finmap
-use Rattle.exchange_session.proofs.Prelude.{[], All, All-cons, ap, arith, below_antisym, below_refl, below_trans, Bool, Decides, Decides-eqb, digest_of, Entry, EntryMap, Equal, everything, false, find, find-those, get-digest_of, get-join, Greater, inl, inr, IsAmong, IsBelow, IsStoreBelow, is_within, join, larger, larger-least, larger-right, Less, List, map, None, Option, option_map, Ordering, place_cmp, place_cmp-IsAntisymmetric, place_cmp_total, PlaceParts, print, refl, same_store, Some, subst, suc, sym, tied_itself, true, Version, version_cmp, version_cmp-IsAntisymmetric, version_cmp_total, within, zero, ℕ, ◌∙◌}
+use Rattle.exchange_session.proofs.Prelude.{[], All, All-cons, ap, arith, below_antisym, below_refl, below_trans, Bool, Decides, Decides-eqb, digest_of, Entry, EntryMap, Equal, everything, false, find, find-those, get-digest_of, get-join, Greater, inl, inr, IsAmong, IsBelow, IsStoreBelow, is_within, join, larger, larger-least, larger-right, Less, List, map, None, Option, option_map, Ordering, place_cmp, place_cmp-IsAntisymmetric, place_cmp_total, PlaceParts, print, refl, same_store, Some, subst, suc, sym, tied_itself, true, Version, version_cmp, version_cmp-IsAntisymmetric, version_cmp_total, within, zero, ℕ, ◌∙◌, versions_of}
 use Rattle.exchange_session.proofs.Minding.{minded_by_ask, piece_below}
 use Rattle.exchange_session.proofs.Taking.{joined_above}
-use Rattle.exchange_session.specs.{Answered.{piece_for, versions_of}, Joined.{joined}, Standing.{AreToldApartIn, IsMinded, OpeningsStand, QuietEnds, RepliesStand, Said}, Told.{IsOwnAsk, IsOwnPrint, IsPursued, own_print}}
+use Rattle.exchange_session.specs.{Answered.{piece_for}, Joined.{joined}, Standing.{AreToldApartIn, IsMinded, OpeningsStand, QuietEnds, RepliesStand, Said}, Told.{IsOwnAsk, IsOwnPrint, IsPursued, own_print}}
 use Rattle.exchange_session.specs.declared.messages.{RangeAsk.{RangeAsk}, RangePrint.{RangePrint}}
 
 -- what is among some has what all of them have

@@ -1,9 +1,9 @@
 -- What is known in an exchange.
 use Rattle.std.proofs.Common.{◌++◌, ◌∷◌, ◌≡◌, ◌⊎◌}
 use Rattle.std.specs.FinMap as finmap
-use Rattle.exchange_session.proofs.Prelude.{[], All, ap, AreToldApart, arith, below_antisym, edit_of, edits_of, edits_of-found, Entry, entry_of, EntryMap, get-join, get_from_cut, inl, inr, IsAmong, IsAmong-append_left, IsAmong-append_right, IsBelow, IsStoreBelow, join, larger, larger-least, larger-left, larger-None, larger-right, larger_cases, List, map, None, Option, PlaceParts, refl, same_store, Some, subst, suc, sym, zero, ℕ, ◌∙◌}
+use Rattle.exchange_session.proofs.Prelude.{[], All, ap, AreToldApart, arith, below_antisym, edit_of, edits_of, edits_of-found, Entry, entry_of, EntryMap, get-join, get_from_cut, inl, inr, IsAmong, IsAmong-append_left, IsAmong-append_right, IsBelow, IsStoreBelow, join, larger, larger-least, larger-left, larger-None, larger-right, larger_cases, List, map, None, Option, PlaceParts, refl, same_store, Some, subst, suc, sym, zero, ℕ, ◌∙◌, versions_of}
 use Rattle.exchange_session.proofs.Replying.{openings_stand, replies_stand}
-use Rattle.exchange_session.specs.{Answered.{piece_for, places_within, versions_of}, Joined.{joined}, Runs.{Collided, IsFrom, Run, answered, begun}, Standing.{AreToldApartIn, Said, Stands}}
+use Rattle.exchange_session.specs.{Answered.{piece_for, places_within}, Joined.{joined}, Runs.{Collided, IsFrom, Run, answered, begun}, Standing.{AreToldApartIn, Said, Stands}}
 use Rattle.exchange_session.specs.declared.messages.{RangeAsk.{RangeAsk}}
 
 -- pieces hold nothing that the store doesn't hold

@@ -1,9 +1,9 @@
 -- What is told of ranges.
 use Rattle.std.proofs.Common.{◌+◌, ◌∷◌, ◌≡◌, ◌≢◌}
 use Rattle.std.specs.FinMap as finmap
-use Rattle.exchange_session.proofs.Prelude.{[], All, ap, ArePartsOf, arith, Bool, cond, false, find, FinMap, from_T, inl, inr, IsAmong, is_sorted, IsTrue, is_within, List, map, place_cmp, place_cmp-IsAntisymmetric, place_cmp_total, PlaceParts, Range, refl, same_map, suc, sym, times_within, true, Version, within, zero, ℕ, ◌∙◌}
+use Rattle.exchange_session.proofs.Prelude.{[], All, ap, ArePartsOf, arith, Bool, cond, false, find, FinMap, from_T, inl, inr, IsAmong, is_sorted, IsTrue, is_within, List, map, place_cmp, place_cmp-IsAntisymmetric, place_cmp_total, PlaceParts, print, Range, refl, same_map, suc, sym, times_within, true, Version, within, zero, ℕ, ◌∙◌}
 use Rattle.exchange_session.specs.Answered.{own_ask}
-use Rattle.exchange_session.specs.Told.{Covers, IsOwnAsk, IsOwnPrint, own_print}
+use Rattle.exchange_session.specs.Told.{Covers, IsOwnAsk, IsOwnPrint, own_print, StaysUnequal}
 use Rattle.exchange_session.specs.declared.messages.{RangeAsk.{RangeAsk}, RangePrint.{RangePrint}}
 
 -- a map with these entries
@@ -50,3 +50,32 @@ one_own own ask is (suc k) d lt = absurd (omega arith)
 -- the entries of a map ascend
 pub entries_ascend : (m : FinMap place_cmp Version) → IsTrue (is_sorted place_cmp (finmap.entries m))
 entries_ascend m = from_T _ (finmap.entries_sorted m)
+
+-- a range whose print is told among those of some ranges is one of them
+among_told : (seed : ℕ) (own : List (PlaceParts × Version)) (p : PlaceParts) (rs : List Range) (it : RangePrint) → IsAmong it (map (own_print seed own) rs) → is_within it.range p ≡ true → times_within p rs ≢ 0
+among_told seed own p [] it among here = absurd among
+among_told seed own p (r ∷ rs) it (inl same) here = λ none.
+    let inside : is_within r p ≡ true = ap (λ (q : RangePrint). is_within q.range p) same ∙ here in
+    let one : ◌≡◌ {A = ℕ} (cond (is_within r p) 1 0) 1 = ap (λ (b : Bool). cond b 1 0) inside in
+    absurd (omega (arith, none, one))
+among_told seed own p (r ∷ rs) it (inr later) here = λ none.
+    let rest = among_told seed own p rs it later here in
+    rest (omega (arith, none))
+
+-- of the parts of a range nothing is told outside of it
+pub parts_stay : (seed : ℕ) (own : List (PlaceParts × Version)) (told : RangePrint) (rs : List Range) → ArePartsOf told.range rs → told.print ≢ print seed (within told.range own)
+    → StaysUnequal seed own (told ∷ []) (map (own_print seed own) rs) []
+parts_stay seed own told rs are unequal p (inr it) = absurd it.1.0
+parts_stay seed own told rs are unequal p (inl it) = (told, (inl refl, (unequal, by (is_within told.range p) refl)))
+  where
+    by : (b : Bool) → is_within told.range p ≡ b → is_within told.range p ≡ true
+    by true e = e
+    by false e = absurd (among_told seed own p rs it.0 it.1.0 it.1.1 (are p ∙ ap (λ (b : Bool). cond b 1 0) e))
+
+-- nor of an ask for it
+pub ask_stays : (seed : ℕ) (own : List (PlaceParts × Version)) (told : RangePrint) (ask : RangeAsk) → ask.range ≡ told.range → told.print ≢ print seed (within told.range own)
+    → StaysUnequal seed own (told ∷ []) [] (ask ∷ [])
+ask_stays seed own told ask same unequal p (inl it) = absurd it.1.0
+ask_stays seed own told ask same unequal p (inr (it, (inr none, here))) = absurd none
+ask_stays seed own told ask same unequal p (inr (it, (inl is, here))) =
+    (told, (inl refl, (unequal, ap (λ (r : Range). is_within r p) (sym same) ∙ ap (λ (a : RangeAsk). is_within a.range p) is ∙ here)))

@@ -1,7 +1,7 @@
 -- What is said to asks.
 -- Source: this project's own.
 use Rattle.std.specs.FinMap as finmap
-use Rattle.exchange_session.specs.Prelude.{Bool, cut, digest_of, EntryMap, filter, is_newer, list_any, List, map, PlaceParts, place_cmp, Range, Some, Version, VersionMap, within}
+use Rattle.exchange_session.specs.Prelude.{Bool, cut, digest_of, EntryMap, filter, is_newer, list_any, List, map, PlaceParts, place_cmp, Range, Some, Version, VersionMap, within, versions_of}
 use Rattle.exchange_session.specs.declared.messages.{RangeAsk.{RangeAsk}}
 
 -- the version is newer than what is held at its place
@@ -15,10 +15,6 @@ knows_more own asked = list_any (is_more own) (finmap.entries asked)
 -- the places of these versions that are in a range
 abbrev pub places_within : Range → List (PlaceParts × Version) → List PlaceParts
 places_within r own = map (λ v. v.0) (within r own)
-
--- the versions of a store, in place order
-abbrev pub versions_of : EntryMap → List (PlaceParts × Version)
-versions_of s = finmap.entries (digest_of s)
 
 -- the piece for an ask: the cut for the versions that it tells, at the places in its range
 unfoldable pub piece_for : EntryMap → RangeAsk → EntryMap

@@ -1,8 +1,8 @@
 -- What a side takes and answers, as events of a world.
 -- Source: this project's own.
 use Rattle.std.proofs.Common.{◌++◌, ◌∷◌, ◌≡◌}
-use Rattle.exchange_session.specs.Answered.{piece_for, places_within, versions_of}
-use Rattle.exchange_session.specs.Prelude.{[], at_places, Cut, digest_of, digest_within, EntryMap, EventWorld, happens, Node, slice_get, Some, ℕ}
+use Rattle.exchange_session.specs.Answered.{piece_for, places_within}
+use Rattle.exchange_session.specs.Prelude.{[], at_places, Cut, digest_of, digest_within, EntryMap, EventWorld, happens, Node, slice_get, Some, ℕ, versions_of}
 use Rattle.world_law.specs.Worlds as world
 use Rattle.exchange_session.specs.declared.messages.{RangeAsk.{RangeAsk}}
 

@@ -2,8 +2,8 @@
 -- Source: this project's own.
 use Rattle.std.proofs.Common.{◌∷◌, ◌≡◌, ◌≢◌, ◌⊎◌}
 use Rattle.std.specs.FinMap as finmap
-use Rattle.exchange_session.specs.{Answered.{asks_back, piece_for, versions_of}, Joined.{EndsWith, joined}, Told.{IsOwnAsk, IsOwnPrint, IsPursued, IsTold, own_print}}
-use Rattle.exchange_session.specs.Prelude.{[], All, digest_of, Entry, EntryMap, everything, IsAmong, IsBelow, IsStoreBelow, List, map, PlaceParts, print, Some, within, ℕ}
+use Rattle.exchange_session.specs.{Answered.{asks_back, piece_for}, Joined.{EndsWith, joined}, Told.{IsOwnAsk, IsOwnPrint, IsPursued, IsTold, own_print}}
+use Rattle.exchange_session.specs.Prelude.{[], All, digest_of, Entry, EntryMap, everything, IsAmong, IsBelow, IsStoreBelow, List, map, PlaceParts, print, Some, within, ℕ, versions_of}
 use Rattle.exchange_session.specs.declared.messages.{RangeAsk.{RangeAsk}, RangePrint.{RangePrint}}
 
 -- what a message says

@@ -30,3 +30,16 @@ Covers r prints asks = (p : PlaceParts) → is_within r p ≡ true → IsTold p 
 -- where a print that is told isn't that of these versions, of each place of its range something is told
 abbrev pub IsPursued : ℕ → List (PlaceParts × Version) → List RangePrint → List RangeAsk → RangePrint → Type 0
 IsPursued seed own prints asks it = it.print ≢ print seed (within it.range own) → Covers it.range prints asks
+
+-- the place is in a range whose told print isn't that of these versions
+abbrev pub IsUnequalAt : ℕ → List (PlaceParts × Version) → List RangePrint → PlaceParts → Type 0
+IsUnequalAt seed own told p =
+    (it : RangePrint) × (IsAmong it told × ((it.print ≢ print seed (within it.range own)) × (is_within it.range p ≡ true)))
+
+-- something is told only of places in such ranges
+abbrev pub StaysUnequal : ℕ → List (PlaceParts × Version) → List RangePrint → List RangePrint → List RangeAsk → Type 0
+StaysUnequal seed own told prints asks = (p : PlaceParts) → IsTold p prints asks → IsUnequalAt seed own told p
+
+-- the place is in a range that is asked for
+abbrev pub IsAskedAt : List RangeAsk → PlaceParts → Type 0
+IsAskedAt asks p = (it : RangeAsk) × (IsAmong it asks × (is_within it.range p ≡ true))

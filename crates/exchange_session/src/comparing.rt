@@ -1,16 +1,15 @@
 //! Prints of a peer, compared with one's own.
-ghost use Rattle.std.specs.{Prelude.{◌≡◌, [], All, IfOk, IsTrue, map}, FinMap.{is_sorted}};
+ghost use Rattle.std.specs.{Prelude.{◌≡◌, ◌∷◌, [], All, IfOk, IsTrue, map}, FinMap.{is_sorted}};
 ghost use Rattle.load_places.specs.Places.{place_cmp};
 ghost use Rattle.range_prints.specs.{Prints.{print}, Ranges.{within}};
 ghost use Rattle.exchange_session.specs.Answered.{own_ask};
-ghost use Rattle.exchange_session.specs.Told.{IsOwnAsk, IsOwnPrint, IsPursued, own_print};
+ghost use Rattle.exchange_session.specs.Told.{IsOwnAsk, IsOwnPrint, IsPursued, own_print, StaysUnequal};
 
 use crate::messages::{RangeAsk, RangePrint};
 use delta_pieces::Digest;
 use join_law::Version;
 use load_places::Place;
-use plain_values::copied;
-use range_prints::{Range, parts, print, within};
+use range_prints::{PlaceVersion, Range, parts, print, within};
 use std::alloc::{AllocError, Global};
 
 // The most versions in a range that are told one by one.
@@ -56,21 +55,32 @@ impl Compared {
 /// Returns the ask for a range: all of these versions that are in it.
 pub fn ask_for(
     alloc: Global,
-    own: &[(Place, Version)],
+    own: &[PlaceVersion<'_>],
     range: Range,
 ) -> Result<RangeAsk, AllocError>
     requires sorted { IsTrue (is_sorted place_cmp own.now) }
     ensures ask { IfOk result (λ ask. ask ≡ own_ask own.now range) }
 {
-    let versions = Digest::from_versions(copied(alloc, within(own, &range))?);
+    let versions = Digest::from_versions(owned(alloc, within(own, &range))?);
     Ok(RangeAsk { range, versions })
+}
+
+// Returns these versions at places of their own. Copies no bytes.
+fn owned(alloc: Global, versions: &[PlaceVersion<'_>]) -> Result<Vec<(Place, Version)>, AllocError>
+    ensures versions { IfOk result (λ owned. owned.items ≡ versions.now) }
+{
+    let mut owned = Vec::with_capacity(alloc, versions.len())?;
+    for version in versions {
+        owned.push((version.place()?, version.version()))?;
+    }
+    Ok(owned)
 }
 
 /// Returns the print of each range.
 pub fn prints_of(
     alloc: Global,
     seed: u64,
-    own: &[(Place, Version)],
+    own: &[PlaceVersion<'_>],
     ranges: Vec<Range>,
 ) -> Result<Vec<RangePrint>, AllocError>
     requires sorted { IsTrue (is_sorted place_cmp own.now) }
@@ -89,7 +99,7 @@ pub fn prints_of(
 pub fn compare(
     alloc: Global,
     seed: u64,
-    own: &[(Place, Version)],
+    own: &[PlaceVersion<'_>],
     told: RangePrint,
 ) -> Result<Compared, AllocError>
     requires sorted { IsTrue (is_sorted place_cmp own.now) }
@@ -98,6 +108,7 @@ pub fn compare(
     ensures covered { IfOk result (λ compared. IsPursued seed own.now compared.prints.items compared.asks.items told) }
     ensures agreed { IfOk result (λ compared. IsOwnPrint seed own.now told →
         (compared.prints.items ≡ []) × (compared.asks.items ≡ [])) }
+    ensures stays { IfOk result (λ compared. StaysUnequal seed own.now (told ∷ []) compared.prints.items compared.asks.items) }
 {
     let mut compared = Compared::none(alloc);
     let here = within(own, &told.range);
@@ -117,7 +128,7 @@ pub fn compare(
 pub fn compare_all(
     alloc: Global,
     seed: u64,
-    own: &[(Place, Version)],
+    own: &[PlaceVersion<'_>],
     told: Vec<RangePrint>,
 ) -> Result<Compared, AllocError>
     requires sorted { IsTrue (is_sorted place_cmp own.now) }
@@ -126,6 +137,7 @@ pub fn compare_all(
     ensures covered { IfOk result (λ compared. All (IsPursued seed own.now compared.prints.items compared.asks.items) told.items) }
     ensures agreed { IfOk result (λ compared. All (IsOwnPrint seed own.now) told.items →
         (compared.prints.items ≡ []) × (compared.asks.items ≡ [])) }
+    ensures stays { IfOk result (λ compared. StaysUnequal seed own.now told.items compared.prints.items compared.asks.items) }
 {
     let mut all = Compared::none(alloc);
     for print in told {

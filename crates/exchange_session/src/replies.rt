@@ -1,17 +1,18 @@
 //! Replies to messages.
-ghost use Rattle.std.specs.Prelude.{◌≡◌, ◌++◌, ◌∷◌, [], All, IfOk, List, map, OnOk};
+ghost use Rattle.std.specs.Prelude.{◌≡◌, ◌++◌, ◌∷◌, ◌⊎◌, [], All, IfOk, List, map, OnOk};
 ghost use Rattle.std.specs.FinMap as finmap;
+ghost use Rattle.load_places.specs.Places.{PlaceParts};
 ghost use Rattle.edit_sums.specs.Sums.{IsStoreBelow, join};
 ghost use Rattle.world_law.specs.Cuts.{digest_of};
-ghost use Rattle.exchange_session.specs.{Answered.{asks_back, piece_for, versions_of}, Joined.{EndsWith, joined}, Told.{IsOwnAsk, IsOwnPrint, IsPursued, own_print}};
-ghost use Rattle.range_prints.specs.Ranges.{everything};
+ghost use Rattle.exchange_session.specs.{Answered.{asks_back, piece_for}, Joined.{EndsWith, joined}, Told.{IsAskedAt, IsOwnAsk, IsOwnPrint, IsPursued, IsTold, IsUnequalAt, own_print}};
+ghost use Rattle.range_prints.specs.Ranges.{everything, versions_of};
 ghost use Rattle.exchange_session.specs.declared.messages.RangeAsk.{RangeAsk};
 
 use crate::asking::{ask_back, pieces_for};
 use crate::comparing::{compare_all, prints_of};
 use crate::messages::Message;
-use delta_pieces::{Piece, digest, take};
-use range_prints::Range;
+use delta_pieces::{Piece, take};
+use range_prints::{Range, versions};
 use replica_store::Replica;
 use std::alloc::{AllocError, Global};
 
@@ -68,14 +69,16 @@ pub fn reply(
     ensures asked_back { IfOk result (λ told. EndsWith told.asks.items (asks_back (digest_of node.new.store) message.asks.items)) }
     ensures agreed { IfOk result (λ told. All (IsOwnPrint seed (versions_of node.new.store)) message.prints.items →
         (told.prints.items ≡ []) × (told.asks.items ≡ asks_back (digest_of node.new.store) message.asks.items)) }
+    ensures stays { IfOk result (λ told. (p : PlaceParts) → IsTold p told.prints.items told.asks.items →
+        IsUnequalAt seed (versions_of node.new.store) message.prints.items p ⊎ IsAskedAt message.asks.items p) }
 {
     let (prints, asks, pieces) = message.into_parts();
     take_all(node, pieces)?;
-    let own = digest(alloc, node)?;
-    let compared = compare_all(alloc, seed, own.versions(), prints)?;
+    let own = versions(alloc, node.store())?;
+    let compared = compare_all(alloc, seed, &own, prints)?;
     let (prints, mut told) = compared.into_parts();
     let pieces = pieces_for(alloc, node, &own, &asks)?;
-    ask_back(alloc, &own, asks, &mut told)?;
+    ask_back(alloc, node, &own, asks, &mut told)?;
     Ok(Message {
         prints,
         asks: told,
@@ -89,11 +92,11 @@ pub fn open(alloc: Global, node: &Replica, seed: u64) -> Result<Message, AllocEr
     ensures asks { IfOk result (λ told. told.asks.items ≡ []) }
     ensures pieces { IfOk result (λ told. told.pieces.items ≡ []) }
 {
-    let own = digest(alloc, node)?;
+    let own = versions(alloc, node.store())?;
     let mut ranges = Vec::new(alloc);
     ranges.push(Range::everything())?;
     Ok(Message {
-        prints: prints_of(alloc, seed, own.versions(), ranges)?,
+        prints: prints_of(alloc, seed, &own, ranges)?,
         asks: Vec::new(alloc),
         pieces: Vec::new(alloc),
     })

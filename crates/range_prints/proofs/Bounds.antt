@@ -1,62 +1,47 @@
 -- Where a place parts a sorted list.
-use Rattle.std.proofs.Common.{◌&&◌, ◌∷◌, ◌≡◌}
-use Rattle.range_prints.proofs.Prelude.{[], and_parts, ap, below_all, Bool, cond, drop, Equal, false, Greater, is_less, is_lt, is_sorted, IsAt, IsGap, IsTrue, Less, List, not, place_cmp, place_cmp_total, PlaceParts, refl, suc, sym, take, true, turned, Version, zero, ℕ, ◌∙◌}
+use Rattle.std.proofs.Common.{◌&&◌, ◌∷◌, ◌≡◌, ◌≤◌}
+use Rattle.range_prints.proofs.Prelude.{[], and_parts, ap, arith, below_at, Bool, cond, drop, Equal, false, get_or, Greater, is_gt, is_less, is_lt, is_sorted, IsPartitionedBy, IsPartitionPoint, IsTrue, length, Less, List, not, Ordering, ordering_reverse, place_cmp, place_cmp_total, PlaceParts, refl, suc, sym, take, true, turned, Version, zero, ℕ, ◌∙◌}
 use Rattle.range_prints.specs.Ranges.{is_below, those}
 
 abbrev pub Versions : Type 0
 Versions = List (PlaceParts × Version)
 
--- what is above a place that isn't below the bound isn't below it either
-above : (b x y : PlaceParts) → is_below b x ≡ false → place_cmp x y ≡ Less → is_below b y ≡ false
-above b x y h less = elim (place_cmp y b) as (λ o. place_cmp y b ≡ o → is_lt o ≡ false) [
-  | Less ↦ λ e. let both = place_cmp_total.trans x y b less e in let told = sym (ap is_lt both) ∙ h in cc
-  | Equal ↦ λ e. refl
-  | Greater ↦ λ e. refl
-] refl
+reversed : (o : Ordering) → is_lt (ordering_reverse o) ≡ is_gt o
+reversed Less = refl
+reversed Equal = refl
+reversed Greater = refl
 
--- behind a place that isn't below the bound none is below it
-none_below : (b x : PlaceParts) (vs : Versions) → is_below b x ≡ false → IsTrue (below_all place_cmp x vs)
-    → (those (is_below b) vs ≡ []) × (those (λ p. not (is_below b p)) vs ≡ vs)
-none_below b x [] h all = (refl, refl)
-none_below b x (v ∷ vs) h all =
-    let here = above b x v.0 h (is_less _ (and_parts _ _ all).0) in
-    let rest = none_below b x vs h (and_parts _ _ all).1 in (
-      ap (λ t. cond t (v ∷ those (is_below b) vs) (those (is_below b) vs)) here ∙ rest.0,
-      ap (λ t. cond (not t) (v ∷ those (λ p. not (is_below b p)) vs) (those (λ p. not (is_below b p)) vs)) here ∙ ap (λ (l : Versions). v ∷ l) rest.1,
+-- a place that a bound is above is below it
+pub is_behind : (b p : PlaceParts) → is_gt (place_cmp b p) ≡ is_below b p
+is_behind b p = sym (ap is_lt (turned place_cmp place_cmp_total b p (place_cmp b p) refl) ∙ reversed (place_cmp b p))
+
+-- in place order none that is below a bound comes after one that isn't
+pub below_first : (b : PlaceParts) (vs : Versions) → IsTrue (is_sorted place_cmp vs) → IsPartitionedBy (λ (v : PlaceParts × Version). is_below b v.0) vs
+below_first b [] s i j d l m h = absurd (omega arith)
+below_first b (v ∷ vs) s zero zero d l m h = h
+below_first b (v ∷ vs) s zero (suc j) d l m h =
+    ap is_lt (place_cmp_total.trans v.0 (get_or vs j d).0 b (below_at place_cmp v.0 vs j d (and_parts _ _ s).0 (omega arith)) (is_less _ h))
+below_first b (v ∷ vs) s (suc i) zero d l m h = absurd (omega arith)
+below_first b (v ∷ vs) s (suc i) (suc j) d l m h = below_first b vs (and_parts _ _ s).1 i j d (omega arith) (omega arith) h
+
+-- those that pass a test, where they come first
+pub parted : (test : PlaceParts → Bool) (vs : Versions) (n : ℕ) → n ≤ length vs
+    → IsPartitionPoint (λ (v : PlaceParts × Version). test v.0 ≡ true) (λ (v : PlaceParts × Version). test v.0 ≡ false) vs n
+    → (take n vs ≡ those test vs) × (drop n vs ≡ those (λ p. not (test p)) vs)
+parted test [] zero within all = (refl, refl)
+parted test [] (suc n) within all = absurd (omega arith)
+parted test (v ∷ vs) zero within all =
+    let fails : test v.0 ≡ false = all.1 0 v (omega arith) (omega arith) in
+    let rest = parted test vs zero (omega arith) ((λ k d low high. absurd (omega arith)), (λ k d low high. all.1 (suc k) d (omega arith) (omega arith))) in (
+      rest.0 ∙ sym (ap (λ (t : Bool). cond t (v ∷ those test vs) (those test vs)) fails),
+      ap (λ (l : Versions). v ∷ l) rest.1 ∙ sym (ap (λ (t : Bool). cond (not t) (v ∷ those (λ p. not (test p)) vs) (those (λ p. not (test p)) vs)) fails),
     )
-
--- the list whose first isn't below the bound
-all_reached : (b : PlaceParts) (v : PlaceParts × Version) (vs : Versions) → is_below b v.0 ≡ false → IsTrue (is_sorted place_cmp (v ∷ vs))
-    → ([] ≡ those (is_below b) (v ∷ vs)) × (v ∷ vs ≡ those (λ p. not (is_below b p)) (v ∷ vs))
-all_reached b v vs h sorted =
-    let rest = none_below b v.0 vs h (and_parts _ _ sorted).0 in (
-      sym (ap (λ t. cond t (v ∷ those (is_below b) vs) (those (is_below b) vs)) h ∙ rest.0),
-      sym (ap (λ t. cond (not t) (v ∷ those (λ p. not (is_below b p)) vs) (those (λ p. not (is_below b p)) vs)) h ∙ ap (λ (l : Versions). v ∷ l) rest.1),
+parted test (v ∷ vs) (suc n) within all =
+    let passes : test v.0 ≡ true = all.0 0 v (omega arith) (omega arith) in
+    let rest = parted test vs n (omega arith) ((λ k d low high. all.0 (suc k) d (omega arith) (omega arith)), (λ k d low high. all.1 (suc k) d (omega arith) (omega arith))) in (
+      ap (λ (l : Versions). v ∷ l) rest.0 ∙ sym (ap (λ (t : Bool). cond t (v ∷ those test vs) (those test vs)) passes),
+      rest.1 ∙ sym (ap (λ (t : Bool). cond (not t) (v ∷ those (λ p. not (test p)) vs) (those (λ p. not (test p)) vs)) passes),
     )
-
--- one below the bound in front
-pushed : (b : PlaceParts) (v : PlaceParts × Version) (vs : Versions) (i : ℕ) → is_below b v.0 ≡ true
-    → (take i vs ≡ those (is_below b) vs) × (drop i vs ≡ those (λ p. not (is_below b p)) vs)
-    → (take (suc i) (v ∷ vs) ≡ those (is_below b) (v ∷ vs)) × (drop (suc i) (v ∷ vs) ≡ those (λ p. not (is_below b p)) (v ∷ vs))
-pushed b v vs i h rest = (
-  ap (λ (l : Versions). v ∷ l) rest.0 ∙ sym (ap (λ t. cond t (v ∷ those (is_below b) vs) (those (is_below b) vs)) h),
-  rest.1 ∙ sym (ap (λ t. cond (not t) (v ∷ those (λ p. not (is_below b p)) vs) (those (λ p. not (is_below b p)) vs)) h),
-)
-
-pub parted_at : (b : PlaceParts) (vs : Versions) (i : ℕ) → IsTrue (is_sorted place_cmp vs) → IsAt place_cmp b vs i
-    → (take i vs ≡ those (is_below b) vs) × (drop i vs ≡ those (λ p. not (is_below b p)) vs)
-parted_at b [] i sorted at = absurd at
-parted_at b (v ∷ vs) zero sorted at = all_reached b v vs (ap is_lt (turned place_cmp place_cmp_total b v.0 Equal at)) sorted
-parted_at b (v ∷ vs) (suc i) sorted at =
-    pushed b v vs i (ap is_lt (turned place_cmp place_cmp_total b v.0 Greater at.0)) (parted_at b vs i (and_parts _ _ sorted).1 at.1)
-
-pub parted_gap : (b : PlaceParts) (vs : Versions) (i : ℕ) → IsTrue (is_sorted place_cmp vs) → IsGap place_cmp b vs i
-    → (take i vs ≡ those (is_below b) vs) × (drop i vs ≡ those (λ p. not (is_below b p)) vs)
-parted_gap b [] zero sorted gap = (refl, refl)
-parted_gap b [] (suc i) sorted gap = absurd gap
-parted_gap b (v ∷ vs) zero sorted gap = all_reached b v vs (ap is_lt (turned place_cmp place_cmp_total b v.0 Less gap)) sorted
-parted_gap b (v ∷ vs) (suc i) sorted gap =
-    pushed b v vs i (ap is_lt (turned place_cmp place_cmp_total b v.0 Greater gap.0)) (parted_gap b vs i (and_parts _ _ sorted).1 gap.1)
 
 -- the two tests of a range, one after the other
 pub both_tests : (f g : PlaceParts → Bool) (vs : Versions) → those f (those g vs) ≡ those (λ p. f p && g p) vs

@@ -1,7 +1,8 @@
 -- Ranges of places.
 -- Source: this project's own.
 use Rattle.std.proofs.Common.{◌&&◌, ◌+◌, ◌∷◌, ◌≡◌}
-use Rattle.range_prints.specs.Prelude.{[], Bool, cond, filter, is_lt, List, None, not, Option, place_cmp, PlaceParts, Some, true, Version, ℕ}
+use Rattle.std.specs.FinMap as finmap
+use Rattle.range_prints.specs.Prelude.{[], Bool, cond, digest_of, EntryMap, filter, is_lt, List, None, not, Option, place_cmp, PlaceParts, Some, true, Version, ℕ}
 use Rattle.range_prints.specs.declared.ranges.Range.{Range}
 
 -- the range of all places
@@ -42,3 +43,7 @@ times_within p (r ∷ rs) = cond (is_within r p) 1 0 + times_within p rs
 -- the ranges are parts of this one: each place in it is in just one of them, and no other place is in any
 abbrev pub ArePartsOf : Range → List Range → Type 0
 ArePartsOf r parts = (p : PlaceParts) → times_within p parts ≡ cond (is_within r p) 1 0
+
+-- the versions of a store, in place order
+abbrev pub versions_of : EntryMap → List (PlaceParts × Version)
+versions_of s = finmap.entries (digest_of s)

@@ -7,6 +7,7 @@
 //! it to be told one by one (Meyer, "Range-Based Set Reconciliation", 2023).
 //!
 //! - `Range`: its bounds are places; the lower one is in it and the upper one isn't.
+//! - `versions`: the versions of a store in place order, each a `PlaceVersion`, which is borrowed.
 //! - `within`: the versions in a range, out of all in place order.
 //! - `parts`: cuts a range into parts with as many versions each.
 //! - `print`: the print of some versions.
@@ -15,10 +16,12 @@
 
 mod cuts;
 mod laws;
+mod place_versions;
 mod prints;
 mod ranges;
 
 pub use cuts::parts;
 pub use laws::range_laws;
+pub use place_versions::{PlaceVersion, versions};
 pub use prints::print;
 pub use ranges::{Range, within};

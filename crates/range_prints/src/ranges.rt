@@ -3,9 +3,8 @@ ghost use Rattle.std.specs.{Prelude.{◌≡◌, ◌≤◌, All, drop, IfOk, IsTr
 ghost use Rattle.load_places.specs.Places.{place_cmp};
 ghost use Rattle.range_prints.specs.Ranges.{everything, is_below, is_before, is_within, those, within};
 
-use join_law::Version;
+use crate::place_versions::PlaceVersion;
 use load_places::Place;
-use sorted_pairs::seek;
 use std::alloc::AllocError;
 
 /// A range of places, in place order.
@@ -45,20 +44,17 @@ impl Range {
 }
 
 // How many versions are at places before this one.
-fn count_below(versions: &[(Place, Version)], place: &Place) -> usize
+fn count_below(versions: &[PlaceVersion<'_>], place: &Place) -> usize
     requires sorted { IsTrue (is_sorted place_cmp versions.now) }
     ensures most { result ≤ length versions.now }
     ensures below { take result versions.now ≡ those (is_below place.now) versions.now }
     ensures others { drop result versions.now ≡ those (λ p. not (is_below place.now p)) versions.now }
 {
-    match seek(versions, place) {
-        Ok(at) => at,
-        Err(at) => at,
-    }
+    versions.partition_point(|version| version.is_below(place))
 }
 
 // The versions before an upper bound.
-fn before<'a>(versions: &'a [(Place, Version)], until: &Option<Place>) -> &'a [(Place, Version)]
+fn before<'s, 'a>(versions: &'s [PlaceVersion<'a>], until: &Option<Place>) -> &'s [PlaceVersion<'a>]
     requires sorted { IsTrue (is_sorted place_cmp versions.now) }
     ensures before { result.now ≡ those (is_before until.now) versions.now }
     ensures sorted { IsTrue (is_sorted place_cmp result.now) }
@@ -70,7 +66,7 @@ fn before<'a>(versions: &'a [(Place, Version)], until: &Option<Place>) -> &'a [(
 }
 
 /// Returns of these versions, in place order, those whose places are in the range. O(log n). Allocates nothing.
-pub fn within<'a>(versions: &'a [(Place, Version)], range: &Range) -> &'a [(Place, Version)]
+pub fn within<'s, 'a>(versions: &'s [PlaceVersion<'a>], range: &Range) -> &'s [PlaceVersion<'a>]
     requires sorted { IsTrue (is_sorted place_cmp versions.now) }
     ensures within { result.now ≡ within range.now versions.now }
     ensures sorted { IsTrue (is_sorted place_cmp result.now) }

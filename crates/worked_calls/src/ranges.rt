@@ -1,10 +1,9 @@
 //! Calls on ranges and prints, and what two replicas say in turns.
 use crate::edits::{append_store, append_version};
 use crate::pieces::holder;
-use delta_pieces::digest;
 use exchange_session::{Message, RangeAsk, RangePrint, open, reconcile, reply};
 use join_law::Version;
-use range_prints::{Range, parts, print, within};
+use range_prints::{Range, parts, print, versions, within};
 use replica_store::{Place, Replica};
 use worked_lines::{Answer, LineFault, Words, is, match_word, place_of};
 
@@ -55,21 +54,29 @@ fn append_range(out: &mut Answer, range: &Range) {
     out.write(b")");
 }
 
-// Writes versions at places, each after a comma unless nothing is written yet.
+// Writes a version at a place, after a comma unless nothing is written yet.
+fn append_at(out: &mut Answer, place: &Place, version: Version) {
+    out.part(b",");
+    append_version(out, version);
+    out.write(b":");
+    out.write_place(place);
+}
+
+// Writes versions at places.
 fn append_versions(out: &mut Answer, versions: &[(Place, Version)]) {
     for (place, version) in versions {
-        out.part(b",");
-        append_version(out, *version);
-        out.write(b":");
-        out.write_place(place);
+        append_at(out, place, *version);
     }
 }
 
 // Writes the versions of a store that are in a range.
 fn append_within(words: &mut Words, out: &mut Answer) -> Result<(), LineFault> {
     let range = range(words)?;
-    let all = digest(words.alloc, &holder(words)?)?;
-    append_versions(out, within(all.versions(), &range));
+    let node = holder(words)?;
+    let all = versions(words.alloc, node.store())?;
+    for it in within(&all, &range) {
+        append_at(out, &it.place()?, it.version());
+    }
     out.or(b"none");
     Ok(())
 }
@@ -78,11 +85,12 @@ fn append_within(words: &mut Words, out: &mut Answer) -> Result<(), LineFault> {
 fn append_parts(words: &mut Words, out: &mut Answer) -> Result<(), LineFault> {
     let count = words.index()?;
     let range = range(words)?;
-    let all = digest(words.alloc, &holder(words)?)?;
+    let node = holder(words)?;
+    let all = versions(words.alloc, node.store())?;
     if count == 0 {
         return Err(LineFault::Words);
     }
-    let here = within(all.versions(), &range);
+    let here = within(&all, &range);
     for part in parts(words.alloc, range, here, count)? {
         out.part(b" ");
         append_range(out, &part);
@@ -93,8 +101,9 @@ fn append_parts(words: &mut Words, out: &mut Answer) -> Result<(), LineFault> {
 // Writes the print of all versions of a store.
 fn append_print(words: &mut Words, out: &mut Answer) -> Result<(), LineFault> {
     let seed = words.number()?;
-    let all = digest(words.alloc, &holder(words)?)?;
-    out.print(&print(seed, all.versions()));
+    let node = holder(words)?;
+    let all = versions(words.alloc, node.store())?;
+    out.print(&print(seed, &all));
     Ok(())
 }
 

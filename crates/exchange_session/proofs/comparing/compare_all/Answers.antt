@@ -1,6 +1,8 @@
-use Rattle.exchange_session.proofs.Prelude.{All-append}
-use Rattle.exchange_session.proofs.Pursuing.{agreed_more, pursued_more}
-use Rattle.exchange_session.specs.Told.{IsOwnAsk, IsOwnPrint}
+use Rattle.std.proofs.Common.{◌++◌, ◌≡◌}
+use Rattle.exchange_session.proofs.Prelude.{All-append, ap, append-nil, List, nil_from_length, subst, sym, ◌∙◌}
+use Rattle.exchange_session.proofs.Pursuing.{agreed_more, pursued_more, stays_more, taken_front}
+use Rattle.exchange_session.specs.Told.{IsOwnAsk, IsOwnPrint, StaysUnequal}
+use Rattle.exchange_session.specs.declared.messages.RangePrint.{RangePrint}
 use Rattle.exchange_session.proofs.comparing.compare_all.Goals as goal
 
 pub loop-print-preserved : goal.loop-print-preserved
@@ -14,5 +16,14 @@ loop-print-preserved c =
       prints = rw c.in_ok-append.ensures.items (All-append (IsOwnPrint seed own) before.prints.items more.prints.items known.prints c.in_ok-compared.ensures.prints);
       asks = rw c.in_ok-append-2.ensures.items (All-append (IsOwnAsk own) before.asks.items more.asks.items known.asks c.in_ok-compared.ensures.asks);
       pursued = rw (c.in_ok-append.ensures.items, c.in_ok-append-2.ensures.items) (pursued_more seed own before.prints.items more.prints.items before.asks.items more.asks.items c.loop-print.yielded c.in-Some.print known.pursued c.in_ok-compared.ensures.covered);
+      stays = rw (c.in_ok-append.ensures.items, c.in_ok-append-2.ensures.items) (stays_more seed own before.prints.items more.prints.items before.asks.items more.asks.items c.loop-print.yielded c.in-Some.print known.stays c.in_ok-compared.ensures.stays);
       agreed = rw (c.in_ok-append.ensures.items, c.in_ok-append-2.ensures.items) (agreed_more (IsOwnPrint seed own) before.prints.items more.prints.items before.asks.items more.asks.items c.loop-print.yielded c.in-Some.print known.agreed c.in_ok-compared.ensures.agreed);
     }
+
+pub returns-clause-stays : goal.returns-clause-stays
+returns-clause-stays c =
+    let begun = c.into_iter-print-iterator.ensures.into_iter_gives in
+    let front = taken_front c.into_iter-print-iterator.result c.loop-print.yielded c.loop-print.print-iterator c.loop-print.yielded_by in
+    let none = nil_from_length _ (sym c.loop-print.print-iterator.rest.ok.0 ∙ c.in-None.ensures.steps.0) in
+    let all : c.loop-print.yielded ≡ c.args.told.items = sym (append-nil c.loop-print.yielded) ∙ sym (ap (λ (l : List RangePrint). c.loop-print.yielded ++ l) none) ∙ sym front ∙ begun.0 in
+    subst (λ (l : List RangePrint). StaysUnequal c.args.seed c.args.own.now l c.loop-print.all.prints.items c.loop-print.all.asks.items) all c.loop-print.invariant.stays

@@ -2,5 +2,5 @@ use Rattle.std.proofs.Common.{take, ◌≡◌}
 use Rattle.range_prints.specs.Prints.{print}
 use Rattle.range_prints.proofs.prints.print.Given as goal
 
-abbrev pub invariant-loop-place : goal.invariant-loop-place
-invariant-loop-place l = l.sum ≡ print l.seed (take l.place-index l.versions)
+abbrev pub invariant-loop-version : goal.invariant-loop-version
+invariant-loop-version l = l.sum ≡ print l.seed (take l.version-index l.versions)
