@@ -129,7 +129,7 @@ number_back_within (suc most) n rest small lt = ⊎_elim
 
 -- ---- strings
 
-cut_taken : (len : ℕ) (bytes text rest : List ℕ) → IsBytes bytes → cut_at len bytes ≡ Ok (text, rest) → Takes bytes text rest × (length text ≡ len)
+pub cut_taken : (len : ℕ) (bytes text rest : List ℕ) → IsBytes bytes → cut_at len bytes ≡ Ok (text, rest) → Takes bytes text rest × (length text ≡ len)
 cut_taken len bytes text rest fits e =
     let g = guard_ok (ltb (length bytes) len) Truncated (Ok (take len bytes, drop len bytes)) (text, rest) e in
     let long : len ≤ length bytes = ltb-false _ _ g.0 in
@@ -137,7 +137,7 @@ cut_taken len bytes text rest fits e =
     subst (λ (p : List ℕ × List ℕ). Takes bytes p.0 p.1 × (length p.0 ≡ len)) (ok_is (take len bytes, drop len bytes) (text, rest) g.1)
     (record { parts = sym (take-append-drop len bytes); rest_fits = IsBytes-drop len bytes fits }, is)
 
-cut_back : (text rest : List ℕ) → cut_at (length text) (text ++ rest) ≡ Ok (text, rest)
+pub cut_back : (text rest : List ℕ) → cut_at (length text) (text ++ rest) ≡ Ok (text, rest)
 cut_back text rest =
     let long : ltb (length (text ++ rest)) (length text) ≡ false = le-ltb _ _ (omega (arith, length-append text rest)) in
     rw (long, take_at text rest (length text) refl, drop_at text rest (length text) refl) refl

@@ -76,7 +76,7 @@ pub reading_fails : (total left : Result (List (PlaceParts × Entry)) SpellingFa
 reading_fails total left store e is h = part_fails total is.prefix left e is.part h
 
 -- The sum of entries whose places are in ascending order holds just these.
-held : (es : List (PlaceParts × Entry)) → IsTrue (is_sorted place_cmp es) → finmap.entries (sum_of (map edit_of es)) ≡ es
+pub held : (es : List (PlaceParts × Entry)) → IsTrue (is_sorted place_cmp es) → finmap.entries (sum_of (map edit_of es)) ≡ es
 held es ascending =
     ap finmap.entries (ap (λ (l : List (PlaceParts × Entry)). sum_of (map edit_of l)) (sym (finmap.entries-from_sorted place_cmp es (to_T _ ascending))) ∙ sum_of-edits_of (finmap.from_sorted {R = place_cmp} es))
     ∙ finmap.entries-from_sorted place_cmp es (to_T _ ascending)

@@ -277,6 +277,15 @@ scope_not_entered (suc n) scope path bytes (decode.Fault d) some e =
     between_scopes (suc n) scope path bytes ∙ next_scopes n scope bytes
     ∙ ap (scopes_then n) (grouped_at scope bytes ∙ group_not_headed (key_above_at scope_cmp scope_at scope bytes) d (sym (headed_at scope bytes) ∙ e))
 
+-- the head of a scope is read, and its entries are to be read after it
+pub scope_headed : (last : Option Scope) (bytes : List ℕ) (s : Scope) (count : ℕ) (rest : List ℕ) → scope_head_at last bytes ≡ Ok ((s, count), rest)
+    → pair_above_at scope_cmp scope_at (group_at path_cmp path_at entry_at) last bytes ≡ (pairs_above_at path_cmp path_at entry_at count None rest >>= λ es. Ok ((s, es.0), es.1))
+scope_headed last bytes s count rest e = grouped_at last bytes ∙ (group_headed (key_above_at scope_cmp scope_at last bytes) ((s, count), rest) (sym (headed_at last bytes) ∙ e)).0
+
+-- it isn't read
+pub scope_not_headed : (last : Option Scope) (bytes : List ℕ) (d : SpellingFault) → scope_head_at last bytes ≡ Err d → pair_above_at scope_cmp scope_at (group_at path_cmp path_at entry_at) last bytes ≡ Err d
+scope_not_headed last bytes d e = grouped_at last bytes ∙ group_not_headed (key_above_at scope_cmp scope_at last bytes) d (sym (headed_at last bytes) ∙ e)
+
 -- all are to come where reading begins
 all_entries_to_come : (kind : ℕ) (bytes : List ℕ) → (entries_begun kind bytes >>= entries_to_come) ≡ entries_in kind bytes
 unfolding entries_begun entries_in all_of pairs_of

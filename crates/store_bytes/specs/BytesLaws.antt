@@ -30,7 +30,7 @@ use Rattle.byte_fields.specs.Composing.{IsField}
 
 -- ---- stores and pieces
 
-entry_group : IsField (group_at path_cmp path_at entry_at) (pairs path entry) (AreGroup path_cmp IsPath IsEntry)
+pub entry_group : IsField (group_at path_cmp path_at entry_at) (pairs path entry) (AreGroup path_cmp IsPath IsEntry)
 entry_group = group_field path_cmp path_cmp_total path_at path IsPath entry_at entry IsEntry path_field entry_field
 
 -- what was read from bytes, and what they are

@@ -25,13 +25,13 @@ use Rattle.store_bytes.specs.Reading.{scope_from, scope_at, is_path, components_
 
 -- ---- bytes, numbers, strings
 
-abbrev one_byte : ℕ → List ℕ
+abbrev pub one_byte : ℕ → List ℕ
 one_byte b = b ∷ []
 
-byte_field : IsField byte_at one_byte (λ b. b < 256)
+pub byte_field : IsField byte_at one_byte (λ b. b < 256)
 byte_field = record { takes = λ bytes x fits e. byte_taken bytes x.0 x.1 fits e; again = λ a rest fits. refl }
 
-number_field : IsField number_at number (λ n. n < 2 ^ 64)
+pub number_field : IsField number_at number (λ n. n < 2 ^ 64)
 number_field = record { takes = λ bytes x fits e. fields_their_bytes.number_taken bytes x.0 x.1 fits e; again = fields_their_bytes.number_back }
 
 short_field : IsField short_string_at short_string (λ s. length s < 256)

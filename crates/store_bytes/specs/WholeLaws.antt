@@ -62,7 +62,7 @@ take_take (suc k) zero bytes le = absurd (omega arith)
 take_take (suc k) (suc n) [] le = refl
 take_take (suc k) (suc n) (b ∷ bytes) le = ap (λ (l : List ℕ). b ∷ l) (take_take k n bytes (omega arith))
 
-opened_takes : (kind : ℕ) (bytes inner : List ℕ) → IsBytes bytes → opened kind bytes ≡ Ok inner → (bytes ≡ (head kind ++ inner) ++ sha256 (head kind ++ inner)) × IsBytes inner
+pub opened_takes : (kind : ℕ) (bytes inner : List ℕ) → IsBytes bytes → opened kind bytes ≡ Ok inner → (bytes ≡ (head kind ++ inner) ++ sha256 (head kind ++ inner)) × IsBytes inner
 unfolding opened
 opened_takes kind bytes inner fits e =
     let prefix = take (length bytes - 32) bytes in
@@ -90,7 +90,7 @@ same_itself : (xs : List ℕ) → bytes_eq xs xs ≡ true
 same_itself [] = refl
 same_itself (x ∷ xs) = both (eqb x x) (bytes_eq xs xs) (eq-eqb x x refl) (same_itself xs)
 
-opened_again : (kind : ℕ) (inner : List ℕ) → opened kind ((head kind ++ inner) ++ sha256 (head kind ++ inner)) ≡ Ok inner
+pub opened_again : (kind : ℕ) (inner : List ℕ) → opened kind ((head kind ++ inner) ++ sha256 (head kind ++ inner)) ≡ Ok inner
 unfolding opened
 opened_again kind inner =
     let prefix = head kind ++ inner in

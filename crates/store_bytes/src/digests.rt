@@ -41,8 +41,8 @@ pub fn digest_from_bytes(alloc: Global, bytes: &[u8]) -> Result<Digest, DecodeFa
     }
 }
 
-// Appends versions by place.
-fn put_versions(out: &mut Vec<u8>, list: &[(Place, Version)]) -> Result<(), AllocError>
+/// Appends versions by place. Fails only if memory runs out; part of them may then be there.
+pub fn put_versions(out: &mut Vec<u8>, list: &[(Place, Version)]) -> Result<(), AllocError>
     ensures written { OnOk result (out.new.items ≡ out.old.items ++ pairs place version list.now) }
     ensures fits { OnOk result (AllByRecursion (λ p. IsPlace p.0 × IsVersion p.1) list.now) }
     ensures few { OnOk result (length list.now < 2 ^ 64) }

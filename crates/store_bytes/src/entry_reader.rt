@@ -172,9 +172,10 @@ fn is_path_above(last: Option<&Path>, path: &Path) -> bool
     }
 }
 
-// Reads the scope at the start, which is above the last one, and how many entries it has.
+/// Reads the scope at the start of bytes, which is above the last one, and how many entries it has, and returns both with
+/// the bytes after them. `Host` if it is no host's name, `Order` if it isn't above the last one, `Number` if it has none.
 #[tactic(auto, unfolding(crate::specs::Streams::scope_head_at, crate::specs::ListReading::key_above_at))]
-fn scope_head_of<'a>(
+pub fn scope_head_of<'a>(
     alloc: Global,
     last: Option<&Scope>,
     bytes: &'a [u8],
@@ -192,9 +193,10 @@ fn scope_head_of<'a>(
     Ok(((scope, count), rest))
 }
 
-// Reads the path at the start, which is above the last one, and its entry.
+/// Reads the path at the start of bytes, which is above the last one, and its entry, and returns both with the bytes after
+/// them. `Path` if it is none, `Order` if it isn't above the last one, `Number` or `Content` if the entry is none.
 #[tactic(auto, unfolding(crate::specs::ListReading::pair_above_at, crate::specs::ListReading::key_above_at))]
-fn entry_above<'a>(
+pub fn entry_above<'a>(
     alloc: Global,
     last: Option<&Path>,
     bytes: &'a [u8],

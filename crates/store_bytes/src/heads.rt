@@ -8,8 +8,8 @@ use byte_fields::{DecodeFault, SpellingFault};
 use sha2::{Digest, Sha256};
 use std::alloc::{AllocError, Global};
 
-// Returns the head of the bytes of a value of this kind.
-pub(crate) fn head_of(alloc: Global, kind: u8) -> Result<Vec<u8>, AllocError>
+/// Returns the head of the bytes of a value of this kind. Fails only if memory runs out.
+pub fn head_of(alloc: Global, kind: u8) -> Result<Vec<u8>, AllocError>
     ensures head { IfOk result (λ out. out.items ≡ head kind) }
 {
     let mut out = Vec::new(alloc);
@@ -19,8 +19,8 @@ pub(crate) fn head_of(alloc: Global, kind: u8) -> Result<Vec<u8>, AllocError>
     Ok(out)
 }
 
-// Appends the checksum of bytes to them.
-pub(crate) fn put_sum(out: &mut Vec<u8>) -> Result<(), AllocError>
+/// Appends the checksum of bytes to them. Fails only if memory runs out; part of it may then be there.
+pub fn put_sum(out: &mut Vec<u8>) -> Result<(), AllocError>
     ensures summed { OnOk result (out.new.items ≡ out.old.items ++ sha256 out.old.items) }
 {
     let sum = sum_of(out);
@@ -34,10 +34,10 @@ pub(crate) fn sum_of(bytes: &[u8]) -> [u8; 32]
     Sha256::digest(bytes)
 }
 
-// Borrows what stands between the head and the checksum of a value of this kind. The faults are `Truncated`, `Magic`,
-// `Format`, `Kind` and `Checksum`, tested in this order. Allocates nothing.
+/// Borrows what stands between the head and the checksum of a value of this kind. The faults are `Truncated`, `Magic`,
+/// `Format`, `Kind` and `Checksum`, tested in this order. Allocates nothing.
 #[tactic(auto, unfolding(crate::specs::ListReading::opened))]
-pub(crate) fn open(kind: u8, bytes: &[u8]) -> Result<&[u8], DecodeFault>
+pub fn open(kind: u8, bytes: &[u8]) -> Result<&[u8], DecodeFault>
     ensures read { Gives (λ x. x.now) result (opened kind bytes.now) }
 {
     if bytes.len() < 38 {

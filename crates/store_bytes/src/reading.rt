@@ -52,9 +52,10 @@ pub(crate) fn path_of(alloc: Global, bytes: &[u8]) -> Result<(Path, &[u8]), Deco
     Ok((Path::from_parts(rank, folder, name), rest))
 }
 
-// Reads the place at the start.
+/// Reads the place at the start of bytes, and returns it with the bytes after it. The faults are `Memory`, `Truncated`,
+/// `Host` and `Path`.
 #[tactic(auto, unfolding(crate::specs::Reading::place_at))]
-pub(crate) fn place_of(alloc: Global, bytes: &[u8]) -> Result<(Place, &[u8]), DecodeFault>
+pub fn place_of(alloc: Global, bytes: &[u8]) -> Result<(Place, &[u8]), DecodeFault>
     ensures read { Gives (λ x. (x.0, x.1.now)) result (place_at bytes.now) }
 {
     let (scope, rest) = scope_of(alloc, bytes)?;

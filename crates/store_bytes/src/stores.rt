@@ -1,5 +1,5 @@
 //! Stores and pieces as bytes.
-ghost use Rattle.std.specs.Prelude.{◌≡◌, IfOk, Ok, OnOk};
+ghost use Rattle.std.specs.Prelude.{◌≡◌, ◌++◌, IfOk, Ok, OnOk};
 ghost use Rattle.std.specs.FinMap as finmap;
 ghost use Rattle.edit_sums.specs.Sums.{edit_of, EntryMap, with_edit};
 ghost use Rattle.byte_fields.specs.Reading.{Gives};
@@ -85,10 +85,19 @@ fn covered_of(kind: u8, store: &Store) -> Result<Vec<u8>, AllocError>
     ensures covered { IfOk result (λ bytes. bytes.items ≡ covered scope (pairs path entry) kind (scopes_of store.now)) }
     ensures spelled { IfOk result (λ _. HasSpelling store.now) }
 {
-    let list = entries_of(store)?;
     let mut out = head_of(store.allocator(), kind)?;
-    put_scopes(&mut out, &list)?;
+    put_store(&mut out, store)?;
     Ok(out)
+}
+
+/// Appends the entries of a store by scope. Fails only if memory runs out; part of them may then be there.
+pub fn put_store(out: &mut Vec<u8>, store: &Store) -> Result<(), AllocError>
+    ensures written { OnOk result (out.new.items ≡ out.old.items ++ pairs scope (pairs path entry) (scopes_of store.now)) }
+    ensures spelled { OnOk result (HasSpelling store.now) }
+{
+    let list = entries_of(store)?;
+    put_scopes(out, &list)?;
+    Ok(())
 }
 
 // Returns copies of all entries in place order, which share their bytes.

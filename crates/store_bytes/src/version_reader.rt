@@ -99,9 +99,11 @@ fn is_place_above(last: Option<&Place>, place: &Place) -> bool
     }
 }
 
-// Reads the place at the start, which is above the last one, and its version.
+/// Reads the place at the start of bytes, which is above the last one, and its version, and returns both with the bytes
+/// after them. `Order` if the place isn't above the last one, `Number` if the version's writer isn't below 2^32; else the
+/// faults are those of `place_of`.
 #[tactic(auto, unfolding(crate::specs::ListReading::pair_above_at, crate::specs::ListReading::key_above_at))]
-fn version_above<'a>(
+pub fn version_above<'a>(
     alloc: Global,
     last: Option<&Place>,
     bytes: &'a [u8],

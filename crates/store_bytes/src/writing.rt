@@ -32,8 +32,8 @@ pub(crate) fn put_scope(out: &mut Vec<u8>, s: &Scope) -> Result<(), AllocError>
     }
 }
 
-// Appends a place.
-pub(crate) fn put_place(out: &mut Vec<u8>, p: &Place) -> Result<(), AllocError>
+/// Appends a place. Fails only if memory runs out; part of it may then be there.
+pub fn put_place(out: &mut Vec<u8>, p: &Place) -> Result<(), AllocError>
     ensures written { OnOk result (out.new.items ≡ out.old.items ++ place p.now) }
     ensures fits { OnOk result (IsPlace p.now) }
 {

@@ -5,7 +5,7 @@ use Rattle.load_places.specs.Places.{PlaceParts}
 use Rattle.edit_sums.specs.Entries.{Entry}
 use Rattle.store_bytes.specs.Parts.{parted}
 use Rattle.store_bytes.specs.PartingLaws.{AreFit, parts_scoped}
-use Rattle.store_bytes.proofs.stores.covered_of.Goals as goal
+use Rattle.store_bytes.proofs.stores.put_store.Goals as goal
 
 pub returns-clause-spelled : goal.returns-clause-spelled
 returns-clause-spelled c =
