@@ -1,0 +1,4 @@
+pub mod Loops
+pub mod Taking
+pub mod Whole
+pub mod Inserting

@@ -1,0 +1,10 @@
+pub mod Peers
+pub mod Frames
+pub mod Chains
+pub mod Spelling
+pub mod Reading
+pub mod Pieces
+pub mod Laws
+pub mod ChainLaws
+pub mod PartLaws
+pub mod FrameLaws

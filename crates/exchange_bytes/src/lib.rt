@@ -1,0 +1,26 @@
+//! Frames of an exchange as bytes. Each has one string of bytes, and no other string is read as it; docs/FORMAT.md says
+//! which, so that another program can write and read them.
+//!
+//! Promise: one spelling each; bytes are read exactly; frames say what the message says.
+//!
+//! Two sides that compare their replicas send each other messages. A message goes as a list of frames, of which none is
+//! longer than a megabyte, and each but the last says that more come. A range in a frame costs one bound where it begins at
+//! the end of the range before it, as the parts of a range that is cut do.
+//!
+//! - `frames`, `peers`: the values. `Hello` stands in a side's first frame.
+//! - `frame_to_bytes`, `frame_from_bytes`: whole frames. `frames_are_one_to_one` is their law.
+//! - `DecodeFault` and `SpellingFault`: why bytes can't be read.
+#![tactic(auto)]
+
+mod frames;
+mod laws;
+mod peers;
+mod reading;
+mod spelled;
+mod writing;
+
+pub use byte_fields::{DecodeFault, SpellingFault};
+pub use frames::{Frame, Hello};
+pub use laws::frames_are_one_to_one;
+pub use peers::{Peer, Peers};
+pub use spelled::{frame_from_bytes, frame_to_bytes};
