@@ -2,13 +2,13 @@
 use Rattle.std.proofs.Common.{◌++◌, ◌∷◌, ◌≡◌, ◌⊎◌}
 use Rattle.exchange_session.proofs.Prelude.{[], All, AreToldApart, digest_of, Edit, edits_of, edits_of-found, EntryMap, Err, everything, get_from_edits_of, inl, inr, IsAmong, IsAmong-append_cases, IsAmong-append_left, IsAmong-append_right, IsStoreBelow, join, join-left, join-right, map, Ok, OnOk, Result, store_below_trans, subst, sym, ℕ, ◌∙◌, versions_of}
 use Rattle.exchange_session.proofs.{Replying.{quiet_ends}, Running.{from_both, join_from, known, run_stands}}
-use Rattle.exchange_session.specs.{Answered.{asks_back, piece_for}, Joined.{EndsWith, joined}, Runs.{answered, AreDone, begun, Collided, IsFrom, Run, said_of}, Standing.{IsReply, Said, Stands}, Told.{IsOwnAsk, IsOwnPrint, IsPursued, own_print}}
+use Rattle.exchange_session.specs.{Answered.{piece_for}, Joined.{joined}, Runs.{answered, AreDone, begun, Collided, IsFrom, Run, said_of}, Standing.{IsReply, Said, Stands}, Told.{IsAskedBack, IsOwnAsk, IsOwnPrint, IsPursued, own_print}}
 use Rattle.exchange_session.specs.declared.messages.{Message.{Message}}
 
 -- a reply is the next message
 pub replied : {seed : ℕ} {s t a b : EntryMap} (own : EntryMap) (message back : Message) → Run seed s t a b (said_of message) → own ≡ joined b message.pieces.items
     → All (IsOwnPrint seed (versions_of own)) back.prints.items → All (IsOwnAsk (versions_of own)) back.asks.items → back.pieces.items ≡ map (piece_for own) message.asks.items
-    → All (IsPursued seed (versions_of own) back.prints.items back.asks.items) message.prints.items → EndsWith back.asks.items (asks_back (digest_of own) message.asks.items)
+    → All (IsPursued seed (versions_of own) back.prints.items back.asks.items) message.prints.items → All (IsAskedBack (digest_of own) back.asks.items) message.asks.items
     → Run seed s t own a (said_of back)
 replied {seed} {s} {t} {a} {b} own message back run taken prints asks pieces pursued asked =
     let is : IsReply seed own (said_of message) (said_of back) = record { prints = prints; asks = asks; pieces = pieces; pursued = pursued; asked_back = asked } in

@@ -1,9 +1,15 @@
 -- What a reply makes of a place of which nothing was forgotten.
-use Rattle.std.proofs.Common.{◌&&◌, ◌||◌, ◌∷◌, ◌≡◌}
+use Rattle.std.proofs.Common.{◌&&◌, ◌+◌, ◌||◌, ◌∷◌, ◌≡◌}
 use Rattle.std.specs.FinMap as finmap
-use Rattle.exchange_session.proofs.Prelude.{[], ap, Bool, content_cmp, below_refl, cond, cut, digest_of, Entry, EntryMap, eq_by_cmp, Equal, false, filter, find, get-cut, get-digest_of, get_from_cut, Greater, inl, inr, IsAmong, IsAmong-append_right, IsBelow, is_asked, is_gt, is_newer, is_wanted, IsStoreBelow, is_within, Less, list_any, List, map, None, Option, option_map, Ordering, ordering_then, passed, place_cmp, PlaceParts, Range, refl, Some, subst, sym, tied, told, true, turned, Version, VersionMap, version_cmp, version_cmp-IsAntisymmetric, version_cmp_total, within, ◌∙◌, versions_of}
-use Rattle.exchange_session.specs.{Answered.{asks_back, is_more, knows_more, own_ask, piece_for, places_within}, Joined.{EndsWith}, Standing.{AreToldApartIn, IsMinded, Said}, Told.{IsOwnAsk, IsTold}}
+use Rattle.exchange_session.proofs.Prelude.{[], All, ap, arith, Bool, content_cmp, below_refl, cond, cut, digest_of, Entry, EntryMap, eq_by_cmp, Equal, false, filter, find, get-cut, get-digest_of, get_from_cut, Greater, inl, inr, IsAmong, IsAmong-append_right, IsBelow, is_asked, is_gt, is_newer, is_wanted, IsStoreBelow, is_within, Less, list_any, List, map, None, Option, option_map, Ordering, ordering_then, passed, place_cmp, PlaceParts, Range, refl, Some, subst, suc, sym, tied, told, true, turned, Version, VersionMap, version_cmp, version_cmp-IsAntisymmetric, version_cmp_total, within, ◌∙◌, versions_of}
+use Rattle.exchange_session.specs.{Answered.{is_more, knows_more, piece_for, places_within}, Standing.{AreToldApartIn, IsMinded, Said}, Told.{IsAskedBack, IsOwnAsk, IsTold}}
 use Rattle.exchange_session.specs.declared.messages.{RangeAsk.{RangeAsk}, RangePrint.{RangePrint}}
+
+-- what holds of all holds of one among them
+pub of_all : {X : Type 0} (P : X → Type 0) (x : X) (xs : List X) → IsAmong x xs → All P xs → P x
+of_all P x [] among all = absurd among
+of_all P x (y ∷ xs) (inl is) all = subst P is (all 0 x (omega arith))
+of_all P x (y ∷ xs) (inr among) all = of_all P x xs among (λ k d lt. all (suc k) d (omega arith))
 
 -- an ask for a range that has the place tells of the version that its sender holds there
 pub told_version : (s : EntryMap) (it : RangeAsk) (p : PlaceParts) → IsOwnAsk (versions_of s) it → is_within it.range p ≡ true
@@ -27,21 +33,9 @@ pub more_known : (own : VersionMap) (asked : VersionMap) (p : PlaceParts) (v : V
 more_known own asked p v is newer = any_found (is_more own) p v (finmap.entries asked) (sym (finmap.get-entries asked p) ∙ is) newer
 
 -- it is asked back for
-back_among : (own : VersionMap) (asks : List RangeAsk) (it : RangeAsk) → IsAmong it asks → knows_more own it.versions ≡ true → IsAmong (own_ask (finmap.entries own) it.range) (asks_back own asks)
-back_among own [] it among more = absurd among
-back_among own (ask ∷ asks) it (inl is) more =
-    let here : knows_more own ask.versions ≡ true = ap (λ (a : RangeAsk). knows_more own a.versions) is ∙ more in
-    subst (λ (b : Bool). IsAmong (own_ask (finmap.entries own) it.range) (map (λ (a : RangeAsk). own_ask (finmap.entries own) a.range) (cond b (ask ∷ filter (λ (a : RangeAsk). knows_more own a.versions) asks) (filter (λ (a : RangeAsk). knows_more own a.versions) asks)))) (sym here)
-    (inl (ap (λ (a : RangeAsk). own_ask (finmap.entries own) a.range) is))
-back_among own (ask ∷ asks) it (inr among) more = elim (knows_more own ask.versions) as (λ b. IsAmong (own_ask (finmap.entries own) it.range) (map (λ (a : RangeAsk). own_ask (finmap.entries own) a.range) (cond b (ask ∷ filter (λ (a : RangeAsk). knows_more own a.versions) asks) (filter (λ (a : RangeAsk). knows_more own a.versions) asks)))) [
-  | true ↦ inr (back_among own asks it among more)
-  | false ↦ back_among own asks it among more
-]
-
 pub told_back : (own : EntryMap) (prints : List RangePrint) (asks told : List RangeAsk) (it : RangeAsk) (p : PlaceParts) → IsAmong it asks → is_within it.range p ≡ true → knows_more (digest_of own) it.versions ≡ true
-    → EndsWith told (asks_back (digest_of own) asks) → IsTold p prints told
-told_back own prints asks told it p among here more (front, is) =
-    inr (own_ask (versions_of own) it.range, (subst (λ (l : List RangeAsk). IsAmong (own_ask (versions_of own) it.range) l) (sym is) (IsAmong-append_right (own_ask (versions_of own) it.range) front (asks_back (digest_of own) asks) (back_among (digest_of own) asks it among more)), here))
+    → All (IsAskedBack (digest_of own) told) asks → IsTold p prints told
+told_back own prints asks told it p among here more back = inr (of_all (IsAskedBack (digest_of own) told) it asks among back more p here)
 
 -- a place that is held in a range is among those at which a piece is cut
 asked_there : (r : Range) (vs : List (PlaceParts × Version)) (p : PlaceParts) (v : Version) → is_within r p ≡ true → find place_cmp p vs ≡ Some v → is_asked p (Some (places_within r vs)) ≡ true
@@ -93,7 +87,7 @@ among_map own (ask ∷ asks) it (inr among) = inr (among_map own asks it among)
 -- a place of which an ask tells
 pub minded_by_ask : (sender own : EntryMap) (asks : List RangeAsk) (reply : Said) (it : RangeAsk) (p : PlaceParts)
     → AreToldApartIn sender own → IsAmong it asks → IsOwnAsk (versions_of sender) it → is_within it.range p ≡ true
-    → reply.pieces ≡ map (piece_for own) asks → EndsWith reply.asks (asks_back (digest_of own) asks) → IsMinded own sender reply p
+    → reply.pieces ≡ map (piece_for own) asks → All (IsAskedBack (digest_of own) reply.asks) asks → IsMinded own sender reply p
 minded_by_ask sender own asks reply it p apart among told_own here pieces back = by (finmap.get own p) refl (finmap.get sender p) refl
   where
     told_is : finmap.get it.versions p ≡ option_map (λ (x : Entry). x.version) (finmap.get sender p)

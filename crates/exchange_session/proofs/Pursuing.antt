@@ -4,14 +4,19 @@ use Rattle.std.proofs.lemmas.List.{drop_at, take_at}
 use Rattle.std.proofs.lemmas.List.Elements.{All-drop, All-head, All-same, All-take}
 use Rattle.std.specs.FinMap as finmap
 use Rattle.std.specs.{declared.vec.IntoIter.{IntoIter}, Iterator.{Yields}, Vec.Iter.{into_iter_items, into_iter_steps}}
-use Rattle.exchange_session.proofs.Prelude.{[], All, All-push, All-weaker, ap, arith, Bool, cond, false, filter, inl, inr, IsAmong, IsAmong-append_cases, IsAmong-append_left, IsAmong-append_right, is_within, List, map, PlaceParts, refl, subst, suc, true, Version, VersionMap, zero, ℕ, ◌∙◌}
-use Rattle.exchange_session.specs.{Answered.{asks_back, knows_more, own_ask}, Told.{IsAskedAt, IsOwnAsk, IsPursued, IsTold, IsUnequalAt, StaysUnequal}}
+use Rattle.exchange_session.proofs.Prelude.{[], All, All-push, All-weaker, ap, append-nil, inl, inr, IsAmong-append_cases, IsAmong-append_left, IsAmong-append_right, List, nil_from_length, PlaceParts, refl, Version, VersionMap, ℕ, ◌∙◌}
+use Rattle.exchange_session.specs.{Told.{IsAskedAt, IsAskedBack, IsNewerAt, IsPursued, IsTold, IsUnequalAt, StaysUnequal}}
 use Rattle.exchange_session.specs.declared.messages.{RangeAsk.{RangeAsk}, RangePrint.{RangePrint}}
 
 -- what the iterator of a vector has given is a front of its items
-pub taken_front : {X A : Type 0} (s : IntoIter X A) (xs : List X) (t : IntoIter X A) → Yields into_iter_steps s xs t → into_iter_items s ≡ xs ++ into_iter_items t
+taken_front : {X A : Type 0} (s : IntoIter X A) (xs : List X) (t : IntoIter X A) → Yields into_iter_steps s xs t → into_iter_items s ≡ xs ++ into_iter_items t
 taken_front s [] t y = ap into_iter_items y
 taken_front s (x ∷ xs) t y = y.1.0 ∙ ap (λ ys. x ∷ ys) (taken_front y.0 xs t y.2)
+
+-- when nothing is left of it, it has given all of them
+pub all_taken : {X A : Type 0} (s : IntoIter X A) (items xs : List X) (t : IntoIter X A) → into_iter_items s ≡ items → Yields into_iter_steps s xs t → t.rest.len ≡ 0 → xs ≡ items
+all_taken {X} s items xs t begun y none =
+    sym (append-nil xs) ∙ sym (ap (λ (l : List X). xs ++ l) (nil_from_length _ (sym t.rest.ok.0 ∙ none))) ∙ sym (taken_front s xs t y) ∙ begun
 
 told_before : (p : PlaceParts) (prints more : List RangePrint) (asks others : List RangeAsk) → IsTold p prints asks → IsTold p (prints ++ more) (asks ++ others)
 told_before p prints more asks others (inl it) = inl (it.0, (IsAmong-append_left it.0 prints more it.1.0, it.1.1))
@@ -29,15 +34,22 @@ pursued_more seed own prints more asks others before it all last =
     (All-weaker (IsPursued seed own prints asks) (IsPursued seed own (prints ++ more) (asks ++ others)) (λ (one : RangePrint) pursued unequal p inside. told_before p prints more asks others (pursued unequal p inside)) before all)
     (λ unequal p inside. told_behind p prints more asks others (last unequal p inside))
 
+-- what holds of all and of one more
+all_parts : {X : Type 0} (P : X → Type 0) (before : List X) (it : X) → All P (before ++ it ∷ []) → All P before × P it
+all_parts P before it all =
+    let every = before ++ it ∷ [] in (
+      All-same P before (take (length before) every) (sym (take_at before (it ∷ []) (length before) refl)) (All-take P (length before) every all),
+      All-head P it [] (All-same P (it ∷ []) (drop (length before) every) (sym (drop_at before (it ∷ []) (length before) refl)) (All-drop P (length before) every all)),
+    )
+
 -- nothing was told where all prints agreed, and nothing is told if one more agrees
 pub agreed_more : (P : RangePrint → Type 0) (prints more : List RangePrint) (asks others : List RangeAsk) (before : List RangePrint) (it : RangePrint)
     → (All P before → (prints ≡ []) × (asks ≡ [])) → (P it → (more ≡ []) × (others ≡ []))
     → All P (before ++ it ∷ []) → (prints ++ more ≡ []) × (asks ++ others ≡ [])
 agreed_more P prints more asks others before it was is all =
-    let every = before ++ it ∷ [] in
-    let first = was (All-same P before (take (length before) every) (sym (take_at before (it ∷ []) (length before) refl)) (All-take P (length before) every all)) in
-    let behind = All-same P (it ∷ []) (drop (length before) every) (sym (drop_at before (it ∷ []) (length before) refl)) (All-drop P (length before) every all) in
-    let last = is (All-head P it [] behind) in
+    let parts = all_parts P before it all in
+    let first = was parts.0 in
+    let last = is parts.1 in
     (rw (first.0, last.0) refl, rw (first.1, last.1) refl)
 
 -- the same where more is asked for
@@ -69,36 +81,33 @@ stays_more seed own prints more asks others before it was is p told = elim (told
   | inr second ↦ let one = is p second in (one.0, (IsAmong-append_right one.0 before (it ∷ []) one.1.0, one.1.1))
 ]
 
--- an ask that is made for one of a peer asks for its range
-back_asked : (own : VersionMap) (asks : List RangeAsk) (p : PlaceParts) (it : RangeAsk) → IsAmong it (asks_back own asks) → is_within it.range p ≡ true → IsAskedAt asks p
-back_asked own [] p it among here = absurd among
-back_asked own (ask ∷ asks) p it among here = by (λ later. let one = back_asked own asks p it later here in (one.0, (inr one.1.0, one.1.1))) (knows_more own ask.versions) refl
-  where
-    -- what is asked back for the others, where this one does or doesn't tell of something newer
-    kept : Bool → List RangeAsk
-    kept b = map (λ (a : RangeAsk). own_ask (finmap.entries own) a.range) (cond b (ask ∷ filter (λ (a : RangeAsk). knows_more own a.versions) asks) (filter (λ (a : RangeAsk). knows_more own a.versions) asks))
-
-    by : (IsAmong it (asks_back own asks) → IsAskedAt (ask ∷ asks) p) → (b : Bool) → knows_more own ask.versions ≡ b → IsAskedAt (ask ∷ asks) p
-    by further true e = elim (subst (λ (b : Bool). IsAmong it (kept b)) e among) [
-      | inl same ↦ (ask, (inl refl, ap (λ (a : RangeAsk). is_within a.range p) same ∙ here))
-      | inr later ↦ further later
-    ]
-    by further false e = further (subst (λ (b : Bool). IsAmong it (kept b)) e among)
-
--- with asks back something is told only of places in ranges whose prints are unequal, or that are asked for
-pub stays_wider : (seed : ℕ) (own : VersionMap) (told prints : List RangePrint) (asks theirs : List RangeAsk) → StaysUnequal seed (finmap.entries own) told prints asks
-    → (p : PlaceParts) → IsTold p prints (asks ++ asks_back own theirs) → IsUnequalAt seed (finmap.entries own) told p ⊎ IsAskedAt theirs p
-stays_wider seed own told prints asks theirs stays p (inl it) = inl (stays p (inl it))
-stays_wider seed own told prints asks theirs stays p (inr it) = elim (IsAmong-append_cases it.0 asks (asks_back own theirs) it.1.0) [
+-- with asks back something is told only of places in ranges whose prints are unequal, or of which an ask tells something newer
+pub stays_wider : (seed : ℕ) (own : VersionMap) (told prints : List RangePrint) (asks back theirs : List RangeAsk) → StaysUnequal seed (finmap.entries own) told prints asks
+    → ((p : PlaceParts) → IsAskedAt back p → IsNewerAt own theirs p) → (p : PlaceParts) → IsTold p prints (asks ++ back) → IsUnequalAt seed (finmap.entries own) told p ⊎ IsNewerAt own theirs p
+stays_wider seed own told prints asks back theirs stays newer p (inl it) = inl (stays p (inl it))
+stays_wider seed own told prints asks back theirs stays newer p (inr it) = elim (IsAmong-append_cases it.0 asks back it.1.0) [
   | inl first ↦ inl (stays p (inr (it.0, (first, it.1.1))))
-  | inr second ↦ inr (back_asked own theirs p it.0 second it.1.1)
+  | inr second ↦ inr (newer p (it.0, (second, it.1.1)))
 ]
 
--- asks that are made for those of a peer are own
-own_asks : (own : List (PlaceParts × Version)) (asks : List RangeAsk) → All (IsOwnAsk own) (map (λ (ask : RangeAsk). own_ask own ask.range) asks)
-own_asks own [] k d lt = absurd (omega arith)
-own_asks own (ask ∷ asks) zero d lt = refl
-own_asks own (ask ∷ asks) (suc k) d lt = own_asks own asks k d (omega arith)
+-- what is asked back of more is asked back with what was asked before
+pub asked_behind : (own : VersionMap) (asks back theirs : List RangeAsk) → All (IsAskedBack own back) theirs → All (IsAskedBack own (asks ++ back)) theirs
+asked_behind own asks back theirs all =
+    All-weaker (IsAskedBack own back) (IsAskedBack own (asks ++ back)) (λ (ask : RangeAsk) is more p here. let it = is more p here in (it.0, (IsAmong-append_right it.0 asks back it.1.0, it.1.1))) theirs all
 
-pub backs_own : (own : VersionMap) (asks : List RangeAsk) → All (IsOwnAsk (finmap.entries own)) (asks_back own asks)
-backs_own own asks = own_asks (finmap.entries own) (filter (λ (ask : RangeAsk). knows_more own ask.versions) asks)
+-- one more ask
+pub all_back : (own : VersionMap) (back more before : List RangeAsk) (ask : RangeAsk) → All (IsAskedBack own back) before → IsAskedBack own more ask → All (IsAskedBack own (back ++ more)) (before ++ ask ∷ [])
+all_back own back more before ask all last =
+    All-push (IsAskedBack own (back ++ more)) before ask
+    (All-weaker (IsAskedBack own back) (IsAskedBack own (back ++ more)) (λ (one : RangeAsk) is newer p here. let it = is newer p here in (it.0, (IsAmong-append_left it.0 back more it.1.0, it.1.1))) before all)
+    (λ newer p here. let it = last newer p here in (it.0, (IsAmong-append_right it.0 back more it.1.0, it.1.1)))
+
+pub newer_more : (own : VersionMap) (back more before : List RangeAsk) (ask : RangeAsk) → ((p : PlaceParts) → IsAskedAt back p → IsNewerAt own before p) → ((p : PlaceParts) → IsAskedAt more p → IsNewerAt own (ask ∷ []) p)
+    → (p : PlaceParts) → IsAskedAt (back ++ more) p → IsNewerAt own (before ++ ask ∷ []) p
+newer_more own back more before ask was is p it = elim (IsAmong-append_cases it.0 back more it.1.0) [
+  | inl first ↦ let one = was p (it.0, (first, it.1.1)) in (one.0, (IsAmong-append_left one.0 before (ask ∷ []) one.1.0, one.1.1))
+  | inr second ↦ let one = is p (it.0, (second, it.1.1)) in (one.0, (IsAmong-append_right one.0 before (ask ∷ []) one.1.0, one.1.1))
+]
+
+pub none_more : (P : RangeAsk → Type 0) (back more before : List RangeAsk) (ask : RangeAsk) → (All P before → back ≡ []) → (P ask → more ≡ []) → All P (before ++ ask ∷ []) → back ++ more ≡ []
+none_more P back more before ask was is all = let parts = all_parts P before ask all in rw (was parts.0, is parts.1) refl

@@ -2,16 +2,10 @@
 use Rattle.std.proofs.Common.{◌==◌, ◌∷◌, ◌≡◌, ◌≢◌, ◌⊎◌}
 use Rattle.std.specs.FinMap as finmap
 use Rattle.exchange_session.proofs.Prelude.{[], All, All-cons, ap, arith, below_antisym, below_refl, below_trans, Bool, Decides, Decides-eqb, digest_of, Entry, EntryMap, Equal, everything, false, find, find-those, get-digest_of, get-join, Greater, inl, inr, IsAmong, IsBelow, IsStoreBelow, is_within, join, larger, larger-least, larger-right, Less, List, map, None, Option, option_map, Ordering, place_cmp, place_cmp-IsAntisymmetric, place_cmp_total, PlaceParts, print, refl, same_store, Some, subst, suc, sym, tied_itself, true, Version, version_cmp, version_cmp-IsAntisymmetric, version_cmp_total, within, zero, ℕ, ◌∙◌, versions_of}
-use Rattle.exchange_session.proofs.Minding.{minded_by_ask, piece_below}
+use Rattle.exchange_session.proofs.Minding.{minded_by_ask, of_all, piece_below}
 use Rattle.exchange_session.proofs.Taking.{joined_above}
 use Rattle.exchange_session.specs.{Answered.{piece_for}, Joined.{joined}, Standing.{AreToldApartIn, IsMinded, OpeningsStand, QuietEnds, RepliesStand, Said}, Told.{IsOwnAsk, IsOwnPrint, IsPursued, own_print}}
 use Rattle.exchange_session.specs.declared.messages.{RangeAsk.{RangeAsk}, RangePrint.{RangePrint}}
-
--- what is among some has what all of them have
-of_all : {X : Type 0} (P : X → Type 0) (x : X) (xs : List X) → IsAmong x xs → All P xs → P x
-of_all P x [] among all = absurd among
-of_all P x (y ∷ xs) (inl is) all = subst P is (all 0 x (omega arith))
-of_all P x (y ∷ xs) (inr among) all = of_all P x xs among (λ k d lt. all (suc k) d (omega arith))
 
 -- a store that takes pieces below another one
 joined_below : (s t : EntryMap) (p : PlaceParts) (pieces : List EntryMap) → All (λ (q : EntryMap). IsStoreBelow q t) pieces → IsBelow (finmap.get s p) (finmap.get t p) → IsBelow (finmap.get (joined s pieces) p) (finmap.get t p)

@@ -23,7 +23,3 @@ piece_for s ask = cut s ask.versions (Some (places_within ask.range (versions_of
 -- the ask for a range that tells of these versions
 abbrev pub own_ask : List (PlaceParts × Version) → Range → RangeAsk
 own_ask own r = record { range = r; versions = finmap.from_entries {R = place_cmp} (within r own) }
-
--- the asks that are made for those of a peer that tell of something newer
-abbrev pub asks_back : VersionMap → List RangeAsk → List RangeAsk
-asks_back own asks = map (λ ask. own_ask (finmap.entries own) ask.range) (filter (λ ask. knows_more own ask.versions) asks)

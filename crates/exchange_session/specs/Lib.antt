@@ -1,6 +1,6 @@
 pub mod Prelude
-pub mod Told
 pub mod Answered
+pub mod Told
 pub mod Joined
 pub mod Events
 pub mod Standing

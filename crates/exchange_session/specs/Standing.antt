@@ -2,7 +2,7 @@
 -- Source: this project's own.
 use Rattle.std.proofs.Common.{◌∷◌, ◌≡◌, ◌≢◌, ◌⊎◌}
 use Rattle.std.specs.FinMap as finmap
-use Rattle.exchange_session.specs.{Answered.{asks_back, piece_for}, Joined.{EndsWith, joined}, Told.{IsOwnAsk, IsOwnPrint, IsPursued, IsTold, own_print}}
+use Rattle.exchange_session.specs.{Answered.{piece_for}, Joined.{joined}, Told.{IsAskedBack, IsOwnAsk, IsOwnPrint, IsPursued, IsTold, own_print}}
 use Rattle.exchange_session.specs.Prelude.{[], All, digest_of, Entry, EntryMap, everything, IsAmong, IsBelow, IsStoreBelow, List, map, PlaceParts, print, Some, within, ℕ, versions_of}
 use Rattle.exchange_session.specs.declared.messages.{RangeAsk.{RangeAsk}, RangePrint.{RangePrint}}
 
@@ -39,7 +39,7 @@ pub record IsReply (seed : ℕ) (own : EntryMap) (said reply : Said) : Type 0 wh
   pub asks : All (IsOwnAsk (versions_of own)) reply.asks
   pub pieces : reply.pieces ≡ map (piece_for own) said.asks
   pub pursued : All (IsPursued seed (versions_of own) reply.prints reply.asks) said.prints
-  pub asked_back : EndsWith reply.asks (asks_back (digest_of own) said.asks)
+  pub asked_back : All (IsAskedBack (digest_of own) reply.asks) said.asks
 
 -- what a side says first: the print of all that it holds
 abbrev pub opening : ℕ → EntryMap → Said

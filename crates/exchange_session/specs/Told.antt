@@ -2,7 +2,8 @@
 -- Source: this project's own, after Meyer 2023.
 use Rattle.std.proofs.Common.{◌≡◌, ◌≢◌, ◌⊎◌}
 use Rattle.std.specs.FinMap as finmap
-use Rattle.exchange_session.specs.Prelude.{IsAmong, is_within, List, place_cmp, PlaceParts, print, Range, true, Version, within, ℕ}
+use Rattle.exchange_session.specs.Answered.{knows_more}
+use Rattle.exchange_session.specs.Prelude.{false, IsAmong, is_within, List, place_cmp, PlaceParts, print, Range, true, Version, VersionMap, within, ℕ}
 use Rattle.exchange_session.specs.declared.messages.{RangeAsk.{RangeAsk}, RangePrint.{RangePrint}}
 
 -- the print of these versions in a range
@@ -43,3 +44,15 @@ StaysUnequal seed own told prints asks = (p : PlaceParts) → IsTold p prints as
 -- the place is in a range that is asked for
 abbrev pub IsAskedAt : List RangeAsk → PlaceParts → Type 0
 IsAskedAt asks p = (it : RangeAsk) × (IsAmong it asks × (is_within it.range p ≡ true))
+
+-- the place is in a range that is asked for by an ask that tells of something newer than these versions
+abbrev pub IsNewerAt : VersionMap → List RangeAsk → PlaceParts → Type 0
+IsNewerAt own asks p = (it : RangeAsk) × (IsAmong it asks × ((knows_more own it.versions ≡ true) × (is_within it.range p ≡ true)))
+
+-- an ask that tells of something newer than these versions is asked back: each place of its range is asked for
+abbrev pub IsAskedBack : VersionMap → List RangeAsk → RangeAsk → Type 0
+IsAskedBack own told ask = knows_more own ask.versions ≡ true → (p : PlaceParts) → is_within ask.range p ≡ true → IsAskedAt told p
+
+-- an ask tells of nothing newer than these versions
+abbrev pub IsNothingNew : VersionMap → RangeAsk → Type 0
+IsNothingNew own ask = knows_more own ask.versions ≡ false

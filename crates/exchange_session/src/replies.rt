@@ -4,11 +4,11 @@ ghost use Rattle.std.specs.FinMap as finmap;
 ghost use Rattle.load_places.specs.Places.{PlaceParts};
 ghost use Rattle.edit_sums.specs.Sums.{IsStoreBelow, join};
 ghost use Rattle.world_law.specs.Cuts.{digest_of};
-ghost use Rattle.exchange_session.specs.{Answered.{asks_back, piece_for}, Joined.{EndsWith, joined}, Told.{IsAskedAt, IsOwnAsk, IsOwnPrint, IsPursued, IsTold, IsUnequalAt, own_print}};
+ghost use Rattle.exchange_session.specs.{Answered.{piece_for}, Joined.{joined}, Told.{IsAskedBack, IsNewerAt, IsNothingNew, IsOwnAsk, IsOwnPrint, IsPursued, IsTold, IsUnequalAt, own_print}};
 ghost use Rattle.range_prints.specs.Ranges.{everything, versions_of};
 ghost use Rattle.exchange_session.specs.declared.messages.RangeAsk.{RangeAsk};
 
-use crate::asking::{ask_back, pieces_for};
+use crate::asking::{asks_back, pieces_for};
 use crate::comparing::{compare_all, prints_of};
 use crate::messages::Message;
 use delta_pieces::{Piece, take};
@@ -45,7 +45,7 @@ pub fn take_all(node: &mut Replica, pieces: Vec<Piece>) -> Result<(), AllocError
 ///
 /// Where a print isn't its own, it asks for the range if few of its versions are in it, and else cuts it into parts and
 /// tells their prints. It answers each ask with a piece of what it has newer, or what isn't told of, at its places in the
-/// range; and if the ask tells of something newer, it asks for the range itself. Where all prints are its own, it tells none:
+/// range; and if the ask tells of something newer, it asks for the range itself, in parts of at most a thousand versions. Where all prints are its own, it tells none:
 /// so between equal replicas the reply to the first message ends the exchange. Every piece is a cut for an ask that was made,
 /// and every ask is told of what the replica holds: so whatever is lost, repeated or cut off, what comes to a replica is what
 /// pieces of a world bring.
@@ -66,11 +66,12 @@ pub fn reply(
     ensures pieces { IfOk result (λ told. told.pieces.items ≡ map (piece_for node.new.store) message.asks.items) }
     ensures pursued { IfOk result (λ told. All (IsPursued seed (versions_of node.new.store) told.prints.items told.asks.items)
         message.prints.items) }
-    ensures asked_back { IfOk result (λ told. EndsWith told.asks.items (asks_back (digest_of node.new.store) message.asks.items)) }
-    ensures agreed { IfOk result (λ told. All (IsOwnPrint seed (versions_of node.new.store)) message.prints.items →
-        (told.prints.items ≡ []) × (told.asks.items ≡ asks_back (digest_of node.new.store) message.asks.items)) }
+    ensures asked_back { IfOk result (λ told. All (IsAskedBack (digest_of node.new.store) told.asks.items) message.asks.items) }
+    ensures agreed { IfOk result (λ told. All (IsOwnPrint seed (versions_of node.new.store)) message.prints.items → told.prints.items ≡ []) }
+    ensures quiet { IfOk result (λ told. All (IsOwnPrint seed (versions_of node.new.store)) message.prints.items →
+        All (IsNothingNew (digest_of node.new.store)) message.asks.items → told.asks.items ≡ []) }
     ensures stays { IfOk result (λ told. (p : PlaceParts) → IsTold p told.prints.items told.asks.items →
-        IsUnequalAt seed (versions_of node.new.store) message.prints.items p ⊎ IsAskedAt message.asks.items p) }
+        IsUnequalAt seed (versions_of node.new.store) message.prints.items p ⊎ IsNewerAt (digest_of node.new.store) message.asks.items p) }
 {
     let (prints, asks, pieces) = message.into_parts();
     take_all(node, pieces)?;
@@ -78,7 +79,8 @@ pub fn reply(
     let compared = compare_all(alloc, seed, &own, prints)?;
     let (prints, mut told) = compared.into_parts();
     let pieces = pieces_for(alloc, node, &own, &asks)?;
-    ask_back(alloc, node, &own, asks, &mut told)?;
+    let mut back = asks_back(alloc, node, &own, asks)?;
+    told.append(&mut back)?;
     Ok(Message {
         prints,
         asks: told,

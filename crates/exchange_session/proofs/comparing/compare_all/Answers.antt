@@ -1,6 +1,5 @@
-use Rattle.std.proofs.Common.{◌++◌, ◌≡◌}
-use Rattle.exchange_session.proofs.Prelude.{All-append, ap, append-nil, List, nil_from_length, subst, sym, ◌∙◌}
-use Rattle.exchange_session.proofs.Pursuing.{agreed_more, pursued_more, stays_more, taken_front}
+use Rattle.exchange_session.proofs.Prelude.{All-append, List, subst}
+use Rattle.exchange_session.proofs.Pursuing.{agreed_more, all_taken, pursued_more, stays_more}
 use Rattle.exchange_session.specs.Told.{IsOwnAsk, IsOwnPrint, StaysUnequal}
 use Rattle.exchange_session.specs.declared.messages.RangePrint.{RangePrint}
 use Rattle.exchange_session.proofs.comparing.compare_all.Goals as goal
@@ -22,8 +21,5 @@ loop-print-preserved c =
 
 pub returns-clause-stays : goal.returns-clause-stays
 returns-clause-stays c =
-    let begun = c.into_iter-print-iterator.ensures.into_iter_gives in
-    let front = taken_front c.into_iter-print-iterator.result c.loop-print.yielded c.loop-print.print-iterator c.loop-print.yielded_by in
-    let none = nil_from_length _ (sym c.loop-print.print-iterator.rest.ok.0 ∙ c.in-None.ensures.steps.0) in
-    let all : c.loop-print.yielded ≡ c.args.told.items = sym (append-nil c.loop-print.yielded) ∙ sym (ap (λ (l : List RangePrint). c.loop-print.yielded ++ l) none) ∙ sym front ∙ begun.0 in
+    let all = all_taken c.into_iter-print-iterator.result c.args.told.items c.loop-print.yielded c.loop-print.print-iterator c.into_iter-print-iterator.ensures.into_iter_gives.0 c.loop-print.yielded_by c.in-None.ensures.steps.0 in
     subst (λ (l : List RangePrint). StaysUnequal c.args.seed c.args.own.now l c.loop-print.all.prints.items c.loop-print.all.asks.items) all c.loop-print.invariant.stays
