@@ -2,3 +2,4 @@ pub mod Loops
 pub mod Taking
 pub mod Whole
 pub mod Inserting
+pub mod Packing

@@ -8,3 +8,4 @@ pub mod Laws
 pub mod ChainLaws
 pub mod PartLaws
 pub mod FrameLaws
+pub mod Cutting

@@ -9,9 +9,11 @@
 //!
 //! - `frames`, `peers`: the values. `Hello` stands in a side's first frame.
 //! - `frame_to_bytes`, `frame_from_bytes`: whole frames. `frames_are_one_to_one` is their law.
+//! - `frames_of`: a message, cut into frames.
 //! - `DecodeFault` and `SpellingFault`: why bytes can't be read.
 #![tactic(auto)]
 
+mod cutting;
 mod frames;
 mod laws;
 mod peers;
@@ -20,6 +22,7 @@ mod spelled;
 mod writing;
 
 pub use byte_fields::{DecodeFault, SpellingFault};
+pub use cutting::{FRAME_LIMIT, frames_of};
 pub use frames::{Frame, Hello};
 pub use laws::frames_are_one_to_one;
 pub use peers::{Peer, Peers};

@@ -1,0 +1,8 @@
+use Rattle.std.proofs.Common.{◌≡◌, ◌+◌, ◌*◌, length, min, ap, subst, ◌∙◌}
+use Rattle.exchange_bytes.specs.Cutting.{ask_weight, IsHeavier}
+use Rattle.exchange_bytes.proofs.cutting.Packing.with_ask.Goals as goal
+
+pub returns-clause-heavier : goal.returns-clause-heavier
+returns-clause-heavier c =
+    let weight : 1200 + 600 * c.min.result ≡ ask_weight c.args.ask = ap (λ k. 1200 + 600 * k) (c.min.ensures ∙ ap (λ vs. min (length vs) 1498) c.versions.ensures.versions) in
+    subst (λ k. IsHeavier c.args.self c.in_ok-open.open k) weight c.in_ok-open.ensures.heavier

@@ -1,0 +1,10 @@
+use Rattle.std.proofs.Common.{[]}
+use Rattle.std.specs.FinMap as finmap
+use Rattle.exchange_bytes.specs.Cutting.{ask_weight, GrowsBy, SaysAlso, total}
+use Rattle.exchange_bytes.proofs.cutting.Packing.with_asks.Given as goal
+
+abbrev pub invariant-loop-ask : goal.invariant-loop-ask
+invariant-loop-ask l = record {
+  says : SaysAlso l.fn.self l.open [] l.yielded finmap.empty;
+  heavier : GrowsBy l.fn.self l.open (total ask_weight l.yielded);
+}

@@ -1,0 +1,10 @@
+use Rattle.std.proofs.Common.{refl, subst}
+use Rattle.exchange_bytes.specs.Cutting.{IsHeavier}
+use Rattle.exchange_bytes.proofs.Packing.{edited_says}
+use Rattle.exchange_bytes.proofs.cutting.Packing.with_entry.Goals as goal
+
+pub returns-clause-says : goal.returns-clause-says
+returns-clause-says c = edited_says c.args.self c.in_ok-open.open _ c.args.edit c.in_ok-open.ensures.says refl refl refl refl c.in_ok-join_edit.ensures.ok
+
+pub returns-clause-heavier : goal.returns-clause-heavier
+returns-clause-heavier c = subst (λ k. IsHeavier c.args.self c.in_ok-open.open k) c.weight_of.ensures.weight c.in_ok-open.ensures.heavier
