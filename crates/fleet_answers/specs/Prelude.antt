@@ -1,6 +1,6 @@
 -- What the definitions use of std and of the crates below.
 pub use Rattle.delta_gossip.specs.{Convergence.{ArePutApart}, Prelude.{AreSameEdits, Event, IsStoreBelow, IsSumOf, sum_of, Took}, Shows.{NodeHolds, took_after}}
-pub use Rattle.implied_names.specs.BuiltIn.{perpetual_units}
+pub use Rattle.unit_values.specs.BuiltIn.{perpetual_units}
 pub use Rattle.inverse_deps.specs.{Dependencies.{IsEdgeAmong}, EdgeLaws.{one_list_by_kind}, Edges.{AreEdgesFrom, AreEdgesOf}}
 pub use Rattle.name_closure.specs.{DistanceLaws.{one_list_of_distances}, LimitLaws.{over-closure}, SourceLaws.{AreSameSuccessors, same_distance}}
 pub use Rattle.parallel_load.specs.{HostLaws.{hosts_without_places_are_as_large, hosts_without_places_load_alike, loaded_for, same_units_make_the_load}, LoadLaws.{one_load}, Prelude.{DependencyList, DepKind, EntryMap, Host, host_view_of, HostViewMap, IsAmong, IsUnit, level_for, link_targets_decide, LoadedUnit, Name, name_cmp, of_fleet, of_host, PlaceParts, Profile, SameLeads, SameWords, ShowsNothing, Viewer, viewer_of, visible_at}, TouchedLaws.{touched_words_decide}, declared.loaded.NameLoad.{NameLoad, TheVariants.{Alias as OfAlias, Unit as OfUnit}}, Loads.{load_at, main_part, unit_part, units_in}, PairLaws.{find_among}, Universe.{asked_by, IsSource, IsTooLarge, LeadsTo}, UniverseLaws.{all_among, units_are_their_own_mains}}

@@ -1,7 +1,7 @@
 -- Lists that grow, step by step or element by element.
 use Rattle.std.proofs.Common.{◌++◌, ◌+◌, ◌<◌, ◌∷◌, ◌≡◌}
 use Rattle.implied_names.proofs.Prelude.{[], ap, append_assoc, get_or, length, List, sym, take, ℕ, ◌∙◌}
-use Rattle.implied_names.proofs.Values.{one_more}
+use Rattle.unit_values.specs.ValueLaws.{one_more}
 
 -- one part and then another
 pub behind : {X : Type 0} (a b c : List X) (p q : List X) → b ≡ a ++ p → c ≡ b ++ q → c ≡ a ++ (p ++ q)

@@ -1,5 +1,3 @@
 pub mod Prelude
-mod Changed
 mod Growth
 mod Texts
-mod Values

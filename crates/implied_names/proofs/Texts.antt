@@ -1,7 +1,7 @@
 -- Components, and which texts write paths.
 use Rattle.std.proofs.Common.{◌&&◌, ◌≡◌}
 use Rattle.implied_names.proofs.Prelude.{and-false, ap, Bool, Bor, codes, components, cond, false, is_up, joined, List, list_any, map, nat_eq, None, not, Some, starts_with, sym, Text, true, ◌∙◌}
-use Rattle.implied_names.proofs.Values.{any_borrowed}
+use Rattle.unit_values.specs.ValueLaws.{any_borrowed}
 use Rattle.implied_names.specs.Paths.{path_of}
 
 -- whether components go up, as it was found on borrowed ones

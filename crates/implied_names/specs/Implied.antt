@@ -2,8 +2,9 @@
 -- comes after.
 -- Source: systemd.unit(5), "Implicit Dependencies", "Default Dependencies", "RequiresMountsFor="; systemd.exec(5).
 use Rattle.std.proofs.Common.{if◌then◌else◌, ◌&&◌, ◌++◌, ◌==◌, ◌∷◌}
-use Rattle.implied_names.specs.Prelude.{[], Automount, before_first, Bool, codes, DepKind, drop, filter_map, flat_map, in_byte_order, is_empty, Kind, kind, List, map, Mount, Name, nat_eq, None, not, Option, option_and_then, Path, Socket, Some, starts_with, Swap, Text, Timer, unwrap_or, ℕ}
-use Rattle.implied_names.specs.{BuiltIn.{is_perpetual}, declared.{roles.Role.{Role}, sources.Source.{Source}, tables.Ways.{Ways}}, Facts.{Facts, last, last_boolean, values_in, values_of, words, words_in, yes}, Paths.{above, is_at_or_below, mounts_on, path_of, place}, Roles.{has_role, is_bind, is_network, is_private, is_process, takes, what}, Sources.{names_from}, Tables.{default_table, implied_table, kinds_of}}
+use Rattle.implied_names.specs.Prelude.{[], Automount, before_first, Bool, codes, DepKind, drop, filter_map, flat_map, in_byte_order, is_empty, Kind, kind, List, map, Mount, Name, nat_eq, None, not, Option, option_and_then, Path, Socket, Some, starts_with, Swap, Text, Timer, ℕ}
+use Rattle.unit_values.specs.{Defaults.{has_defaults}, Facts.{Facts, last, values_of, words, words_in, yes}}
+use Rattle.implied_names.specs.{declared.{roles.Role.{Role}, sources.Source.{Source}, tables.Ways.{Ways}}, Paths.{above, is_at_or_below, mounts_on, path_of, place}, Roles.{has_role, is_bind, is_network, is_private, is_process, takes, what}, Sources.{names_from}, Tables.{default_table, implied_table, kinds_of}}
 
 -- ---- names
 
@@ -14,10 +15,6 @@ by_kinds kinds name = map (λ kind. (kind, name)) kinds
 -- what an entry of a table gives a unit
 abbrev pub given_by : Facts → Role × Ways × Source → List (DepKind × Name)
 given_by f entry = if has_role f entry.0 then flat_map (by_kinds (kinds_of entry.1)) (names_from f entry.2) else []
-
--- The unit has default dependencies: what it says, and else not if it is perpetual.
-abbrev pub has_defaults : Facts → Bool
-has_defaults f = unwrap_or (last_boolean (values_in f.rows (codes "Unit") (codes "DefaultDependencies"))) (not (is_perpetual f.unit))
 
 abbrev pub default_names : Facts → List (DepKind × Name)
 default_names f = if has_defaults f then flat_map (given_by f) default_table else []

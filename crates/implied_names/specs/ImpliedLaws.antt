@@ -2,7 +2,8 @@
 -- Source: systemd.service(5), "Default Dependencies"; systemd.timer(5), systemd.path(5), systemd.socket(5).
 use Rattle.std.proofs.Common.{if◌then◌else◌, ◌++◌, ◌||◌, ◌∷◌, ◌≡◌, ◌⊎◌}
 use Rattle.implied_names.specs.Prelude.{[], After, AllByRecursion, ap, append-nil, argument, Before, BindsTo, Bool, codes, cond, cons_option, Conflicts, DepKind, false, filter, filter_map, flat_map, for_unit, inl, inr, InSlice, Instance, is_name, IsAmong, IsAmong-append_cases, IsAmong-append_left, IsAmong-append_right, IsName, kind, List, Name, named_at, naming_kinds, None, Option, Plain, refl, Requires, same_Some, Service, shape, Shape, Some, subst, sym, Template, Text, TriggeredBy, Triggers, true, Wants, ◌∙◌}
-use Rattle.implied_names.specs.{BuiltIn.{is_slice, perpetual_units}, declared.{roles.Role.{Role}, sources.Source.{Source}, tables.Ways.{Ways}}, Facts.{Facts, last_of, values_of}, Implied.{by_kinds, default_names, given_by, has_defaults, implied_names}, Roles.{has_role, is_path_unit, is_service, is_socket, is_target, is_timer}, Sources.{activated, named, names_from, names_unit, or_sister, served_service, texts_from}, Tables.{default_table, implied_table, kinds_of}}
+use Rattle.unit_values.specs.{BuiltIn.{is_slice, perpetual_units}, Facts.{Facts, last_of, values_of}, Defaults.{has_defaults}, Named.{named, names_unit, or_sister}}
+use Rattle.implied_names.specs.{declared.{roles.Role.{Role}, sources.Source.{Source}, tables.Ways.{Ways}}, Implied.{by_kinds, default_names, given_by, implied_names}, Roles.{has_role, is_path_unit, is_service, is_socket, is_target, is_timer}, Sources.{activated, names_from, served_service, texts_from}, Tables.{default_table, implied_table, kinds_of}}
 use Rattle.unit_name.specs.{NameLaws.{instance_has_parts}, Names.{is_name_byte, kind_of, name_of}}
 use Rattle.implied_names.specs.declared.roles.Role.TheVariants as role
 use Rattle.implied_names.specs.declared.sources.Source.TheVariants as source

@@ -1,10 +1,7 @@
 pub mod Prelude
-pub mod Facts
-pub mod BuiltIn
 pub mod Paths
 pub mod Roles
 pub mod Sources
 pub mod Tables
 pub mod Implied
-pub mod Additions
 pub mod ImpliedLaws

@@ -3,7 +3,8 @@
 -- systemd.timer(5), systemd.path(5), systemd.slice(5), systemd.target(5).
 use Rattle.std.proofs.Common.{if◌then◌else◌, ◌&&◌, ◌==◌, ◌||◌, ◌∷◌}
 use Rattle.implied_names.specs.Prelude.{[], Automount, before_first, Bool, bytes_eq, codes, drop, false, filter, Kind, kind, List, list_any, map, Mount, Name, nat_eq, None, not, Option, option_and_then, option_map, Path, Service, slice_split, Socket, Some, starts_with, Swap, Target, Text, Timer, true, unwrap_or, ℕ}
-use Rattle.implied_names.specs.{BuiltIn.{is_slice}, declared.roles.Role.{Role}, Facts.{Facts, has, is_one_of, last, last_of, yes}, Paths.{is_at_or_below, is_below, path_of, place}}
+use Rattle.unit_values.specs.{BuiltIn.{is_slice}, Facts.{Facts, has, is_one_of, last, last_of, yes}}
+use Rattle.implied_names.specs.{declared.roles.Role.{Role}, Paths.{is_at_or_below, is_below, path_of, place}}
 use Rattle.implied_names.specs.declared.roles.Role.TheVariants as role
 
 -- ---- types

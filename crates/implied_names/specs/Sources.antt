@@ -2,40 +2,17 @@
 -- Source: systemd.slice(5), systemd.resource-control(5), systemd.service(5), systemd.socket(5), systemd.timer(5),
 -- systemd.path(5), systemd.automount(5), systemd.mount(5), systemd.swap(5); systemd.special(7) for the fixed names.
 use Rattle.std.proofs.Common.{if◌then◌else◌, ◌&&◌, ◌++◌, ◌∷◌}
-use Rattle.implied_names.specs.Prelude.{[], before_last, Bool, bytes_eq, codes, drop, ends_with, escape, false, filter, filter_map, for_unit, Instance, is_name, Kind, kind, List, list_any, Name, nat_eq, None, not, Option, option_and_then, Plain, prefix, Service, shape, Shape, Slice, Some, stem, Template, Text, true, word}
-use Rattle.implied_names.specs.{declared.sources.Source.{Source}, BuiltIn.{is_dash, is_perpetual, is_slice}, Facts.{Facts, last, last_of, values_of, words}, Paths.{is_below, path_of, unit_at}, Roles.{is_extrinsic, is_mount, what}}
+use Rattle.implied_names.specs.Prelude.{[], before_last, Bool, bytes_eq, codes, drop, ends_with, escape, false, filter, filter_map, Instance, kind, List, list_any, Name, nat_eq, None, Option, Plain, prefix, Service, shape, Shape, Slice, Some, stem, Template, Text, true, word}
+use Rattle.implied_names.specs.{declared.sources.Source.{Source}, Paths.{is_below, path_of, unit_at}, Roles.{is_extrinsic, is_mount, what}}
+use Rattle.unit_values.specs.{BuiltIn.{is_dash, is_perpetual, is_slice}, Facts.{Facts, last, last_of, values_of, words}, Named.{first, named, names_unit, or_sister, other_named, sister}}
 use Rattle.implied_names.specs.declared.sources.Source.TheVariants as source
 
--- ---- names
-
--- the unit that a unit means by a text, if it is a name; a template is filled in as in dependencies
-abbrev pub named : Name → Text → Option Name
-named unit text = if is_name text then for_unit unit text else None
-
-abbrev pub is_template : Shape → Bool
-is_template Plain = false
-is_template Template = true
-is_template Instance = false
+-- ---- slices
 
 abbrev pub is_instance : Shape → Bool
 is_instance Plain = false
 is_instance Template = false
 is_instance Instance = true
-
--- the suffix of a type
-abbrev pub suffix_of : Option Kind → Text
-suffix_of None = []
-suffix_of (Some k) = word k
-
--- a text is the name of a unit of a type, and no template's
-abbrev pub names_unit : Kind → Text → Bool
-names_unit k text = is_name text && bytes_eq (suffix_of (kind text)) (word k) && not (is_template (shape text))
-
--- the unit of another type with the same stem
-abbrev pub sister : Text → Name → Text
-sister suffix unit = stem unit ++ 46 ∷ suffix
-
--- ---- slices
 
 -- the slice that a slice is in, which its name begins with
 abbrev pub outer_slice : Name → List Text
@@ -69,24 +46,9 @@ own_journal (Some name) = (codes "systemd-journald@" ++ name ++ codes ".socket")
 abbrev pub is_socket_word : Text → Bool
 is_socket_word word = ends_with nat_eq word (codes ".socket")
 
-abbrev pub or_sister : Text → Name → Option Text → Text
-or_sister suffix unit (Some text) = text
-or_sister suffix unit None = sister suffix unit
-
 -- the service that a socket starts: the last that is set, else its sister
 abbrev pub served_service : Facts → Text
 served_service f = or_sister (codes "service") f.unit (last_of (filter (names_unit Service) (values_of f (codes "Service"))))
-
-abbrev pub unless_itself : Name → Name → Option Name
-unless_itself unit name = if bytes_eq name unit then None else Some name
-
--- another unit that a text names
-abbrev pub other_named : Name → Text → Option Name
-other_named unit text = option_and_then (unless_itself unit) (named unit text)
-
-abbrev pub first : List Text → Option Text
-first [] = None
-first (text ∷ texts) = Some text
 
 -- the unit that a timer or a path starts: the first that is set and isn't itself, else its sister among services
 abbrev pub activated : Facts → Text

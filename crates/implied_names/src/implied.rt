@@ -1,9 +1,10 @@
 //! All that a unit implies.
 ghost use Rattle.std.specs.{List.{filter_map, flat_map}, Prelude.{[], IfOk, OnOk, ◌++◌, ◌∷◌, ◌≡◌}};
-ghost use Rattle.implied_names.specs.Implied.{by_kinds, default_names, given_by, has_defaults as has_defaults_by, implied_names, mounts_of};
-ghost use Rattle.implied_names.specs.{Sources.{found_by, named, names_from}, Tables.{kinds_of}};
+ghost use Rattle.implied_names.specs.Implied.{by_kinds, default_names, given_by, implied_names, mounts_of};
+ghost use Rattle.unit_values.specs.Defaults.{has_defaults as has_defaults_by};
+ghost use Rattle.implied_names.specs.{Sources.{found_by, names_from}, Tables.{kinds_of}};
+ghost use Rattle.unit_values.specs.Named.{named};
 
-use crate::named::named;
 use crate::needed_paths::NeededPaths;
 use crate::roles::Role;
 use crate::sources::Source;
@@ -13,6 +14,7 @@ use plain_values::Items;
 use setting_rules::{DepKind, Row, in_byte_order};
 use std::alloc::{AllocError, Global};
 use unit_name::UnitName;
+use unit_values::named;
 
 // Room for as many names as most units imply.
 const USUAL: usize = 12;

@@ -1,14 +1,14 @@
 //! What a unit is as a mount or a swap (systemd.mount(5), systemd.swap(5)).
 ghost use Rattle.std.specs.{Option.{option_copied}, Prelude.{filter, IfOk, map, ◌≡◌}};
-ghost use Rattle.implied_names.specs.Facts.{last_of};
+ghost use Rattle.unit_values.specs.Facts.{last_of};
 ghost use Rattle.implied_names.specs.Roles.{bare_type, has_quota, has_role, is_bind, is_device_path, is_device_swap, is_early, is_extrinsic, is_local_mount, is_made_mount, is_network, is_network_mount, may_fail, may_have_quota, says_failing, waits_for_device, what};
 ghost use Rattle.implied_names.specs.declared.roles.Role.TheVariants.{BoundToDevice, MemoryMount, NeedingDevice, OnDevice, QuotaMount, Unmounted};
 
-use crate::facts::{is_among, is_one_of};
 use crate::paths::{is_at_or_below, is_below};
 use crate::unit_facts::Facts;
 use std::alloc::{AllocError, Global};
 use unit_name::Kind;
+use unit_values::{is_among, is_one_of};
 
 // Types of file systems that need the network.
 const NETWORK_TYPES: [&[u8]; 18] = [

@@ -3,11 +3,11 @@ ghost use Rattle.std.specs.{List.{slice_split}, Option.{option_and_then, option_
 ghost use Rattle.unit_name.specs.Names.{kind};
 ghost use Rattle.implied_names.specs.{Paths.{path_of, place}, Roles.{is_comma, options_in, what}};
 
-use crate::facts::last_in;
-use crate::paths::{before_first, before_last, path_named, path_of};
+use crate::paths::{path_named, path_of};
 use setting_rules::Row;
 use std::alloc::{AllocError, Global};
 use unit_name::{Kind, UnitName};
+use unit_values::{before_first, before_last, last_in};
 
 /// Returns the options in a text, each without what it is set to.
 pub(crate) fn options_of<'a>(

@@ -1,14 +1,16 @@
 //! The paths that a unit needs: those that it is said to need, those of a process, and those of its type.
 ghost use Rattle.std.specs.{List.{filter_map, flat_map}, Option.{option_map}, Prelude.{[], IfOk, map, OnOk, ◌++◌, ◌∷◌, ◌≡◌}};
 ghost use Rattle.unit_name.specs.Names.{kind};
-ghost use Rattle.implied_names.specs.{Facts.{last, values_of}, Paths.{mounts_on, place}, Roles.{what}};
+ghost use Rattle.unit_values.specs.Facts.{last, values_of};
+ghost use Rattle.implied_names.specs.{Paths.{mounts_on, place}, Roles.{what}};
 ghost use Rattle.implied_names.specs.Implied.{as_run, directories, directory_in, folder_above, mounted_paths, option_list, own_directories, paths_in, paths_of, private_paths, process_paths, runs, said_path, socket_paths, timer_paths, type_paths, unless_private, watched_paths, working_paths};
 
-use crate::paths::{above, add_mounts, before_first, between, is_at_or_below, path_of};
+use crate::paths::{above, add_mounts, is_at_or_below, path_of};
 use crate::unit_facts::Facts;
 use std::alloc::{AllocError, Global};
 use std::marker::Model;
 use unit_name::{Kind, UnitName};
+use unit_values::{before_first, between};
 
 /// Paths that a unit needs. Contracts see a list of them.
 #[derive(Drop)]

@@ -1,10 +1,11 @@
 //! Paths, and the units that are named after them. A path has a slash before each component, so the root is empty.
-ghost use Rattle.std.specs.{List.{before_first, before_last, list_any, suffix_len}, Option.{option_map}, Prelude.{[], codes, filter, IfOk, length, map, not, OnOk, position, ◌++◌, ◌-◌, ◌==◌, ◌∷◌, ◌≡◌, ◌≤◌}};
+ghost use Rattle.std.specs.{List.{list_any}, Option.{option_map}, Prelude.{[], codes, filter, IfOk, map, OnOk, ◌++◌, ◌∷◌, ◌≡◌}};
 ghost use Rattle.unit_name.specs.Names.{is_name};
 ghost use Rattle.implied_names.specs.Paths.{above, components, counts, is_at_or_below, is_below, is_slash, is_up, joined, mounts_on, path_named, path_of, path_spelled, stem_for, unit_at};
 
 use std::alloc::{AllocError, Global};
 use unit_name::{NameFault, UnitName, escape, unescape};
+use unit_values::before_last;
 
 /// Returns the path that a text writes: its components without those that are empty or a dot. `None` where it doesn't
 /// begin with a slash, or goes up by two dots.
@@ -88,39 +89,6 @@ pub(crate) fn above(path: &[u8]) -> &[u8]
     before_last(path, b'/')
 }
 
-/// Returns the bytes before the last `mark`; nothing if there is none.
-pub(crate) fn before_last(bytes: &[u8], mark: u8) -> &[u8]
-    ensures part { result.now ≡ before_last (λ b. b == mark) bytes.now }
-{
-    let end = place_after_last(bytes, mark);
-    &bytes[..end.saturating_sub(1)]
-}
-
-// Returns the index after the last `mark`, or 0.
-fn place_after_last(bytes: &[u8], mark: u8) -> usize
-    ensures within { result ≤ length bytes.now }
-    ensures place { result ≡ length bytes.now - suffix_len (λ b. not (b == mark)) bytes.now }
-{
-    let mut end = bytes.len();
-    while end > 0 && bytes[end - 1] != mark {
-        end -= 1;
-    }
-    end
-}
-
-/// Returns the bytes before the first `mark`; all if there is none.
-pub(crate) fn before_first(bytes: &[u8], mark: u8) -> &[u8]
-    ensures part { result.now ≡ before_first (λ b. b == mark) bytes.now }
-{
-    &bytes[..first_place(bytes, mark).unwrap_or(bytes.len())]
-}
-
-fn first_place(bytes: &[u8], mark: u8) -> Option<usize>
-    ensures place { result ≡ position (λ b. b == mark) bytes.now }
-{
-    bytes.iter().position(|byte| *byte == mark)
-}
-
 // Returns the stem of the units that are named after a path.
 fn stem_for(alloc: Global, path: &[u8]) -> Result<Vec<u8>, AllocError>
     ensures stem { IfOk result (λ stem. stem.items ≡ stem_for path.now) }
@@ -196,19 +164,4 @@ fn add_mount(alloc: Global, names: &mut Vec<UnitName>, path: &[u8]) -> Result<()
         Err(NameFault::Memory) => Err(AllocError),
         Err(_) => Ok(()),
     }
-}
-
-/// Returns three texts, one behind the other.
-pub(crate) fn between(
-    alloc: Global,
-    before: &[u8],
-    text: &[u8],
-    after: &[u8],
-) -> Result<Vec<u8>, AllocError>
-    ensures text { IfOk result (λ whole. whole.items ≡ before.now ++ text.now ++ after.now) }
-{
-    let mut whole = Vec::from_slice(alloc, before)?;
-    whole.extend_from_slice(text)?;
-    whole.extend_from_slice(after)?;
-    Ok(whole)
 }

@@ -1,14 +1,14 @@
 //! What a unit is as a process: what systemd.exec(5) makes of its settings.
 ghost use Rattle.std.specs.{Option.{option_copied}, Prelude.{codes, IfOk, ◌≡◌}};
-ghost use Rattle.implied_names.specs.Facts.{last};
+ghost use Rattle.unit_values.specs.Facts.{last};
 ghost use Rattle.unit_name.specs.Names.{kind};
 ghost use Rattle.implied_names.specs.Roles.{default_output, has_role, inherits_journal, is_logging, is_open_input, is_process, is_service, keeps, output, said_output};
 ghost use Rattle.implied_names.specs.declared.roles.Role.TheVariants.{BusService, LastingSocket, LoggingProcess};
 
-use crate::facts::{is_among, is_one_of};
 use crate::unit_facts::Facts;
 use std::alloc::{AllocError, Global};
 use unit_name::Kind;
+use unit_values::{is_among, is_one_of};
 
 // The words for the journal and the kernel's log, alone or beside the console.
 const LOGS: [&[u8]; 6] = [

@@ -1,13 +1,15 @@
 //! Which units a unit names.
 ghost use Rattle.std.specs.{Option.{option_copied, option_map}, Prelude.{[], codes, filter, IfOk, map, ◌∷◌, ◌≡◌}};
-ghost use Rattle.implied_names.specs.{Facts.{last, words}, Sources.{activated, block_devices, default_slice, devices, fixed_name, found_by, interface_path, interfaces, is_socket_word, outer_slice, own_journal, served_service, sister, slice_of}};
+ghost use Rattle.unit_values.specs.Facts.{last, words};
+ghost use Rattle.implied_names.specs.Sources.{activated, block_devices, default_slice, devices, fixed_name, found_by, interface_path, interfaces, is_socket_word, outer_slice, own_journal, served_service, slice_of};
 
-use crate::built_in::is_perpetual;
-use crate::named::{first_other, last_named};
-use crate::paths::{before_last, between, is_below, path_of, unit_at};
+use crate::paths::{is_below, path_of, unit_at};
 use crate::unit_facts::Facts;
 use std::alloc::{AllocError, Global};
 use unit_name::{Kind, Shape, UnitName, escape};
+use unit_values::{
+    before_last, between, first_other, is_perpetual, last_named, served_service, sister,
+};
 
 /// Which units are named: one with a fixed name, or those that the unit's name and values give.
 #[derive(Clone, Copy, Debug, PartialEq, Eq)]
@@ -161,11 +163,7 @@ impl<'a> Facts<'a> {
     fn served_service(&self, alloc: Global) -> Result<Vec<u8>, AllocError>
         ensures text { IfOk result (λ text. text.items ≡ served_service self.now) }
     {
-        let values = self.values(alloc, b"Service")?;
-        match last_named(alloc, &values, Kind::Service)? {
-            Some(text) => Vec::from_slice(alloc, text),
-            None => sister(alloc, b"service", self.unit()),
-        }
+        served_service(alloc, self.unit(), &self.values(alloc, b"Service")?)
     }
 
     // Returns the unit that a timer or a path starts.
@@ -227,13 +225,6 @@ fn own_journal(alloc: Global, name: Option<&[u8]>) -> Result<Vec<Vec<u8>>, Alloc
     )?;
     texts.push(between(alloc, b"systemd-journald-varlink@", name, b".socket")?)?;
     Ok(texts)
-}
-
-// Returns the unit of another type with the same stem.
-fn sister(alloc: Global, suffix: &[u8], unit: &UnitName) -> Result<Vec<u8>, AllocError>
-    ensures text { IfOk result (λ text. text.items ≡ sister suffix.now unit.now) }
-{
-    between(alloc, before_last(unit.bytes(), b'.'), b".", suffix)
 }
 
 // Returns the path of a network interface; the loopback interface waits for none.

@@ -1,17 +1,17 @@
 //! A unit as the tables ask it: its name, its values, and what mounts and swaps are named after.
 ghost use Rattle.std.specs.{Option.{option_copied}, Prelude.{codes, IfOk, map, Some, ◌||◌, ◌≡◌}};
 ghost use Rattle.unit_name.specs.Names.{kind};
-ghost use Rattle.implied_names.specs.{Facts.{has, last, section_word, values_of, words, words_in, yes, yes_in}, Implied.{has_defaults}, Paths.{place}, Roles.{is_private, options, takes, what}};
+ghost use Rattle.unit_values.specs.{Facts.{has, last, section_word, values_of, words, words_in, yes, yes_in}, Defaults.{has_defaults}};
+ghost use Rattle.implied_names.specs.{Paths.{place}, Roles.{is_private, options, takes, what}};
 
-use crate::built_in::is_perpetual;
-use crate::facts::{
-    boolean_in, has_in, is_among, last_in, section_of, values_in, words_in, yes_in,
-};
 use crate::mounts::{options_of, place_of, what_of};
 use setting_rules::Row;
 use std::alloc::{AllocError, Global};
 use std::marker::Model;
 use unit_name::{Kind, UnitName};
+use unit_values::{
+    has_defaults, has_in, is_among, last_in, section_of, values_in, words_in, yes_in,
+};
 
 /// A unit's name and its effective values.
 #[derive(Drop)]
@@ -34,7 +34,8 @@ pub(crate) struct Facts<'a> {
 impl<'a> Model for Facts<'a> {
     ghost use Rattle.std.specs.{Option.{option_map}, Prelude.{◌≡◌, Some, map}};
     ghost use Rattle.unit_name.specs.Names.{kind as kind_of};
-    ghost use Rattle.implied_names.specs.{Facts.{Facts as FactsOf, coded_facts}, Implied.{has_defaults as defaults_said}, Paths.{place as place_named}, Roles.{is_private as private_said, options as options_said, what as what_said}};
+    ghost use Rattle.unit_values.specs.{Facts.{Facts as FactsOf, coded_facts}, Defaults.{has_defaults as defaults_said}};
+    ghost use Rattle.implied_names.specs.{Paths.{place as place_named}, Roles.{is_private as private_said, options as options_said, what as what_said}};
 
     ghost Value = { FactsOf };
 
@@ -182,14 +183,4 @@ fn is_private(alloc: Global, kind: Kind, rows: &[Row]) -> Result<bool, AllocErro
         yes_in(alloc, rows, section, b"PrivateTmp")?
             || yes_in(alloc, rows, section, b"DynamicUser")?,
     )
-}
-
-// Returns whether a unit has default dependencies.
-fn has_defaults(alloc: Global, unit: &UnitName, rows: &[Row]) -> Result<bool, AllocError>
-    ensures test { IfOk result (λ test. test ≡ has_defaults (record { unit = unit.now; rows = rows.now })) }
-{
-    match boolean_in(alloc, rows, b"Unit", b"DefaultDependencies")? {
-        Some(said) => Ok(said),
-        None => Ok(!is_perpetual(unit)),
-    }
 }

@@ -1,6 +1,6 @@
 -- What the definitions use of std and of the crates below.
 pub use Rattle.fragment_choice.specs.{Choices.{is_null, is_same, own_path}, LinkTargetLaws.{among_level, IsShown, link_targets_decide, link_targets_show, SameWords, views_decide_link_targets}, LinkTargets.{coded_link_targets, HasOwnLinkTargets, link_targets, NamedWords, Target, target_part, targets_in, words_of}, Prelude.{Content, Entry, EntryMap, Fleet, Host, host_view_of, HostViewMap, Instance, is_name, IsAmong, IsLevel, IsName, level_for, levels, Name, name_cmp, of_fleet, of_host, one_ascending_list, own_scope, path_after, PathMap, PathParts, PlaceParts, Plain, Profile, same_sights, scope_of, shape, shown, ShowsNothing, Template, UnitShape, view, viewed_at, viewed_place, Viewer, visible_at}, ResolutionLaws.{mains_are_their_own}}
-pub use Rattle.implied_names.specs.BuiltIn.{perpetual_units}
+pub use Rattle.unit_values.specs.BuiltIn.{perpetual_units}
 pub use Rattle.index_rows.specs.Prelude.{IsClosure, IsReached, turned}
 pub use Rattle.load_places.specs.LevelLaws.{level_is}
 pub use Rattle.name_closure.specs.{Chains.{HasOver}, ClosureLaws.{one_closure, reached_closed}, declared.loads.ClosureFault.{ClosureFault}, Loading.{AreLoaded}, LoadingLaws.{one_load_of_nodes}, SourceLaws.{same_closure, same_reached}, StableLaws.{closure_stays}}

@@ -3,11 +3,11 @@ ghost use Rattle.std.specs.{List.{filter_map}, Prelude.{◌++◌, ◌≡◌, IfO
 ghost use Rattle.parallel_load.specs.{Sources.{AreSourcesBy, whole_name}, Universe.{asked_by}};
 
 use crate::words::CachedLinkTargets;
-use implied_names::perpetual_units;
 use plain_values::{append_copies, copied};
 use profiles::Profile;
 use std::alloc::{AllocError, Global};
 use unit_name::{NameFault, UnitName};
+use unit_values::perpetual_units;
 
 /// The names that are asked for, for a manager also the perpetual units, and then all names at which something is visible; a
 /// name may occur more than once. One pass over the latter. Fails only if memory runs out.

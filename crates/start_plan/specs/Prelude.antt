@@ -1,6 +1,6 @@
 -- What the definitions use of std and of the crates below.
 pub use Rattle.fragment_choice.specs.declared.choices.Cause.{Cause}
-pub use Rattle.implied_names.specs.BuiltIn.{is_perpetual}
+pub use Rattle.unit_values.specs.BuiltIn.{is_perpetual}
 pub use Rattle.inverse_deps.specs.{EdgeLaws.{edges_come_from_names, one_list_of_edges}, Edges.{AreEdges, IsEdge}}
 pub use Rattle.name_closure.specs.{ClosureLaws.{reached_least}, ListedLaws.{named_by}}
 pub use Rattle.parallel_load.specs.Prelude.{is_same, shape, Template}

@@ -7,13 +7,13 @@ ghost use Rattle.inverse_deps.specs.Indices.{count_of};
 ghost use Rattle.unit_graph.specs.Graphs.{IsIndexFor};
 ghost use Rattle.start_plan.specs.{Requests.{is_loaded, is_manual, is_perpetual_by}, Bits.{AreBitsBy}};
 
-use implied_names::is_perpetual;
 use index_rows::empty_bits;
 use parallel_load::{Loaded, NameLoad};
 use profiles::Profile;
 use std::alloc::{AllocError, Global};
 use unit_graph::IndexedGraph;
 use unit_name::UnitName;
+use unit_values::is_perpetual;
 
 // The sets of the units that are loaded, of those that refuse to be started by hand, and of those that for a manager always
 // run.

@@ -3,7 +3,9 @@ pub use Rattle.dropins.specs.{declared.{folder_lists.Folder.{Folder, TheVariants
 pub use Rattle.fleet_answers.specs.{Answers.{AreLinkedUnits, ArePulled, asked, viewer_asked, IsAnswer, IsLinkedUnit, IsPlanBy, IsPlanReturned, IsReturned, IsUnitWithEdges, IsWholeAnswer, names_asked, without_host}, declared.questions.{Answer.{Answer}, LinkedUnit.{LinkedUnit}, Question.{Question}}}
 pub use Rattle.fragment_choice.specs.{Choices.{choice, is_same}, declared.{choices.Choice.{Choice}, resolutions.Resolution.{Resolution}}, LikenessLaws.{mains_are_alike}, LinkTargets.{HasOwnLinkTargets, link_targets, NamedWords}, ResolutionLaws.{resolution_resolves}, Resolutions.{main, resolution, Resolves, Resolves.{ends_at, goes_on}}, UnitNames.{AreNames}}
 pub use Rattle.host_trees.specs.{ChoiceLaws.{choice_at_fleet, IsShown, resolution_at_fleet, trees_have_the_same_fragments, trees_name_alike, trees_resolve_alike, trees_show_the_same_names, TreesHaveTheSameFragments, TreesNameAlike, TreesResolveAlike, TreesShowTheSameNames}, Reads.{HasDropIn, HasLink, ReadsAlike, ReadsItsTree, ShowsTree}}
-pub use Rattle.implied_names.specs.{Additions.{facts_of, has_defaults_by, mounts_by, with_implied}, BuiltIn.{is_perpetual, perpetual_units}, Implied.{implied_names}, ImpliedLaws.{implied_are_names, perpetual_units_are_names}}
+pub use Rattle.manager_additions.specs.Additions.{facts_of, has_defaults_by, mounts_by, with_implied}
+pub use Rattle.unit_values.specs.BuiltIn.{is_perpetual, perpetual_units}
+pub use Rattle.implied_names.specs.{Implied.{implied_names}, ImpliedLaws.{implied_are_names, perpetual_units_are_names}}
 pub use Rattle.inverse_deps.specs.{Dependencies.{HasDefaults, IsByPath, IsByTarget, IsDependent, IsEdgeAmong, IsGiven, IsGivenBefore, IsMountFor, MayFollow, NamesUnit, NeedsMount, unit_among}, Edges.{AreEdges, AreEdgesFrom, AreEdgesOf, EdgeMap, IsEdge, IsUnitIn}}
 pub use Rattle.list_laws.specs.Members.{among_from_contains, contains_from_among, IsAmong, IsAmong-append_cases}
 pub use Rattle.load_places.specs.{declared.viewers.Viewer.{Viewer}, Levels.{of_fleet}}

@@ -1,7 +1,7 @@
 -- A unit has the effective settings of its files and its links.
 use Rattle.std.proofs.Common.{◌++◌, ◌≡◌}
 use Rattle.std.proofs.Common.{append_assoc, None, Option, refl, Some}
-use Rattle.implied_names.specs.Additions.{with_implied}
+use Rattle.manager_additions.specs.Additions.{with_implied}
 use Rattle.unit_loads.specs.{declared.units.Status.{Status}, Units.{files_with}}
 use Rattle.unit_loads.proofs.Prelude.{[], ap, AreDropIns, AreLinkNames, assignments_of, borrowed_notes, bytes_at, Entry, entry_place, EvaluatesTo, file_notes, HasSettings, HostViewMap, items_of, items_with, LinkNames, List, lists_with, map, Name, notes_at, PathParts, PlaceParts, refuses, rows_of, setting_notes, settings_of, subst, sym, unit_of_parts, UnitParts, ◌∙◌}
 use Rattle.unit_loads.proofs.Borrowed.{AreHeld, items_borrowed, notes_borrowed}

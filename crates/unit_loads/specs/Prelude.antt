@@ -1,7 +1,9 @@
 -- What the definitions use of std and of the crates below.
 pub use Rattle.dropins.specs.{declared.{folder_lists.Folder.{Folder, TheVariants.{Requires, Wants}}, precedence.Search.{Search, TheVariants.{DropIns, Links}}}, FolderLists.{folders, listed, types_of, with_template}, HostLaws.{drop_ins_are_the_fleets, hosts_without_places_have_these_drop_ins, hosts_without_places_have_these_links}, OrderLaws.{drop_in_paths_are_files, one_order}, OverLaws.{folders_decide_over}, PrecedenceLaws.{folders_decide}, Prelude.{among_from_contains, contains_from_among, Content, content_at, content_viewed, Entry, EntryMap, File, first_there, Fleet, fleets_level, fleets_place, Gone, Host, host_view_of, HostViewMap, IsAmong, IsAmong-append_cases, IsAmong-append_left, IsAmong-append_right, Kind, kind, later_there, Link, Name, name_cmp, PathParts, PlaceParts, shown, ShowsNothing, template_of, viewed_at, viewed_place}, Taken.{Candidate, Candidate.{At}, dirs_by, dirs_with, ending, entry_place, file_name, IsDropIn, IsDropInAt, IsLinked, IsLinkedOf, IsTaken, name_dirs, Owner, Owner.{OfName, OfType}, type_dirs}, TypeLaws.{one_type}}
 pub use Rattle.fragment_choice.specs.{ChoiceLaws.{IsOwnPath, own_paths_count, own_paths_decide}, declared.{choices.Choice.{Choice, TheVariants.{Fragment}}, resolutions.Resolution.{Resolution}}, FragmentLaws.{fragments_are_in_view, fragments_are_own, IsOwnFile, IsOwnFileOf}, HostLaws.{hosts_without_places_resolve_alike}, LeadsLaws.{leads_and_choice_decide, leads_decide_mains, SameLeads}, LikenessLaws.{mains_are_alike}, Prelude.{AreForOne, level_for, of_fleet, of_host, Profile, same_place, Viewer, visible_at}, ResolutionLaws.{choices_decide}, Resolutions.{main, resolution}, UnitNameLaws.{mains_decide, one_list_of_names}, UnitNames.{AreNames, IsOtherName}}
-pub use Rattle.implied_names.specs.{Additions.{counted_for, facts_of, has_defaults_by, is_device_by, mounts_by, name_for, names_for, unless_device, with_implied, with_names}, BuiltIn.{is_built_in, is_perpetual}, Implied.{implied_names}, ImpliedLaws.{implied_are_naming}}
+pub use Rattle.manager_additions.specs.Additions.{counted_for, facts_of, has_defaults_by, is_device_by, mounts_by, name_for, names_for, unless_device, with_implied, with_names}
+pub use Rattle.unit_values.specs.BuiltIn.{is_built_in, is_perpetual}
+pub use Rattle.implied_names.specs.{Implied.{implied_names}, ImpliedLaws.{implied_are_naming}}
 pub use Rattle.list_laws.specs.Members.{first_or_later}
 pub use Rattle.load_places.specs.declared.places.Scope.{Scope}
 pub use Rattle.path_maps.specs.HostLaws.{places_decide_views}

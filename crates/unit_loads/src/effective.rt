@@ -1,14 +1,14 @@
 //! The effective settings of a unit's files and links.
 ghost use Rattle.std.specs.Prelude.{◌≡◌, ◌++◌, IfOk, OnOk, map};
 ghost use Rattle.setting_rules.specs.{Rows.{escape_notes, rows_of}, Settings.{settings_of}, Switches.{refuses}};
-ghost use Rattle.implied_names.specs.Additions.{has_defaults_by, mounts_by, with_implied};
+ghost use Rattle.manager_additions.specs.Additions.{has_defaults_by, mounts_by, with_implied};
 ghost use Rattle.unit_loads.specs.Units.{dependency_notes, lists_with, setting_notes};
 
 use crate::dependencies::named_units;
 use crate::files::UnitText;
 use crate::links::LinkNames;
 use crate::units::UnitNote;
-use implied_names::Additions;
+use manager_additions::Additions;
 use plain_values::Items;
 use profiles::Profile;
 use section_reader::Assignment;

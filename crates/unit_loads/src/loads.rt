@@ -7,13 +7,13 @@ ghost use Rattle.unit_loads.specs.{WithoutFiles.{is_loaded_without_file}, Units.
 use crate::found::UnitParts;
 use crate::units::{Status, Unit};
 use fragment_choice::{AliasIndex, Choice, Resolution};
-use implied_names::{is_built_in, is_perpetual};
 use plain_values::Items;
 use profiles::Profile;
 use replica_store::{HostView, Store, Viewer};
 use setting_rules::{DepKind, DependencyList};
 use std::alloc::{AllocError, Global};
 use unit_name::UnitName;
+use unit_values::{is_built_in, is_perpetual};
 
 /// Returns the unit with a main name, in the store of an index. Its dependencies are the names that its words and links
 /// give, which aren't resolved to main names yet (systemd.unit(5)). A template gives a unit too, as if it had no

@@ -3,11 +3,12 @@
 //! What is implied is written as `defaults` or `none`, then the names of each kind, and the mounts of its paths.
 use crate::edits::append_names;
 use crate::sections::read_word;
-use implied_names::{Implied, is_built_in, is_perpetual};
+use implied_names::Implied;
 use plain_values::Items;
 use profiles::Profile;
 use setting_rules::{DepKind, Values, apply, in_byte_order, values};
 use unit_name::UnitName;
+use unit_values::{is_built_in, is_perpetual};
 use worked_lines::{Answer, LineFault, Words, match_word};
 
 /// Writes the answer to a call on what units imply.

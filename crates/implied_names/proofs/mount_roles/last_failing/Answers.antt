@@ -1,4 +1,5 @@
-use Rattle.implied_names.proofs.{mount_roles.last_failing.Goals.{else-says_failing, then-says_failing}, Prelude.{ap, filter, last_of, map, map-append, option_copied, refl, says_failing, sym, take, ◌∙◌}, Values.{last_passed, last_taken, one_more}}
+use Rattle.implied_names.proofs.{mount_roles.last_failing.Goals.{else-says_failing, then-says_failing}, Prelude.{ap, filter, last_of, map, map-append, option_copied, refl, says_failing, sym, take, ◌∙◌}}
+use Rattle.unit_values.specs.ValueLaws.{last_passed, last_taken, one_more}
 use Rattle.implied_names.proofs.mount_roles.last_failing.Goals as goal
 
 pub loop-option-preserved : goal.loop-option-preserved

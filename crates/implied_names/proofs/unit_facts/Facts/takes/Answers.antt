@@ -1,4 +1,5 @@
-use Rattle.implied_names.proofs.{Prelude.{ap, bytes_eq, list_any, map, options, ◌∙◌}, Values.{any_borrowed}}
+use Rattle.implied_names.proofs.Prelude.{ap, bytes_eq, list_any, map, options, ◌∙◌}
+use Rattle.unit_values.specs.ValueLaws.{any_borrowed}
 use Rattle.implied_names.proofs.unit_facts.Facts.takes.Goals as goal
 
 pub returns : goal.returns

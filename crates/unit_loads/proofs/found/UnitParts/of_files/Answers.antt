@@ -1,6 +1,6 @@
 use Rattle.std.proofs.Common.{◌++◌}
 use Rattle.std.specs.Option.{option_copied}
-use Rattle.implied_names.specs.Additions.{has_defaults_by, mounts_by, with_implied}
+use Rattle.manager_additions.specs.Additions.{has_defaults_by, mounts_by, with_implied}
 use Rattle.unit_loads.specs.Units.{file_notes, files_with}
 use Rattle.unit_loads.proofs.Prelude.{[], ap, borrowed_notes, items_with, lists_with, map, refuses, rows_of, setting_notes, settings_of, ◌∙◌}
 use Rattle.unit_loads.specs.declared.units.UnitNote.TheVariants as note

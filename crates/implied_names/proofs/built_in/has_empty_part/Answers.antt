@@ -1,7 +1,0 @@
-use Rattle.implied_names.proofs.{Prelude.{ap, is_empty, list_any, map, ◌∙◌}, Values.{any_borrowed}}
-use Rattle.implied_names.proofs.built_in.has_empty_part.Goals as goal
-
-pub returns : goal.returns
-returns c = record {
-  test = c.has_empty.ensures.test ∙ any_borrowed is_empty c.deref.result.now ∙ ap (list_any is_empty) (ap (map (λ part. part.now)) c.deref.ensures.value ∙ c.in_ok-parts.ensures.parts);
-}

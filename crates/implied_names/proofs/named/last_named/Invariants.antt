@@ -1,6 +1,0 @@
-use Rattle.std.proofs.Common.{◌≡◌}
-use Rattle.implied_names.proofs.Prelude.{filter, last_of, map, names_unit, option_copied, take}
-use Rattle.implied_names.proofs.named.last_named.Given as goal
-
-abbrev pub invariant-loop-text : goal.invariant-loop-text
-invariant-loop-text l = option_copied l.last ≡ last_of (filter (names_unit l.own) (map (λ text. text.now) (take l.text-index l.texts)))
