@@ -4,7 +4,8 @@ pub use Rattle.edit_sums.specs.{Entries.{entry_cmp}, EntryLaws.{below_antisym, e
 pub use Rattle.fleet_answers.specs.{AnswerLaws.{asked_among, one_answer, other_hosts_change_nothing, own_are_known}, Answers.{AreKnown, AreLinkedUnits, asked, IsAnswer, IsReturned, IsSnapshot, IsSnapshotOf, IsUnitWithEdges, names_asked, viewer_asked}, declared.{caches.Cached.{Cached}, questions.{Answer.{Answer}, LinkedUnit.{LinkedUnit}, Question.{Question}}}, Fleets.{AgreesLater, AnswersByEvents, AnswersItsStore, AnswersItsSum, HoldsLeast, HoldsSameLater}, HostLaws.{hosts_without_places_have_the_fleets_answers}, Prelude.{AreEdges, AreSameEdits, Event, HasTemplate, host_view_of, HostViewMap, IsKnown, IsSumOf, LoadMap, Name, name_cmp, NodeHolds, one_viewer, Profile, Request, Took, took_after, unit_in, Viewer, visible_at}, ShownLaws.{snapshots_stay}, UnitLaws.{units_are_those_shown}, Tracked.{IsCachedFor, IsCacheFor, IsSnapshotBefore, ShowTheSameBut}}
 pub use Rattle.fragment_choice.specs.Prelude.{Gone, shown}
 pub use Rattle.inverse_deps.specs.{IndexLaws.{unit_at}, Indices.{name_at}, TableLaws.{adjacency_makes_the_table, asking_changes_no_table}, Tables.{IsEdgeTable}}
-pub use Rattle.parallel_load.specs.{declared.loaded.NameLoad.{NameLoad}, Loads.{unit_part}, AskedLaws.{AreSources, asked_for, sources_make_the_load, sources_make_the_size}, declared.{faults.LoadFault.{LoadFault, TheVariants.{Memory, TooManyUnits, Workers}}, refreshing.Refreshed.{Refreshed}}, Patched.{IsRefreshed}, Prelude.{name_eq-Decides}, Refreshes.{IsBefore}, Refusals.{OnTooMany}, SameLaws.{first_true, same_by, second_true}, Universe.{IsTooLarge}}
+pub use Rattle.parallel_load.specs.{declared.{loaded.NameLoad.{NameLoad}, faults.LoadFault.{LoadFault, TheVariants.{Memory, TooManyUnits, Workers}}}, Loads.{unit_part}, AskedLaws.{AreSources, asked_for, sources_make_the_load, sources_make_the_size}, Prelude.{name_eq-Decides}, Refreshes.{IsBefore}, Refusals.{OnTooMany}, SameLaws.{first_true, same_by, second_true}, Universe.{IsTooLarge}}
+pub use Rattle.load_refreshes.specs.{declared.refreshing.Refreshed.{Refreshed}, RefreshedLoads.{IsRefreshed}}
 pub use Rattle.profiles.specs.declared.profiles.Profile.TheVariants.{Files}
 pub use Rattle.replica_store.specs.Replicas.{next_version, Replicated, with_put}
 pub use Rattle.start_plan.specs.Requests.{IsOfGraph}

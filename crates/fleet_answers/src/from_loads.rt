@@ -7,7 +7,7 @@ ghost use Rattle.start_plan.specs.{Outcomes.{IsPlanned, IsRefusalOf}, Requests.{
 ghost use Rattle.fleet_answers.specs.Answers.{AreLinkedUnits, ArePulled, IsLinkedUnit, IsPlanReturned};
 
 use crate::questions::{Answer, LinkedUnit};
-use inverse_deps::{EdgeTable, edges_at};
+use inverse_deps::{EdgeTable, edges_at, main_index};
 use parallel_load::{Loaded, NameLoad, Unit};
 use plain_values::{Items, Shared, TryClone};
 use start_plan::{Plan, Refusal, Request, plan_by_index};
@@ -25,7 +25,7 @@ pub(crate) fn linked_unit(
     requires known { IsKnown loaded.now name.now }
     ensures unit { IfOk result (IsLinkedUnit loaded.now name.now) }
 {
-    let index = loaded.main_index(name).unwrap();
+    let index = main_index(loaded, name).unwrap();
     linked_at(loaded, table, index, unit_at(loaded, index))
 }
 

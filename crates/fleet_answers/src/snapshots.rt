@@ -9,7 +9,8 @@ ghost use Rattle.fleet_answers.specs.Answers.{AreKnown, IsSnapshot, IsReturned, 
 use crate::from_loads::{linked_unit, linked_units, planned, pulled};
 use crate::questions::{Answer, Question};
 use inverse_deps::EdgeTable;
-use parallel_load::{Gate, LoadFault, Loaded, Refreshed, load_fleet, load_here, refresh_in_place};
+use load_refreshes::{Refreshed, refresh_in_place};
+use parallel_load::{Gate, LoadFault, Loaded, load_fleet, load_here};
 use plain_values::Items;
 use profiles::Profile;
 use replica_store::{Place, Store, Viewer};

@@ -4,5 +4,5 @@ pub use Rattle.inverse_deps.specs.{AdjacencyLaws.{adjacency_named, own_rows, sam
 pub use Rattle.parallel_load.specs.{KeyLaws.{key_found}, Prelude.{among_from_contains, contains_from_among, in_byte_order, IsAt, name_eq-Decides, names_stay}}
 pub use Rattle.setting_rules.specs.OrderLaws.{names_ascend}
 pub use Rattle.sorted_pairs.specs.{PlaceLaws.{at_within, find_at, find_gap}, Places.{IsGap}}
-pub use Rattle.std.{proofs.{Math.Seq.{drop-cons}, Common.{[], add-one, All, ap, append-nil, append_assoc, arith, Bool, drop, eqb, Err, false, get_or, get_or-set_other, get_or-set_same, IfOk, inl, inr, IsSome, IsTrue, length, length-set, List, map, None, not, Ok, Option, refl, Result, set, Some, subst, suc, sym, take, true, zero, ℕ, ◌∙◌}, lemmas.{Bool.{cases_eq, cases_lt, ne_eqb}, List.{Sorted.{searched}, Elements.{All-contains, All-nil, All-push, Contains-get_or}, drop_all, get_or-map, get_or_past, length-map, map-append, map-set, take_all, take_more}, Map.Keys.{below_from_sorted}, Option.{none-some}, Result.{IfOk-weaker, on_ok_weaker}}}, specs.{Cmp.Lexicographic.{nat_list_cmp_total, pointwise}, declared.{alloc.Global.{Global}, vec.Vec.{Vec}}, FinMap.Entries.{find, is_sorted}, List.Sorted.{IsBinarySearchResult}, Map.{keys_of}, Option.{option_and_then}, Result.{is_ok}, Ordering.{eq_by_cmp, nat_cmp}, Prelude.{slice_index_or}}}
+pub use Rattle.std.{proofs.{Math.Seq.{drop-cons}, Common.{[], add-one, All, ap, append-nil, append_assoc, arith, Bool, drop, eqb, Err, false, get_or, get_or-set_other, get_or-set_same, IfOk, inl, inr, IsSome, IsTrue, length, length-set, List, map, None, not, Ok, Option, refl, Result, set, Some, subst, suc, sym, take, true, zero, ℕ, ◌∙◌}, lemmas.{Bool.{cases_eq, cases_lt, ne_eqb}, List.{Sorted.{searched}, Elements.{All-contains, All-nil, All-push, Contains-get_or}, drop_all, get_or-map, get_or_past, length-map, map-append, map-set, take_all, take_more}, Map.Keys.{below_from_sorted}, Option.{none-some}, Result.{IfOk-weaker, on_ok_weaker}}}, specs.{Cmp.Lexicographic.{nat_list_cmp_total, pointwise}, declared.{alloc.Global.{Global}, vec.Vec.{Vec}}, FinMap.Entries.{find, is_sorted}, List.Sorted.{IsBinarySearchResult}, Map.{keys_of}, Option.{option_and_then, option_map}, Result.{is_ok}, Ordering.{eq_by_cmp, nat_cmp}, Prelude.{slice_index_or}}}
 unfoldable pub use Rattle.std.specs.List.Sorted.{IsStrictlySortedBy}

@@ -1,5 +1,6 @@
 //! Indices of names: the positions of a load's names in byte order.
-ghost use Rattle.std.specs.{Prelude.{◌≡◌, ◌<◌, IfOk, MatchOption, map}, List.{All}};
+ghost use Rattle.std.specs.{Prelude.{◌≡◌, ◌<◌, IfOk, MatchOption, None, map}, List.{All}};
+ghost use Rattle.parallel_load.specs.{Indices.{IsIndexOfMain}, Loads.{main_in}};
 ghost use Rattle.inverse_deps.specs.{Edges.{IsUnitIn}, Indices.{IsIndexOf, count_of, name_at}};
 
 use parallel_load::{Loaded, NameLoad};
@@ -18,6 +19,18 @@ pub fn index_of(loaded: &Loaded, name: &UnitName) -> Option<usize>
             NameLoad::Unit(_) => Some(at),
             NameLoad::Alias(_) => None,
         },
+        Err(_) => None,
+    }
+}
+
+/// Returns the index of a name's main name: the position of that name among all names. It is the name of a unit. None for
+/// a name outside the universe. One search: O(log n). Allocates nothing.
+pub fn main_index(loaded: &Loaded, name: &UnitName) -> Option<usize>
+    ensures index { MatchOption result (main_in loaded.now name.now ≡ None) (IsIndexOfMain loaded.now name.now) }
+{
+    let names = loaded.names();
+    match seek(names, name) {
+        Ok(at) => Some(loaded.main_index_at(at)),
         Err(_) => None,
     }
 }

@@ -29,7 +29,7 @@ mod unit_edges;
 
 pub use building::edges;
 pub use edge_table::EdgeTable;
-pub use indices::{index_of, names_at};
+pub use indices::{index_of, main_index, names_at};
 pub use laws::edge_laws;
 pub use lists::Edges;
 pub use unit_edges::{edges_at, edges_of};

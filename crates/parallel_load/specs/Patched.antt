@@ -2,7 +2,7 @@
 -- Source: this project's own.
 use Rattle.std.proofs.Common.{◌<◌, ◌∷◌, ◌≡◌}
 use Rattle.parallel_load.specs.Prelude.{[], All, HostViewMap, is_sorted, IsTrue, keys_of, length, List, Name, name_cmp, suc, zero, ℕ}
-use Rattle.parallel_load.specs.{declared.{loaded.{Dependency.{Dependency}, NameLoad.{NameLoad}, Patches.{Patches}}, refreshing.Refreshed.{Refreshed, TheVariants.{Anew, InPlace}}}, Indices.{AreDependencyAdjacency}, LoadRows.{IsKept}, Loads.{IsLoad, LoadMap}, SecondaryNames.{AreSecondaryNames}, Universe.{IsTooLarge}}
+use Rattle.parallel_load.specs.{declared.loaded.{Dependency.{Dependency}, NameLoad.{NameLoad}, Patches.{Patches}}, Indices.{AreDependencyAdjacency}, LoadRows.{IsKept}, Loads.{IsLoad, LoadMap}, SecondaryNames.{AreSecondaryNames}, Universe.{IsTooLarge}}
 
 -- ---- names
 
@@ -46,8 +46,3 @@ pub record AreUnitsOf (s : HostViewMap) (load : LoadMap) (patches : Patches) : T
   pub is_load : IsLoad s load.extra (patched_load load patches.units.items)
   pub not_over : ¬ IsTooLarge s load.extra
   pub same : HaveSameAdjacency load (patched_load load patches.units.items)
-
--- the result of refreshing is the load of what the host sees: in place with the same rows, or new, besides the old load
-abbrev pub IsRefreshed : HostViewMap → LoadMap → Refreshed → Type 0
-IsRefreshed s old (InPlace load) = IsLoad s old.extra load × HaveSameAdjacency old load
-IsRefreshed s old (Anew before load) = (before ≡ old) × IsLoad s old.extra load

@@ -170,7 +170,7 @@ fn load_with(
 }
 
 /// A copy of a load: the names are copied, their units are shared. Fails only if memory runs out.
-pub(crate) fn copy_of_load(loaded: &Loaded) -> Result<Loaded, AllocError>
+pub fn copy_of_load(loaded: &Loaded) -> Result<Loaded, AllocError>
     ensures copy { IfOk result (λ copy. copy ≡ loaded.now) }
 {
     let alloc = loaded.allocator();

@@ -22,7 +22,7 @@ pub(crate) enum ListsHeld {
 
 /// The dependency lists of a name's unit, before names are replaced by main names. A copy shares them.
 #[derive(Debug)]
-pub(crate) struct NamedLists {
+pub struct NamedLists {
     held: ListsHeld,
 }
 
@@ -46,7 +46,7 @@ impl Model for NamedLists {
 
 impl NamedLists {
     /// No lists. Allocates nothing.
-    pub fn nowhere() -> NamedLists
+    pub(crate) fn nowhere() -> NamedLists
         ensures none { result ≡ [] }
     {
         NamedLists {
@@ -55,7 +55,7 @@ impl NamedLists {
     }
 
     /// The lists of a unit. Allocates nothing.
-    pub fn of_unit(unit: Shared<Unit>) -> NamedLists
+    pub(crate) fn of_unit(unit: Shared<Unit>) -> NamedLists
         ensures lists { result ≡ unit.deps }
     {
         NamedLists {
@@ -64,7 +64,10 @@ impl NamedLists {
     }
 
     /// These lists. Fails only if memory runs out.
-    pub fn alone(alloc: Global, lists: Items<DependencyList>) -> Result<NamedLists, AllocError>
+    pub(crate) fn alone(
+        alloc: Global,
+        lists: Items<DependencyList>,
+    ) -> Result<NamedLists, AllocError>
         ensures lists { IfOk result (λ made. made ≡ lists) }
     {
         Ok(NamedLists {
@@ -73,7 +76,7 @@ impl NamedLists {
     }
 
     /// The lists. Allocates nothing.
-    pub fn as_slice(&self) -> &[DependencyList]
+    pub(crate) fn as_slice(&self) -> &[DependencyList]
         ensures lists { result.now ≡ self.now }
     {
         match &self.held {

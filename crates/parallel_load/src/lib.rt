@@ -6,6 +6,8 @@
 //! The names are the least set that has those that are asked for and all at which something is visible, and that is
 //! closed under what names stand for and what units name. For each name stands its unit, or the main name of which
 //! it is an alias.
+//!
+//! `patches_for` and `refreshed_anew` are what `load_refreshes` refreshes a load by.
 #![tactic(auto)]
 
 mod affected_units;
@@ -30,10 +32,11 @@ mod words;
 
 pub use asked::are_sources;
 pub use faults::LoadFault;
+pub use finishing::copy_of_load;
 pub use footprints::footprint;
 pub use laws::{load_laws, stable_load_laws};
-pub use loaded::{Dependency, Loaded, NameLoad};
+pub use loaded::{Dependency, Loaded, NameLoad, Patches};
 pub use loads::{MOST_NAMES, load_fleet, load_here};
-pub use refreshing::{Refreshed, refresh, refresh_in_place};
+pub use refreshing::{patches_for, refreshed_anew};
 pub use unit_loads::{Status, Unit, UnitNote, load_one};
 pub use worker_rounds::{Gate, MOST_WORKERS, TURNS, is_worker_count};

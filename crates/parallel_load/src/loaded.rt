@@ -1,5 +1,6 @@
 //! A load: the unit or the main name of each name.
-ghost use Rattle.std.specs.{Prelude.{◌≡◌, ◌<◌, IfOk, IsTrue, length, map, MatchOption, None}, FinMap.{is_sorted}, List.{All}, Option.{option_copied}};
+ghost use Rattle.std.specs.{Prelude.{◌≡◌, ◌<◌, IfOk, IsTrue, length, map}, FinMap.{is_sorted}, List.{All}, Option.{option_copied}};
+ghost use Rattle.sorted_pairs.specs.Places.{IsAt};
 ghost use Rattle.unit_name.specs.Names.{name_cmp};
 ghost use Rattle.parallel_load.specs.{AskedLaws.{asked_for}, SearchPrefixes.{IsNonDecreasing}, Loads.{load_at, main_in, unit_in, units_in}, Indices.{AreDependencyAdjacency, IsIndexOfMain}};
 ghost use Rattle.parallel_load.specs.{LoadRows.{IsKept}, SecondaryNames.{AreSecondaryNames}, Patched.{FitIn, patched_load, put_load, with_loads}};
@@ -80,7 +81,7 @@ impl Drop for Loaded {
 /// Data that a load caches besides its names, so that another load can be made from it. Loads whose units name the same
 /// share it.
 #[derive(Debug)]
-pub(crate) struct CachedRows {
+pub struct CachedRows {
     /// For each name the lists of its unit, before names are replaced by main names.
     pub named: Vec<NamedLists>,
     /// For each name the dependencies of its unit, by indices.
@@ -108,8 +109,10 @@ impl Drop for CachedRows {
 /// Units of a load that were read again, each with the index of its name, and the cached data of the load, which stays
 /// valid.
 #[derive(Drop)]
-pub(crate) struct Patches {
+pub struct Patches {
+    /// The cached data of the load.
     pub kept: Shared<CachedRows>,
+    /// Its units that were read again, each with the index of its name.
     pub units: Vec<(usize, NameLoad)>,
 }
 
@@ -193,7 +196,7 @@ impl Loaded {
     }
 
     /// The load with these units in place of the old ones. Only these count as read. Allocates nothing.
-    pub(crate) fn patched(self, patches: Patches) -> Loaded
+    pub fn patched(self, patches: Patches) -> Loaded
         requires fit { FitIn self patches }
         ensures load { result ≡ patched_load self patches.units.items }
     {
@@ -278,15 +281,13 @@ impl Loaded {
         }
     }
 
-    /// The index of a name's main name: the position of that name among all names. It is the name of a unit. None for a
-    /// name outside the universe. One search: O(log n). Allocates nothing.
-    pub fn main_index(&self, name: &UnitName) -> Option<usize>
-        ensures index { MatchOption result (main_in self.now name.now ≡ None) (IsIndexOfMain self.now name.now) }
+    /// The index of the main name of the name at this position: the position of the main name among all names. It is the
+    /// name of a unit. Allocates nothing.
+    pub fn main_index_at(&self, at: usize) -> usize
+        requires within { at < length self.now.names }
+        ensures index { (name : _) → IsAt name_cmp name self.now.names at → IsIndexOfMain self.now name result }
     {
-        match seek(&self.names, name) {
-            Ok(at) => Some(self.kept.get().mains.main_of(at)),
-            Err(_) => None,
-        }
+        self.kept.get().mains.main_of(at)
     }
 
     /// All units, in byte order of their names. Fails only if memory runs out.

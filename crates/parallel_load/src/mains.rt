@@ -18,7 +18,7 @@ use unit_name::UnitName;
 
 /// The names of a load in byte order, each with the index of its main name: the position of that name among them.
 #[derive(Debug)]
-pub(crate) struct Mains {
+pub struct Mains {
     names: Vec<(UnitName, usize)>,
 }
 
@@ -52,7 +52,7 @@ pub(crate) struct Normalized {
 
 impl Mains {
     /// The indices of these names, which are in byte order. One search for each alias. Fails only if memory runs out.
-    pub fn of(alloc: Global, names: &[(UnitName, RawLoad)]) -> Result<Mains, AllocError>
+    pub(crate) fn of(alloc: Global, names: &[(UnitName, RawLoad)]) -> Result<Mains, AllocError>
         requires sorted { IsTrue (is_sorted name_cmp names.now) }
         ensures mains { IfOk result (AreIndexed names.now names.now) }
     {
@@ -87,7 +87,7 @@ impl Mains {
     }
 
     /// The index of the main name of the name at this position. Allocates nothing.
-    pub fn main_of(&self, at: usize) -> usize
+    pub(crate) fn main_of(&self, at: usize) -> usize
         requires within { at < length self.now }
         ensures index { result ≡ index_at self.now at }
     {
@@ -95,7 +95,7 @@ impl Mains {
     }
 
     /// Replaces names by main names and by indices, for all of these names. Fails only if memory runs out.
-    pub fn normalize_all(
+    pub(crate) fn normalize_all(
         &self,
         alloc: Global,
         names: Vec<(UnitName, RawLoad)>,
@@ -110,7 +110,7 @@ impl Mains {
     }
 
     // Replaces names by main names and by indices, for one name.
-    pub fn normalize(
+    pub(crate) fn normalize(
         &self,
         alloc: Global,
         name: UnitName,

@@ -1,13 +1,13 @@
-//! Refreshes a load after few changes.
-ghost use Rattle.std.specs.{Prelude.{◌≡◌, ◌≤◌, IfOk, IfErr, IfSome, length}, BTreeMap.{keys}, List.{All}, List.Sorted.{IsStrictlySortedBy}};
+//! What a load needs to be refreshed after few changes: units to be read again in place, or a new load with what stays.
+ghost use Rattle.std.specs.{Prelude.{◌≤◌, IfOk, IfErr, IfSome, length}, BTreeMap.{keys}, List.{All, Sorted.{IsStrictlySortedBy}}};
 ghost use Rattle.path_maps.specs.HostViews.{host_view_of};
 ghost use Rattle.unit_name.specs.Names.{name_cmp};
-ghost use Rattle.parallel_load.specs.{FoundNames.{IsFound}, Loads.{IsLoad}, Patched.{AreUnitsOf, IsRefreshed}, Refreshes.{IsBefore}, Refusals.{OnTooMany, OnWorkers}};
+ghost use Rattle.parallel_load.specs.{FoundNames.{IsFound}, Loads.{IsLoad}, Patched.{AreUnitsOf}, Refreshes.{IsBefore}, Refusals.{OnTooMany, OnWorkers}};
 ghost use Rattle.parallel_load.specs.{Touched.{HasParts, KeepsLinkTargets}, Universe.{IsTooLarge}};
 
 use crate::affected_units::indices_affected;
 use crate::faults::LoadFault;
-use crate::finishing::{copy_of_load, normalized};
+use crate::finishing::normalized;
 use crate::held::{HeldLoader, still_of};
 use crate::kept::RawLoad;
 use crate::loaded::{Loaded, Patches};
@@ -24,59 +24,11 @@ use std::alloc::AllocError;
 use std::collections::BTreeMap;
 use unit_name::UnitName;
 
-/// The result of refreshing a load that the caller gives away.
-#[derive(Debug, Drop)]
-pub enum Refreshed {
-    /// The refreshed load: some of its units were read again. Names and dependencies by indices are those of the old
-    /// load.
-    InPlace(Loaded),
-    /// The old load as it was, and the new one.
-    Anew(Loaded, Loaded),
-}
-
-/// Makes the load of a store from the load of another, when these places are all at which the two stores show different
-/// contents. The result, refusals included, is that of `load_here` for the same viewer and the same names.
-///
-/// Reads a unit again only if it is new, or if a changed place that the host sees is in its footprint; all others are
-/// shared with the old load. Loads everything anew if aliases or the set of visible names may differ: where a link at a
-/// path of one component comes, goes or changes its target, or the first or last file of a name comes or goes.
-pub fn refresh(loaded: &Loaded, store: &Store, touched: &[Place]) -> Result<Loaded, LoadFault>
-    requires before { IsBefore loaded.now store.now touched.now }
-    ensures load { IfOk result (IsLoad (host_view_of store.now loaded.now.viewer) loaded.now.extra) }
-    ensures over { IfErr result (λ fault. OnTooMany fault (IsTooLarge (host_view_of store.now loaded.now.viewer) loaded.now.extra)) }
-    ensures not_over { IfOk result (λ _. ¬ IsTooLarge (host_view_of store.now loaded.now.viewer) loaded.now.extra) }
-    ensures no_workers { IfErr result (λ fault. OnWorkers fault ⊥) }
-{
-    match patches_for(loaded, store, touched)? {
-        Some(patches) => Ok(copy_of_load(loaded)?.patched(patches)),
-        None => refreshed_anew(loaded, store, touched),
-    }
-}
-
-/// The same for a load that the caller gives away. It is changed in place if its names and what each of them names
-/// stay; that costs reading the affected units and a look at each name. After a refusal the old load is gone.
-pub fn refresh_in_place(
-    loaded: Loaded,
-    store: &Store,
-    touched: &[Place],
-) -> Result<Refreshed, LoadFault>
-    requires before { IsBefore loaded store.now touched.now }
-    ensures load { IfOk result (IsRefreshed (host_view_of store.now loaded.viewer) loaded) }
-    ensures over { IfErr result (λ fault. OnTooMany fault (IsTooLarge (host_view_of store.now loaded.viewer) loaded.extra)) }
-    ensures not_over { IfOk result (λ _. ¬ IsTooLarge (host_view_of store.now loaded.viewer) loaded.extra) }
-    ensures no_workers { IfErr result (λ fault. OnWorkers fault ⊥) }
-{
-    match patches_for(&loaded, store, touched)? {
-        Some(patches) => Ok(Refreshed::InPlace(loaded.patched(patches))),
-        None => {
-            let load = refreshed_anew(&loaded, store, touched)?;
-            Ok(Refreshed::Anew(loaded, load))
-        }
-    }
-}
-
-// The units that have to be read again, if all names and what each of them names stay. None if that may not hold.
-fn patches_for(
+/// The units that have to be read again, if all names and what each of them names stay: those in whose footprint a changed
+/// place is that the host sees. None if that may not hold: where a link at a path of one component comes, goes or changes
+/// its target, where the first or last file of a name comes or goes, or where a unit names something else than before.
+/// Fails only if memory runs out.
+pub fn patches_for(
     loaded: &Loaded,
     store: &Store,
     touched: &[Place],
@@ -92,8 +44,13 @@ fn patches_for(
     patches(loaded, store, touched, &parts)
 }
 
-// The load where names may come or go. Takes what stays from the old load, if link targets stay.
-fn refreshed_anew(loaded: &Loaded, store: &Store, touched: &[Place]) -> Result<Loaded, LoadFault>
+/// The load where names may come or go, by `load_here` of the same viewer and the same names, refusals included. Takes what
+/// stays from the old load, if link targets stay.
+pub fn refreshed_anew(
+    loaded: &Loaded,
+    store: &Store,
+    touched: &[Place],
+) -> Result<Loaded, LoadFault>
     requires before { IsBefore loaded.now store.now touched.now }
     ensures load { IfOk result (IsLoad (host_view_of store.now loaded.now.viewer) loaded.now.extra) }
     ensures over { IfErr result (λ fault. OnTooMany fault (IsTooLarge (host_view_of store.now loaded.now.viewer) loaded.now.extra)) }

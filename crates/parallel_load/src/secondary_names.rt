@@ -11,7 +11,7 @@ use unit_name::UnitName;
 /// The names of units other than their main names, in byte order, each with the index of its unit. Names that only
 /// links of templates give may be outside the universe.
 #[derive(Debug)]
-pub(crate) struct SecondaryNames {
+pub struct SecondaryNames {
     pairs: Vec<(UnitName, usize)>,
 }
 
@@ -35,7 +35,10 @@ impl Model for SecondaryNames {
 
 impl SecondaryNames {
     /// The secondary names of the units among these. Fails only if memory runs out.
-    pub fn of(alloc: Global, names: &[(UnitName, NameLoad)]) -> Result<SecondaryNames, AllocError>
+    pub(crate) fn of(
+        alloc: Global,
+        names: &[(UnitName, NameLoad)],
+    ) -> Result<SecondaryNames, AllocError>
         ensures second { IfOk result (AreSecondaryNames names.now) }
     {
         let mut pairs = pairs_of(alloc, names)?;
@@ -44,7 +47,7 @@ impl SecondaryNames {
     }
 
     /// The names, each with the index of its unit. Allocates nothing.
-    pub fn as_slice(&self) -> &[(UnitName, usize)]
+    pub(crate) fn as_slice(&self) -> &[(UnitName, usize)]
         ensures pairs { result.now ≡ self.now }
         ensures ascending { IsNonDecreasing result.now }
     {

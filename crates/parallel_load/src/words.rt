@@ -16,7 +16,7 @@ use std::marker::Model;
 
 /// Names in byte order, each with its link targets.
 #[derive(Debug)]
-pub(crate) struct CachedLinkTargets {
+pub struct CachedLinkTargets {
     names: Vec<(Bytes, LinkTargets)>,
 }
 
@@ -44,7 +44,7 @@ impl Model for CachedLinkTargets {
 impl CachedLinkTargets {
     /// The link targets of all visible names. One pass over the store's paths of one component, and up to eight
     /// searches for each name. Fails only if memory runs out.
-    pub fn of(alloc: Global, view: &HostView) -> Result<CachedLinkTargets, AllocError>
+    pub(crate) fn of(alloc: Global, view: &HostView) -> Result<CachedLinkTargets, AllocError>
         ensures words { IfOk result (AreOwnLinkTargets view.now) }
     {
         let shown = shown_names(alloc, view)?;
@@ -53,14 +53,14 @@ impl CachedLinkTargets {
     }
 
     /// The names with their link targets. Allocates nothing.
-    pub fn names(&self) -> &[(Bytes, LinkTargets)]
+    pub(crate) fn names(&self) -> &[(Bytes, LinkTargets)]
         ensures names { result.now ≡ self.now }
     {
         self.names.as_slice()
     }
 
     /// Whether a name has these link targets. O(log n). Allocates nothing.
-    pub fn have(&self, name: &Bytes, words: &LinkTargets) -> bool
+    pub(crate) fn have(&self, name: &Bytes, words: &LinkTargets) -> bool
         ensures same { result ≡ true → words_in self.now name.now ≡ words.now }
     {
         match seek(&self.names, name) {

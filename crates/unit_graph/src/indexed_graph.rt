@@ -7,7 +7,7 @@ ghost use Rattle.inverse_deps.specs.{EdgeAdjacency.{edge_map}, Edges.{AreEdges},
 ghost use Rattle.unit_graph.specs.{Graphs.{AreDepths, HasInverses, IsIndexFor, IsKnown, IsReach, LeadsBy, LeadToUnits, pulling}, Tables.{IsTable}};
 
 use index_rows::{AdjacencyLists, Successors, closure, distances};
-use inverse_deps::{EdgeTable, names_at};
+use inverse_deps::{EdgeTable, main_index, names_at};
 use parallel_load::Loaded;
 use setting_rules::DepKind;
 use std::alloc::AllocError;
@@ -70,7 +70,7 @@ impl<'a> IndexedGraph<'a> {
     pub fn index(&self, name: &UnitName) -> Option<usize>
         ensures index { MatchOption result (¬ IsKnown self.now.load name.now) (IsIndexFor self.now.load name.now) }
     {
-        self.loaded.main_index(name)
+        main_index(self.loaded, name)
     }
 }
 

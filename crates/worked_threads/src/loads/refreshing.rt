@@ -9,7 +9,8 @@ ghost use Rattle.parallel_load.specs.Loads.{IsLoad};
 use crate::loads::edits::{Done, asked_of};
 use crate::loads::rendering::{append_fault, append_places, is_same_load};
 use crate::loads::universes::universe_of;
-use parallel_load::{LoadFault, Loaded, Refreshed, load_here, refresh_in_place};
+use load_refreshes::{Refreshed, refresh_in_place};
+use parallel_load::{LoadFault, Loaded, load_here};
 use replica_store::{Edit, Place, Store, Viewer};
 use std::alloc::Global;
 use unit_name::UnitName;
@@ -43,7 +44,7 @@ impl LoadedStore {
             ↔ (visible_at store.now p ≢ visible_at self.now.store p) }
         ensures load { IfOk result (λ load. IsLoad (host_view_of store.now load.viewer) load.extra load) }
     {
-        let load = parallel_load::refresh(&self.load, store, changed)?;
+        let load = load_refreshes::refresh(&self.load, store, changed)?;
         Ok(load)
     }
 
