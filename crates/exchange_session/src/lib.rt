@@ -9,7 +9,7 @@
 //! are never writing at once.
 //!
 //! - `messages`: `Message`, `RangePrint`, `RangeAsk`.
-//! - `replies`: `open` and `reply`; `comparing` has what is said to prints, and `asking` what is said to asks.
+//! - `replies`: `open`, `answer` and `reply`; `comparing` has what is said to prints, and `asking` what is said to asks.
 //! - `session_laws`: a piece that answers an ask is a cut of the world for the ask of which it was told a part.
 #![tactic(auto)]
 
@@ -23,4 +23,4 @@ mod replies;
 pub use laws::session_laws;
 pub use messages::{Message, RangeAsk, RangePrint};
 pub use reconciling::reconcile;
-pub use replies::{open, reply};
+pub use replies::{answer, open, reply};
