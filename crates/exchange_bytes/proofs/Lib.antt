@@ -3,3 +3,4 @@ pub mod Taking
 pub mod Whole
 pub mod Inserting
 pub mod Packing
+pub mod Weighing

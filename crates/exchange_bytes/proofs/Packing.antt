@@ -124,7 +124,7 @@ piece_more old mid now sent piece so_far says s = says.pieces s ∙ ap (λ (m : 
 
 -- ---- weights
 
-total_push : {X : Type 0} (weight : X → ℕ) (xs : List X) (x : X) → total weight (xs ++ x ∷ []) ≡ total weight xs + weight x
+pub total_push : {X : Type 0} (weight : X → ℕ) (xs : List X) (x : X) → total weight (xs ++ x ∷ []) ≡ total weight xs + weight x
 total_push weight [] x = omega arith
 total_push weight (y ∷ xs) x = let more = total_push weight xs x in omega (arith, more)
 

@@ -1,6 +1,6 @@
 -- Messages that are cut into frames.
 -- Source: this project's own.
-use Rattle.std.specs.Prelude.{ℕ, ◌≡◌, ◌≤◌, ◌+◌, ◌*◌, true, false, List, [], ◌∷◌, ◌++◌, length, map, min, None, Option}
+use Rattle.std.specs.Prelude.{ℕ, All, ◌≡◌, ◌≤◌, ◌+◌, ◌*◌, true, false, List, [], ◌∷◌, ◌++◌, length, map, min, None, Option}
 use Rattle.std.specs.FinMap as finmap
 use Rattle.std.specs.List.{flat_map}
 use Rattle.load_places.specs.Places.{PlaceParts}
@@ -65,6 +65,13 @@ piece_weight s = total entry_weight (finmap.entries s)
 abbrev pub message_weight : Message → ℕ
 message_weight m = total print_weight m.prints.items + (total ask_weight m.asks.items + total piece_weight m.pieces.items)
 
+abbrev pub frame_weight : Frame → ℕ
+frame_weight f = total print_weight f.prints.items + (total ask_weight f.asks.items + piece_weight f.piece)
+
+-- it takes no more than a frame may
+abbrev pub IsSmall : Frame → Type 0
+IsSmall f = frame_weight f ≤ frame_limit
+
 -- ---- words for private clauses: frames, and one that is open
 
 abbrev pub prints_in : Packing → List RangePrint
@@ -96,3 +103,12 @@ IsHeavier old now more = (w : ℕ) → Weighs old w → Weighs now (w + more)
 
 pub record GrowsBy (old now : Packing) (more : ℕ) : Type 0 where
   pub weighs : IsHeavier old now more
+
+abbrev pub open_weight : Packing → ℕ
+open_weight p = total print_weight p.prints.items + (total ask_weight p.asks.items + piece_weight p.store)
+
+-- all frames are small, and the open one has room for so much more
+pub record HasRoom (p : Packing) (more : ℕ) : Type 0 where
+  pub frames : All IsSmall p.frames.items
+  pub held : open_weight p + more ≤ p.weight
+  pub within : p.weight ≤ frame_limit

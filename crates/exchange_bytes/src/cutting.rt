@@ -1,9 +1,9 @@
 //! Messages, cut into frames.
 ghost use Rattle.std.specs.FinMap as finmap;
-ghost use Rattle.std.specs.{Prelude.{◌++◌, ◌∷◌, ◌≡◌, ◌≤◌, [], IfOk, length, suc}};
+ghost use Rattle.std.specs.{Prelude.{◌++◌, ◌∷◌, ◌≡◌, ◌≤◌, [], All, IfOk, length, suc}};
 ghost use Rattle.edit_sums.specs.{Contents.{bytes_of}, declared.entries.Edit.{Edit}, Sums.{EntryMap, sum_of}};
 ghost use Rattle.exchange_session.specs.Joined.{joined};
-ghost use Rattle.exchange_bytes.specs.Cutting.{all_asks, all_pieces, all_prints, AreBefore, AreFrames, ask_weight, asks_in, content_weight, frame_limit, GrowsBy, IsHeavier, IsOpen, message_weight, piece_weight, pieces_in, print_weight, prints_in, SaysAlso, total};
+ghost use Rattle.exchange_bytes.specs.Cutting.{all_asks, all_pieces, all_prints, AreBefore, AreFrames, ask_weight, asks_in, content_weight, frame_limit, GrowsBy, HasRoom, IsHeavier, IsOpen, IsSmall, message_weight, piece_weight, pieces_in, print_weight, prints_in, SaysAlso, total};
 
 use crate::frames::{Frame, Hello};
 use delta_pieces::Piece;
@@ -55,6 +55,8 @@ pub fn frames_of(
     ensures pieces { IfOk result (λ frames. (s : EntryMap) → joined s (all_pieces frames.items) ≡ joined s message.pieces.items) }
     ensures frames { IfOk result (λ frames. AreFrames hello frames.items) }
     ensures one { IfOk result (λ frames. message_weight message ≤ frame_limit → length frames.items ≡ 1) }
+    // Each takes at most `FRAME_LIMIT` bytes, but for what it says of itself and for its checksum.
+    ensures small { IfOk result (λ frames. All IsSmall frames.items) }
 {
     let (prints, asks, pieces) = message.into_parts();
     let packing = Packing::begun(alloc, hello);
@@ -90,6 +92,7 @@ impl Packing {
     fn closed(self) -> Result<Packing, AllocError>
         ensures says { IfOk result (λ now. SaysAlso self now [] [] finmap.empty) }
         ensures weight { IfOk result (λ now. now.weight ≡ 0) }
+        ensures small { IfOk result (λ now. HasRoom self 0 → HasRoom now 0) }
     {
         let Packing {
             alloc,
@@ -117,6 +120,7 @@ impl Packing {
         requires small { weight ≤ 900_000 }
         ensures says { IfOk result (λ now. SaysAlso self now [] [] finmap.empty) }
         ensures heavier { IfOk result (λ now. IsHeavier self now weight) }
+        ensures room { IfOk result (λ now. HasRoom self 0 → HasRoom now weight) }
     {
         let mut open = if self.weight > FRAME_LIMIT - weight {
             self.closed()?
@@ -131,6 +135,7 @@ impl Packing {
     fn with_print(self, print: RangePrint) -> Result<Packing, AllocError>
         ensures says { IfOk result (λ now. SaysAlso self now (print ∷ []) [] finmap.empty) }
         ensures heavier { IfOk result (λ now. IsHeavier self now (print_weight print)) }
+        ensures small { IfOk result (λ now. HasRoom self 0 → HasRoom now 0) }
     {
         let mut open = self.with_room(1_200)?;
         open.prints.push(print)?;
@@ -141,6 +146,7 @@ impl Packing {
     fn with_prints(self, prints: Vec<RangePrint>) -> Result<Packing, AllocError>
         ensures says { IfOk result (λ now. SaysAlso self now prints.items [] finmap.empty) }
         ensures heavier { IfOk result (λ now. GrowsBy self now (total print_weight prints.items)) }
+        ensures small { IfOk result (λ now. HasRoom self 0 → HasRoom now 0) }
     {
         let mut open = self;
         for print in prints {
@@ -153,6 +159,7 @@ impl Packing {
     fn with_ask(self, ask: RangeAsk) -> Result<Packing, AllocError>
         ensures says { IfOk result (λ now. SaysAlso self now [] (ask ∷ []) finmap.empty) }
         ensures heavier { IfOk result (λ now. IsHeavier self now (ask_weight ask)) }
+        ensures small { IfOk result (λ now. HasRoom self 0 → HasRoom now 0) }
     {
         let weight = 1_200 + 600 * ask.versions.versions().len().min(1_498);
         let mut open = self.with_room(weight)?;
@@ -164,6 +171,7 @@ impl Packing {
     fn with_asks(self, asks: Vec<RangeAsk>) -> Result<Packing, AllocError>
         ensures says { IfOk result (λ now. SaysAlso self now [] asks.items finmap.empty) }
         ensures heavier { IfOk result (λ now. GrowsBy self now (total ask_weight asks.items)) }
+        ensures small { IfOk result (λ now. HasRoom self 0 → HasRoom now 0) }
     {
         let mut open = self;
         for ask in asks {
@@ -176,6 +184,7 @@ impl Packing {
     fn with_entry(self, edit: Edit) -> Result<Packing, AllocError>
         ensures says { IfOk result (λ now. SaysAlso self now [] [] (sum_of (edit ∷ []))) }
         ensures heavier { IfOk result (λ now. IsHeavier self now (content_weight edit.content)) }
+        ensures small { IfOk result (λ now. HasRoom self 0 → HasRoom now 0) }
     {
         let mut open = self.with_room(weight_of(&edit.content))?;
         open.store.join_edit(edit)?;
@@ -186,6 +195,7 @@ impl Packing {
     fn with_piece(self, piece: &Piece) -> Result<Packing, AllocError>
         ensures says { IfOk result (λ now. SaysAlso self now [] [] piece.now) }
         ensures heavier { IfOk result (λ now. IsHeavier self now (piece_weight piece.now)) }
+        ensures small { IfOk result (λ now. HasRoom self 0 → HasRoom now 0) }
     {
         let mut open = self;
         let mut entries = piece.store().entries();
@@ -208,6 +218,7 @@ impl Packing {
         ensures pieces { IfOk result (λ now. (s : EntryMap) → joined s (pieces_in now) ≡ joined (joined s (pieces_in self)) pieces.items) }
         ensures linked { IfOk result (λ now. (first : _) → IsOpen first self → IsOpen first now) }
         ensures heavier { IfOk result (λ now. GrowsBy self now (total piece_weight pieces.items)) }
+        ensures small { IfOk result (λ now. HasRoom self 0 → HasRoom now 0) }
     {
         let mut open = self;
         for piece in pieces {
@@ -223,6 +234,7 @@ impl Packing {
         ensures pieces { IfOk result (λ frames. all_pieces frames.items ≡ pieces_in self) }
         ensures frames { IfOk result (λ frames. (first : _) → IsOpen first self → AreFrames first frames.items) }
         ensures count { IfOk result (λ frames. length frames.items ≡ suc (length self.frames.items)) }
+        ensures small { IfOk result (λ frames. HasRoom self 0 → All IsSmall frames.items) }
     {
         let Packing {
             alloc: _,

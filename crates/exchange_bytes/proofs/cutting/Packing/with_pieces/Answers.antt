@@ -14,4 +14,5 @@ loop-piece-preserved c =
       pieces = piece_more c.args.self c.loop-piece.open c.in_ok-open.open c.loop-piece.yielded c.in-Some.piece known.pieces says;
       linked = λ first is. says.linked first (known.linked first is);
       heavier = record { weighs = weight_push c.args.self c.loop-piece.open c.in_ok-open.open piece_weight c.loop-piece.yielded c.in-Some.piece known.heavier.weighs c.in_ok-open.ensures.heavier };
+      small = λ room. c.in_ok-open.ensures.small (known.small room);
     }

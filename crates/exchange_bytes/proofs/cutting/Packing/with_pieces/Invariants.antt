@@ -1,7 +1,7 @@
 use Rattle.std.proofs.Common.{◌≡◌, Option}
 use Rattle.edit_sums.specs.Sums.{EntryMap}
 use Rattle.exchange_session.specs.Joined.{joined}
-use Rattle.exchange_bytes.specs.Cutting.{asks_in, GrowsBy, IsOpen, piece_weight, pieces_in, prints_in, total}
+use Rattle.exchange_bytes.specs.Cutting.{asks_in, GrowsBy, HasRoom, IsOpen, piece_weight, pieces_in, prints_in, total}
 use Rattle.exchange_bytes.specs.declared.frames.Hello.{Hello}
 use Rattle.exchange_bytes.proofs.cutting.Packing.with_pieces.Given as goal
 
@@ -12,4 +12,5 @@ invariant-loop-piece l = record {
   pieces : (s : EntryMap) → joined s (pieces_in l.open) ≡ joined (joined s (pieces_in l.fn.self)) l.yielded;
   linked : (first : Option Hello) → IsOpen first l.fn.self → IsOpen first l.open;
   heavier : GrowsBy l.fn.self l.open (total piece_weight l.yielded);
+  small : HasRoom l.fn.self 0 → HasRoom l.open 0;
 }
