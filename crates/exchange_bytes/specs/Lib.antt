@@ -9,3 +9,5 @@ pub mod ChainLaws
 pub mod PartLaws
 pub mod FrameLaws
 pub mod Cutting
+pub mod Sizes
+pub mod SizeLaws

@@ -41,9 +41,9 @@ impl Drop for Packing {
     }
 }
 
-/// Cuts a message into frames, of which the first has the hello. A message that fits stands in one frame; a frame's parts
-/// take at most `FRAME_LIMIT` bytes, but for an ask of more than 1,498 versions, which stands alone. Entries are copied,
-/// and share their bytes. O(n log n). Fails only if memory runs out; then the message is gone.
+/// Cuts a message into frames, of which the first has the hello. A message that fits stands in one frame. A frame's parts
+/// take at most `FRAME_LIMIT` bytes, but an ask of more than 1,498 versions stands alone in a frame, which may be longer.
+/// Entries are copied, and share their bytes. O(n log n). Fails only if memory runs out; then the message is gone.
 pub fn frames_of(
     alloc: Global,
     hello: Option<Hello>,
@@ -55,7 +55,7 @@ pub fn frames_of(
     ensures pieces { IfOk result (λ frames. (s : EntryMap) → joined s (all_pieces frames.items) ≡ joined s message.pieces.items) }
     ensures frames { IfOk result (λ frames. AreFrames hello frames.items) }
     ensures one { IfOk result (λ frames. message_weight message ≤ frame_limit → length frames.items ≡ 1) }
-    // Each takes at most `FRAME_LIMIT` bytes, but for what it says of itself and for its checksum.
+    // Each weighs no more than a frame may; `frames_are_short` says what that is in bytes.
     ensures small { IfOk result (λ frames. All IsSmall frames.items) }
 {
     let (prints, asks, pieces) = message.into_parts();

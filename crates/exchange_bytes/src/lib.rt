@@ -9,7 +9,7 @@
 //!
 //! - `frames`, `peers`: the values. `Hello` stands in a side's first frame.
 //! - `frame_to_bytes`, `frame_from_bytes`: whole frames. `frames_are_one_to_one` is their law.
-//! - `frames_of`: a message, cut into frames.
+//! - `frames_of`: a message, cut into frames. `frames_are_short` says how long they are.
 //! - `DecodeFault` and `SpellingFault`: why bytes can't be read.
 #![tactic(auto)]
 
@@ -24,6 +24,6 @@ mod writing;
 pub use byte_fields::{DecodeFault, SpellingFault};
 pub use cutting::{FRAME_LIMIT, frames_of};
 pub use frames::{Frame, Hello};
-pub use laws::frames_are_one_to_one;
+pub use laws::{frames_are_one_to_one, frames_are_short};
 pub use peers::{Peer, Peers};
 pub use spelled::{frame_from_bytes, frame_to_bytes};
