@@ -1,5 +1,5 @@
 //! Commits.
-ghost use Rattle.std.specs.Prelude.{◌≡◌, ◌⊎◌, ◌↔◌, ◌++◌, [], List, true, IsErrOf, IsPermutation, OnErr, OnOk};
+ghost use Rattle.std.specs.Prelude.{◌≡◌, ◌⊎◌, ◌↔◌, ◌++◌, [], List, false, true, IsErrOf, IsPermutation, OnErr, OnOk};
 ghost use Rattle.edit_sums.specs.Sums.{sum_of};
 ghost use Rattle.edit_log.specs.declared.logs.LogRow.{LogRow};
 ghost use Rattle.edit_log.specs.Logs.{edits_in, LeavesAllOrNone, LeavesJust, stamped};
@@ -24,6 +24,7 @@ impl<L: EditLog> NodeFile<L> {
         ensures crash { L.is_honest self.new.log → LeavesAllOrNone (L.held self.old.log) (stamped time self.old.unsaved) (L.may_leave self.old.log) (L.may_leave self.new.log) }
         ensures found { L.is_honest self.new.log → (left : List LogRow) → L.may_leave self.new.log left →
             L.may_leave self.old.log left ⊎ (sum_of (edits_in left) ≡ self.new.replica.store) }
+        ensures whole { OnOk result (self.new.is_spent ≡ false) }
         ensures refused { OnErr result (self.new.is_spent ≡ true) }
         ensures unwritten { OnErr result (self.new.unsaved ≡ self.old.unsaved) }
         ensures replica { self.new.replica ≡ self.old.replica }

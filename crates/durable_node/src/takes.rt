@@ -1,7 +1,7 @@
 //! What a node takes from others.
 ghost use Rattle.std.specs.Prelude.{◌≡◌, ◌↔◌, ◌++◌, ◌⊎◌, ◌^◌, ◌≤◌, IfOk, IsErrOf, OnErr, OnOk, true};
 ghost use Rattle.std.specs.Option.{option_copied};
-ghost use Rattle.edit_sums.specs.Sums.{changed_places, edit_of, high_of, join};
+ghost use Rattle.edit_sums.specs.Sums.{changed_places, edit_of, high_of, IsStoreBelow, join};
 ghost use Rattle.durable_node.specs.News.{is_news, news_of};
 
 use crate::faults::NodeFault;
@@ -110,6 +110,7 @@ impl<L: EditLog> NodeFile<L> {
         ensures log { self.new.log ≡ self.old.log }
         ensures whole { OnOk result (self.new.is_spent ≡ self.old.is_spent) }
         ensures writer { self.new.replica.writer ≡ self.old.replica.writer }
+        ensures held { IsStoreBelow self.old.replica.store self.new.replica.store }
     {
         if piece.store().high() >= COUNTERS {
             return Err(NodeFault::Counter);

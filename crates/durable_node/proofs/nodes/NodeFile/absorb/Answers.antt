@@ -1,6 +1,6 @@
 use Rattle.std.proofs.Common.{◌≡◌, ◌++◌, ◌<◌, ◌^◌, ap, arith, false, List, subst, subst₂, sym, true, ◌∙◌}
 use Rattle.edit_sums.specs.declared.entries.Edit.{Edit}
-use Rattle.edit_sums.specs.Sums.{EntryMap, high_among, high_of}
+use Rattle.edit_sums.specs.{SumLaws.{join-left, store_below_refl}, Sums.{EntryMap, high_among, high_of, IsStoreBelow}}
 use Rattle.replica_store.specs.Replicas.{Replicated}
 use Rattle.durable_node.specs.News.{news_of}
 use Rattle.durable_node.specs.NewsLaws.{news_high}
@@ -35,3 +35,17 @@ invariant_of-self-in-Err g c =
       sums = λ whole honest. absurd cc;
       counters = subst (λ (es : List Edit). high_among es < 2 ^ 63) (sym {A = List Edit} items) kept.counters;
     }
+
+pub returns-then-high-ge-COUNTERS-clause-held : goal.returns-then-high-ge-COUNTERS-clause-held
+returns-then-high-ge-COUNTERS-clause-held g c = store_below_refl c.args.self.now.replica.store
+
+pub returns-in_err-news-clause-held : goal.returns-in_err-news-clause-held
+returns-in_err-news-clause-held g c = store_below_refl c.args.self.now.replica.store
+
+pub returns-in_err-append-clause-held : goal.returns-in_err-append-clause-held
+returns-in_err-append-clause-held g c = subst (λ (n : Node _). IsStoreBelow n.replica.store c.self.inside.replica.store) c.self.view_is (store_below_refl c.self.inside.replica.store)
+
+pub returns-in-Ok-clause-held : goal.returns-in-Ok-clause-held
+returns-in-Ok-clause-held g c =
+    let joined = subst (λ (r : Replicated). IsStoreBelow c.self.inside.replica.store r.store) (sym {A = Replicated} c.in-Ok.ensures.ok) (join-left c.self.inside.replica.store c.args.piece) in
+    subst (λ (n : Node _). IsStoreBelow n.replica.store c.take.new.replica.store) c.self.view_is joined
