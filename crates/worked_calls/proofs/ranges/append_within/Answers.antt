@@ -1,6 +1,4 @@
-use Rattle.list_laws.specs.Truths.{from_T}
-use Rattle.std.specs.FinMap as finmap
 use Rattle.worked_calls.proofs.ranges.append_within.Goals as goal
 
-pub within-requires : goal.within-requires
-within-requires c = record { sorted = rw c.versions.ensures.versions (from_T _ (finmap.entries_sorted _)) }
+pub within-it-items-requires : goal.within-it-items-requires
+within-it-items-requires c = record { sorted = rw c.deref.ensures.value c.in_ok-all.ensures.sorted }
