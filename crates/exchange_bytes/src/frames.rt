@@ -34,7 +34,9 @@ impl Drop for Hello {
 pub struct Frame {
     /// Stands in the first frame alone.
     pub hello: Option<Hello>,
+    /// What is told of ranges.
     pub prints: Vec<RangePrint>,
+    /// What is asked for.
     pub asks: Vec<RangeAsk>,
     /// The entries that are sent, of whichever asks.
     pub piece: Piece,

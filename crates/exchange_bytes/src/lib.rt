@@ -3,9 +3,9 @@
 //!
 //! Promise: one spelling each; bytes are read exactly; frames say what the message says.
 //!
-//! Two sides that compare their replicas send each other messages. A message goes as a list of frames, of which none is
-//! longer than a megabyte, and each but the last says that more come. A range in a frame costs one bound where it begins at
-//! the end of the range before it, as the parts of a range that is cut do.
+//! Two sides that compare their replicas send each other messages. A message goes as a list of frames, each of which is
+//! short, and says whether more come. A range in a frame costs one bound where it begins at the end of the range before it,
+//! as the parts of a range that is cut do.
 //!
 //! - `frames`, `peers`: the values. `Hello` stands in a side's first frame.
 //! - `frame_to_bytes`, `frame_from_bytes`: whole frames. `frames_are_one_to_one` is their law.

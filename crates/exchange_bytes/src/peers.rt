@@ -6,10 +6,12 @@ ghost use Rattle.exchange_bytes.specs.Peers.{AreAscending, is_next, leading, pee
 use std::alloc::{AllocError, Global};
 use std::marker::Model;
 
-/// A node that another has met, by the random bytes that tell its file from each other one, and by its number.
+/// A node that another has met.
 #[derive(Clone, Copy, Debug, PartialEq, Eq, PartialOrd, Ord)]
 pub struct Peer {
+    /// Random bytes, which tell its file from each other one.
     pub mark: [u8; 16],
+    /// The number under which it writes.
     pub writer: u32,
 }
 
