@@ -1,7 +1,6 @@
-//! The exchange of a node that lasts with a peer, over any two streams of bytes: what one differs in from the other comes to
-//! both. The sides speak in turns, so neither writes while the other does, and a pipe of any size carries them.
+//! The exchange of a node that lasts with a peer, over any two streams of bytes: each gets what it lacks of the other. The sides speak in turns, so neither writes while the other does, and a pipe of any size carries them.
 //!
-//! Promise: a commit is whole; what a node held it holds behind an exchange, however that ends.
+//! Promise: a node loses nothing in an exchange.
 //!
 //! A message goes as frames of at most a megabyte, each behind its length in four bytes. The entries of a frame are committed
 //! before the next one is read: so an exchange that is cut off keeps what came whole, and needs memory for one frame of them.

@@ -91,7 +91,8 @@ fn converse<L: EditLog, S: Source, K: Sink>(
 /// Begins an exchange: tells the print of all that the node holds, made with this seed, and then speaks and hears in turns
 /// until one side asks for no answer. What comes is committed with this time, in seconds since 1970. If the peer does the
 /// same by `respond`, both then hold the join of what they held, unless prints of ranges that differ were equal, for a seed by
-/// chance: the next exchange, by another seed, finds that.
+/// chance: the next exchange, by another seed, finds that. This is proved of `reconcile`, which has the same messages said in
+/// one process, and not of streams.
 ///
 /// Each turn costs a pass over the replica; a turn tells prints of parts of the ranges in which the turn before it differed.
 /// Fails with `WriterTaken` if the peer writes under the same number; with `Bytes`, `Length`, `Hello` or `Endless` if what
