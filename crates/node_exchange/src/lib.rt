@@ -1,4 +1,5 @@
-//! The exchange of a node that lasts with a peer, over any two streams of bytes: each gets what it lacks of the other. The sides speak in turns, so neither writes while the other does, and a pipe of any size carries them.
+//! The exchange of a node that lasts with a peer, over any two streams of bytes: each gets what it lacks of the other. The
+//! sides speak in turns, so neither writes while the other does, and a pipe of any size carries them.
 //!
 //! Promise: a node loses nothing in an exchange.
 //!
