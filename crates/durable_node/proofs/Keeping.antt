@@ -1,5 +1,5 @@
 -- What a call leaves of a node.
-use Rattle.std.proofs.Common.{◌≡◌, ◌⊎◌, inl, inr, ◌<◌, ◌^◌, ◌++◌, ◌∷◌, [], ap, arith, List, map, refl, subst, sym, ◌∙◌, ℕ, Bool, true, false, cond, filter, get_or, IfOk, IsOk, length, Ok, Err, Result, take, ◌+◌}
+use Rattle.std.proofs.Common.{◌≡◌, ◌⊎◌, inl, inr, ◌<◌, ◌^◌, ◌++◌, ◌∷◌, [], ap, append-nil, arith, List, map, refl, subst, sym, ◌∙◌, ℕ, Bool, true, false, cond, filter, get_or, IfOk, IsOk, length, Ok, Err, Result, take, ◌+◌}
 use Rattle.std.specs.Prelude.{IsPermutation}
 use Rattle.std.proofs.lemmas.List.{take_more}
 use Rattle.std.proofs.lemmas.List.Sorted.{IsPermutation-map}
@@ -13,7 +13,7 @@ use Rattle.edit_log.specs.Logs.{edits_in, stamped}
 use Rattle.durable_node.specs.Nodes.{IsKept, Node}
 use Rattle.durable_node.specs.News.{news_of}
 use Rattle.durable_node.specs.NewsLaws.{join_news}
-use Rattle.durable_node.specs.RowLaws.{added_sum}
+use Rattle.durable_node.specs.RowLaws.{added_sum, sum_moved}
 use Rattle.durable_node.proofs.Orders.{IsPermutation-filter}
 use Rattle.durable_node.specs.Histories.{logged_at, logged_of}
 use Rattle.durable_node.specs.declared.histories.Logged.{Logged}
@@ -76,6 +76,13 @@ module _ {L : Type 0} (is_honest is_running : L → Type 0) (held : L → List L
   kept_found n time new before kept whole was honest left (inl was_left) = inl was_left
   kept_found n time new before kept whole was honest left (inr moved) = inr (added_sum time (held n.log) left n.unsaved moved ∙ sym (kept.sums whole (was honest)))
 
+  -- what the log came to is what the node holds, where all is saved
+  pub kept_alone : (n : Node L) → IsKept is_honest is_running held n → n.is_spent ≡ false → is_honest n.log → n.unsaved ≡ [] → (left : List LogRow) (before : Type 0)
+      → before ⊎ (sum_of (edits_in left) ≡ sum_of (edits_in (held n.log))) → before ⊎ (sum_of (edits_in left) ≡ n.replica.store)
+  kept_alone n kept whole honest none left before (inl was_left) = inl was_left
+  kept_alone n kept whole honest none left before (inr same) =
+      inr (same ∙ sym (join-nothing (sum_of (edits_in (held n.log)))) ∙ ap (λ (es : List Edit). join (sum_of (edits_in (held n.log))) (sum_of es)) (sym none) ∙ sym (kept.sums whole honest))
+
   -- a node that was opened
   pub kept_open : (new : L) (rows : List LogRow) (replica : Replicated) (unsaved : List Edit) → unsaved ≡ [] → is_running new → (is_honest new → held new ≡ rows) → (is_honest new → replica.store ≡ sum_of (edits_in rows))
       → IsKept is_honest is_running held (record { log = new; replica = replica; unsaved = unsaved; is_spent = false })
@@ -84,6 +91,11 @@ module _ {L : Type 0} (is_honest is_running : L → Type 0) (held : L → List L
     sums = λ _ honest. sums honest ∙ ap (λ (rs : List LogRow). sum_of (edits_in rs)) (sym (same honest)) ∙ sym (join-nothing (sum_of (edits_in (held new)))) ∙ ap (λ (es : List Edit). join (sum_of (edits_in (held new))) (sum_of es)) (sym none);
     counters = subst (λ (es : List Edit). high_among es < 2 ^ 63) (sym none) (omega arith);
   }
+
+-- rows that a crash left with no edit more come to the same
+pub left_alone : (rows left : List LogRow) (before : Type 0) → before ⊎ IsPermutation (rows ++ []) left → before ⊎ (sum_of (edits_in left) ≡ sum_of (edits_in rows))
+left_alone rows left before (inl was_left) = inl was_left
+left_alone rows left before (inr moved) = inr (sym (sum_moved rows left (subst (λ l. IsPermutation l left) (append-nil rows) moved)))
 
 -- the history of a place doesn't depend on the order of the rows
 pub logged_moved : (place : PlaceParts) (rows others : List LogRow) → IsPermutation rows others → IsPermutation (logged_at place rows) (logged_at place others)

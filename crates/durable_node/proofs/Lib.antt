@@ -1,2 +1,3 @@
 pub mod Orders
 pub mod Keeping
+pub mod Knowing

@@ -4,3 +4,4 @@ pub mod News
 pub mod NewsLaws
 pub mod Histories
 pub mod RowLaws
+pub mod Peers

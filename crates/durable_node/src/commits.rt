@@ -18,6 +18,7 @@ impl<L: EditLog> NodeFile<L> {
     pub fn commit(&mut self, time: u32) -> Result<(), NodeFault>
         ensures spent { IsErrOf result NodeFault.Spent ↔ (self.old.is_spent ≡ true) }
         ensures held { L.is_honest self.new.log → OnOk result (IsPermutation (L.held self.old.log ++ stamped time self.old.unsaved) (L.held self.new.log)) }
+        ensures peers { L.is_honest self.new.log → OnOk result (L.peers self.new.log ≡ L.peers self.old.log) }
         ensures sum { L.is_honest self.new.log → OnOk result (sum_of (edits_in (L.held self.new.log)) ≡ self.new.replica.store) }
         ensures lasts { L.is_honest self.new.log → OnOk result (LeavesJust (L.held self.new.log) (L.may_leave self.new.log)) }
         ensures saved { OnOk result (self.new.unsaved ≡ []) }

@@ -65,6 +65,7 @@ impl<L: EditLog> NodeFile<L> {
         ensures rows { L.is_honest self.new.log → IfOk result (λ logged. IsPermutation (logged_at place.now (L.held self.old.log)) logged.items) }
         ensures sorted { IfOk result (λ logged. IsSorted ⟦<Logged as Ord>⟧.cmp logged.items) }
         ensures held { L.is_honest self.new.log → OnOk result (L.held self.new.log ≡ L.held self.old.log) }
+        ensures peers { L.is_honest self.new.log → OnOk result (L.peers self.new.log ≡ L.peers self.old.log) }
         ensures refused { OnErr result ((self.new.is_spent ≡ true) ⊎ (L.is_honest self.new.log → L.held self.new.log ≡ L.held self.old.log)) }
         ensures crash { L.is_honest self.new.log → LeavesNothingNew (L.may_leave self.old.log) (L.may_leave self.new.log) }
         ensures replica { self.new.replica ≡ self.old.replica }

@@ -7,7 +7,7 @@
 //! none, and nothing else; so no version is given twice. `edit_log` has the laws over all lives of a node.
 //!
 //! - `NodeFile`: a node over a log. `open` makes one of a log; `put`, `remove` and `take` change it; `commit`, `history` and
-//!   `compact_into` use the log.
+//!   `compact_into` use the log. `note_peers` and `peers` keep and tell whom the node has met.
 //! - `NodeFault`: why a call was refused. `Logged`: an edit of a place's history.
 #![tactic(auto)]
 
@@ -18,9 +18,10 @@ mod faults;
 mod histories;
 mod nodes;
 mod opening;
+mod peers;
 mod takes;
 
-pub use edit_log::{EditLog, LogFault, LogHead, LogRow};
+pub use edit_log::{EditLog, LogFault, LogHead, LogPeer, LogRow};
 pub use faults::NodeFault;
 pub use histories::Logged;
 pub use nodes::{FORMAT, NodeFile};

@@ -7,8 +7,8 @@
 //! premise of honest files (nothing else writes them, and each read gives back what was written) stands inside each
 //! sentence that needs it.
 //!
-//! - `EditLog`: what a log does. `LogHead` is what it says of itself, `LogRow` an edit with the time of its commit, and
-//!   `LogFault` says why a log was not made, opened, read or appended to.
+//! - `EditLog`: what a log does. `LogHead` is what it says of itself, `LogRow` an edit with the time of its commit, `LogPeer`
+//!   a node that this one has met or was told of, and `LogFault` says why a log was not made, opened, read or appended to.
 //! - `MemoryLog`: a log in memory, for tests, which fails at a step of one's choice.
 //! - `Happening`, `answered_edits_stay`, `only_asked_edits`, `versions_are_made_once`, `lives_are_one_history`: the laws over
 //!   all lives of a node, from crash to crash.
@@ -23,5 +23,5 @@ pub use happenings::Happening;
 pub use laws::{
     answered_edits_stay, lives_are_one_history, only_asked_edits, versions_are_made_once,
 };
-pub use logs::{EditLog, LogFault, LogHead, LogRow};
+pub use logs::{EditLog, LogFault, LogHead, LogPeer, LogRow};
 pub use memory::MemoryLog;

@@ -1,8 +1,8 @@
 //! Logs, and their rows.
-ghost use Rattle.std.specs.Prelude.{◌++◌, ◌≡◌, ◌<◌, ◌^◌, IfOk, IsPermutation, List, OnOk};
+ghost use Rattle.std.specs.Prelude.{◌++◌, ◌≡◌, ◌<◌, ◌^◌, [], IfOk, IsPermutation, List, OnOk};
 ghost use Rattle.edit_sums.specs.Sums.{high_among};
 ghost use Rattle.edit_log.specs.declared.logs.{LogHead.{LogHead}, LogFault.TheVariants.{Memory}};
-ghost use Rattle.edit_log.specs.declared.logs.LogRow.{LogRow};
+ghost use Rattle.edit_log.specs.declared.logs.{LogPeer.{LogPeer}, LogRow.{LogRow}};
 ghost use Rattle.edit_log.specs.Logs.{LeavesAllOrNone, LeavesJust, LeavesNothingNew, stamped};
 
 use edit_sums::Edit;
@@ -56,6 +56,17 @@ impl LogRow {
     }
 }
 
+/// A node that this one has met or was told of, as a log holds it.
+#[derive(Clone, Copy, Debug, PartialEq, Eq, PartialOrd, Ord)]
+pub struct LogPeer {
+    /// The mark of its log.
+    pub mark: [u8; 16],
+    /// The number under which it writes.
+    pub writer: u32,
+    /// When it was last met, in seconds since 1970; 0 if it was only told of.
+    pub seen: u32,
+}
+
 /// Why a log was not made, opened, read or appended to.
 #[derive(Clone, Copy, Debug, PartialEq, Eq, Error)]
 pub enum LogFault {
@@ -84,7 +95,7 @@ impl From<AllocError> for LogFault {
     }
 }
 
-/// A log of edits. Its edits have counters below 2^63.
+/// A log of edits, and of the peers that its node knows. Its edits have counters below 2^63.
 ///
 /// A call that fails may have been cut off at any moment. So what a call says for a failure it also says of a crash
 /// within it, which is a call whose disk does nothing from some moment on.
@@ -101,6 +112,9 @@ pub trait EditLog {
     /// The rows that stand in it, in some order.
     ghost held: { Self → List LogRow };
 
+    /// The peers that are noted in it, in some order.
+    ghost peers: { Self → List LogPeer };
+
     /// The rows that the next open may find after a crash at this moment.
     ghost may_leave: { Self → List LogRow → Type 0 };
 
@@ -116,6 +130,7 @@ pub trait EditLog {
         requires running { is_running self.old }
         requires counters { high_among edits.now < 2 ^ 63 }
         ensures held { is_honest self.new → OnOk result (IsPermutation (held self.old ++ stamped time edits.now) (held self.new)) }
+        ensures peers { is_honest self.new → OnOk result (peers self.new ≡ peers self.old) }
         ensures crash { is_honest self.new → LeavesAllOrNone (held self.old) (stamped time edits.now) (may_leave self.old) (may_leave self.new) }
         ensures running { OnOk result (is_running self.new) }
         ensures head { head self.new ≡ head self.old }
@@ -125,6 +140,31 @@ pub trait EditLog {
     fn read(&mut self, alloc: Global) -> Result<Vec<LogRow>, LogFault>
         requires running { is_running self.old }
         ensures rows { is_honest self.new → IfOk result (λ rows. IsPermutation (held self.old) rows.items) }
+        ensures held { is_honest self.new → OnOk result (held self.new ≡ held self.old) }
+        ensures peers { is_honest self.new → OnOk result (peers self.new ≡ peers self.old) }
+        ensures crash { is_honest self.new → LeavesNothingNew (may_leave self.old) (may_leave self.new) }
+        ensures running { OnOk result (is_running self.new) }
+        ensures head { head self.new ≡ head self.old }
+        ensures honest { is_honest self.new → is_honest self.old };
+
+    /// Notes peers, all in one transaction, beside those that are noted.
+    ///
+    /// After an error it isn't known whether they are; of the edits a crash leaves what it could leave before, or just those
+    /// that it held.
+    fn note_peers(&mut self, met: &[LogPeer]) -> Result<(), LogFault>
+        requires running { is_running self.old }
+        ensures noted { is_honest self.new → OnOk result (IsPermutation (peers self.old ++ met.now) (peers self.new)) }
+        ensures held { is_honest self.new → OnOk result (held self.new ≡ held self.old) }
+        ensures crash { is_honest self.new → LeavesAllOrNone (held self.old) [] (may_leave self.old) (may_leave self.new) }
+        ensures running { OnOk result (is_running self.new) }
+        ensures head { head self.new ≡ head self.old }
+        ensures honest { is_honest self.new → is_honest self.old };
+
+    /// Returns all peers that are noted, in some order. A crash leaves what it could leave before.
+    fn peers(&mut self, alloc: Global) -> Result<Vec<LogPeer>, LogFault>
+        requires running { is_running self.old }
+        ensures all { is_honest self.new → IfOk result (λ all. IsPermutation (peers self.old) all.items) }
+        ensures peers { is_honest self.new → OnOk result (peers self.new ≡ peers self.old) }
         ensures held { is_honest self.new → OnOk result (held self.new ≡ held self.old) }
         ensures crash { is_honest self.new → LeavesNothingNew (may_leave self.old) (may_leave self.new) }
         ensures running { OnOk result (is_running self.new) }

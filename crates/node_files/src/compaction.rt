@@ -6,12 +6,12 @@ ghost use Rattle.sqlite.specs.WalReads.{AreClean};
 ghost use Rattle.edit_sums.specs.Sums.{edits_of, sum_of};
 ghost use Rattle.edit_log.specs.Logs.{edits_in, stamped};
 ghost use Rattle.sqlite_log.specs.Closed.{HoldsLog};
-ghost use Rattle.sqlite_log.specs.States.{held_in, Stands};
+ghost use Rattle.sqlite_log.specs.States.{held_in, peers_in, Stands};
 ghost use Rattle.node_files.specs.Compacted.{Compacts};
 
 use crate::names::{beside_name, fault_of, or_removed};
 use crate::opening::{PathLog, PathNode, open};
-use durable_node::{EditLog, NodeFault, NodeFile};
+use durable_node::{EditLog, LogPeer, NodeFault, NodeFile};
 use sqlite::{FileFrom, Files, Start};
 use sqlite_disk::Disk;
 use std::fs::{self, OpenFile};
@@ -32,10 +32,11 @@ pub struct Compacted<S: Start, T: Start> {
     pub(crate) fresh: Files<FileFrom<T>>,
 }
 
-// Makes a log at a path that holds each entry of a node once, under the node's head.
+// Makes a log at a path that holds each entry of a node once, and these peers, under the node's head.
 fn make_compacted<L: EditLog, T: Start>(
     rt: &HostRuntime,
     node: &NodeFile<L>,
+    peers: &[LogPeer],
     path: &str,
     time: u32,
     start: T,
@@ -46,9 +47,10 @@ fn make_compacted<L: EditLog, T: Start>(
         IsPermutation (stamped time (edits_of node.now.replica.store)) (held_in (file_state log.inside.conn).committed.trees)) }
     ensures sum { IfOk result (λ log. HasCleanDisk (file_state log.inside.conn) →
         sum_of (edits_in (held_in (file_state log.inside.conn).committed.trees)) ≡ node.now.replica.store) }
+    ensures peers { IfOk result (λ log. HasCleanDisk (file_state log.inside.conn) → IsPermutation peers.now (peers_in (file_state log.inside.conn).committed.trees)) }
 {
     let mut log = sqlite_log::create(rt, path, node.head(), start)?;
-    node.compact_into(&mut log, time)?;
+    node.compact_into(&mut log, time, peers)?;
     Ok(log)
 }
 
@@ -56,7 +58,8 @@ fn make_compacted<L: EditLog, T: Start>(
 fn close<S: Start>(node: PathNode<S>) -> Result<Files<FileFrom<S>>, NodeFault>
     requires running { Stands node.log.inside.head (file_state node.log.inside.conn) }
     ensures alone { IfOk result (λ files. AreClean ⟦<FileFrom<S> as Disk>⟧ files.log files.db →
-        HoldsLog ⟦<FileFrom<S> as Disk>⟧ files node.log.inside.head (held_in (file_state node.log.inside.conn).committed.trees)) }
+        HoldsLog ⟦<FileFrom<S> as Disk>⟧ files node.log.inside.head (held_in (file_state node.log.inside.conn).committed.trees)
+        (peers_in (file_state node.log.inside.conn).committed.trees)) }
     ensures clean { IfOk result (λ files. AreClean ⟦<FileFrom<S> as Disk>⟧ files.log files.db → HasCleanDisk (file_state node.log.inside.conn)) }
 {
     let log = node.into_log();
@@ -67,7 +70,7 @@ fn close<S: Start>(node: PathNode<S>) -> Result<Files<FileFrom<S>>, NodeFault>
 // Makes the compacted file of a node at a path, and closes both.
 fn close_both<S: Start, T: Start>(
     rt: &HostRuntime,
-    node: PathNode<S>,
+    mut node: PathNode<S>,
     path: &str,
     time: u32,
     start: T,
@@ -77,15 +80,16 @@ fn close_both<S: Start, T: Start>(
         node.replica.store ≡ sum_of (edits_in (held_in (file_state node.log.inside.conn).committed.trees)) }
     ensures alike { IfOk result (λ both. Compacts ⟦<FileFrom<S> as Disk>⟧ ⟦<FileFrom<T> as Disk>⟧ time both.0 both.1) }
 {
-    let log = make_compacted(rt, &node, path, time, start)?;
+    let peers = node.peers(rt.alloc())?;
+    let log = make_compacted(rt, &node, &peers, path, time, start)?;
     let fresh = log.close()?;
     let old = close(node)?;
     Ok((old, fresh))
 }
 
 /// Makes a file beside the one of the node at a path, under a name that ends in `.compact`, which holds each entry of the node
-/// once, removals too, with this time, under the same head; and copies what stands beside both database files into them. What
-/// an earlier call left there is removed first.
+/// once, removals too, with this time, and each node that it knows once, as it was seen last, under the same head; and copies
+/// what stands beside both database files into them. What an earlier call left there is removed first.
 ///
 /// Fails as `open` does, and with `Disk` if the disk refuses. Then the node's file holds what it held, and nothing is left
 /// beside it if the disk lets that be removed.
@@ -194,7 +198,7 @@ fn real_name<R: rt::Files + AllocGlobal>(rt: &R, path: &str) -> Result<PathBuf, 
 }
 
 /// Replaces the file of the node at a path by one that holds each place's entry once, removals too, each with this time: what
-/// was overwritten is forgotten. Its head and its sum stay. The new file is made beside it, under a name that ends in
+/// was overwritten is forgotten. Its head, its sum and the nodes that it knows stay. The new file is made beside it, under a name that ends in
 /// `.compact`, and needs as much room as the entries. An open by another process at the very moment of the rename may find the
 /// old file, whose name is gone: let none run.
 ///

@@ -6,7 +6,7 @@ ghost use Rattle.sqlite.specs.State.{HasCleanDisk};
 ghost use Rattle.sqlite.specs.WalFiles.{image_at};
 ghost use Rattle.edit_sums.specs.Sums.{sum_of};
 ghost use Rattle.edit_log.specs.Logs.{edits_in};
-ghost use Rattle.sqlite_log.specs.States.{held_in, Stands};
+ghost use Rattle.sqlite_log.specs.States.{held_in, peers_in, Stands};
 ghost use Rattle.node_files.specs.Found.{FindsHeld};
 
 use crate::names::or_removed;
@@ -37,7 +37,7 @@ fn new_head(rt: &impl RandomSource, writer: u32) -> Result<LogHead, NodeFault>
     }
 }
 
-/// Makes a file at a path for a writer number, and opens it: a node that holds nothing, with a mark that no other file has.
+/// Makes a file at a path for a writer number, and opens it: a node that holds nothing and knows none, with a mark of its own.
 /// No other process opens it until the node is dropped. A writer number belongs to one file alone.
 ///
 /// Fails with `Exists` if something is there, which stays as it is; with `Disk` if the disk or the folder refuses; and with
@@ -52,6 +52,7 @@ pub fn create<S: Start>(
     ensures writer { IfOk result (λ node. node.replica.writer ≡ writer) }
     ensures empty { IfOk result (λ node. HasCleanDisk (file_state node.log.inside.conn) → node.replica.store ≡ finmap.empty) }
     ensures held { IfOk result (λ node. HasCleanDisk (file_state node.log.inside.conn) → held_in (file_state node.log.inside.conn).committed.trees ≡ []) }
+    ensures alone { IfOk result (λ node. HasCleanDisk (file_state node.log.inside.conn) → peers_in (file_state node.log.inside.conn).committed.trees ≡ []) }
     ensures format { IfOk result (λ node. node.log.inside.head.format ≡ FORMAT) }
     ensures log_writer { IfOk result (λ node. node.log.inside.head.writer ≡ writer) }
     ensures saved { IfOk result (λ node. node.unsaved ≡ []) }

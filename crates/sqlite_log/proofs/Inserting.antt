@@ -18,10 +18,11 @@ use Rattle.sqlite.specs.Effect.{Database}
 use Rattle.sqlite.specs.State.{State, mode_of}
 use Rattle.sqlite.proofs.Callers.{one_step}
 use Rattle.edit_log.specs.declared.logs.LogHead.{LogHead}
-use Rattle.sqlite_log.specs.Cells.{Cells, cells_in, head_in, head_row, row_of}
-use Rattle.sqlite_log.specs.States.{Grows, heads_in, log_in}
-use Rattle.sqlite_log.specs.Tables.{edit_table, log_schema, meta_table}
-use Rattle.sqlite_log.proofs.Statements.{head_params, insert_edit, insert_head, params_of}
+use Rattle.edit_log.specs.declared.logs.LogPeer.{LogPeer}
+use Rattle.sqlite_log.specs.Cells.{Cells, cells_in, head_in, head_row, peer_in, peer_row, row_of}
+use Rattle.sqlite_log.specs.States.{Grows, heads_in, log_in, Meets, peers_in}
+use Rattle.sqlite_log.specs.Tables.{edit_table, log_schema, meta_table, peer_table}
+use Rattle.sqlite_log.proofs.Statements.{head_params, insert_edit, insert_head, insert_met, params_of, peer_params}
 
 either : (b : Bool) (x : Value) → cond b x x ≡ x
 either true x = refl
@@ -94,11 +95,12 @@ does_add old after c text tally has h =
     let fresh = subst (λ (x : Edit). are_fresh (left_by db x) x.news ≡ true) is step.fresh in
     let last : after.trees 0 ≡ put_row row (db 0) = ap (λ (d : Database). d.trees 0) now ∙ ap (λ (t : Trees). t 0) trees ∙ step.rows ∙ ap (edited db) is in
     let other : after.trees 1 ≡ db 1 = ap (λ (d : Database). d.trees 1) now ∙ ap (λ (t : Trees). t 1) trees ∙ step.tables.1.0 (λ e. omega (arith, e)) in
-    (ap (λ (d : Database). d.schema) now, record { rows = rw last (put_row_more cells_in row (db 0) (was_not _ (both_true _ _ fresh))); heads = ap (map head_in) other })
+    let third : after.trees 2 ≡ db 2 = ap (λ (d : Database). d.trees 2) now ∙ ap (λ (t : Trees). t 2) trees ∙ step.tables.1.1.0 (λ e. omega (arith, e)) in
+    (ap (λ (d : Database). d.schema) now, record { rows = rw last (put_row_more cells_in row (db 0) (was_not _ (both_true _ _ fresh))); heads = ap (map head_in) other; peers = ap (map peer_in) third })
 
 -- what the insert of a head does
 pub does_head : (old : State) (db : Database) (h : LogHead) (text : List ℕ) (tally : Tally) → old.now.schema ≡ log_schema → Does old.step_limit (mode_of old) (head_params h) old.now text None insert_head (Ok (tally, db))
-    → (db.schema ≡ log_schema) × (log_in db.trees ≡ log_in old.now.trees) × IsPermutation (heads_in old.now.trees ++ h ∷ []) (heads_in db.trees)
+    → (db.schema ≡ log_schema) × (log_in db.trees ≡ log_in old.now.trees) × IsPermutation (heads_in old.now.trees ++ h ∷ []) (heads_in db.trees) × (peers_in db.trees ≡ peers_in old.now.trees)
 does_head old after h text tally has did =
     let params = head_params h in
     let db = old.now.trees in
@@ -115,4 +117,27 @@ does_head old after h text tally has did =
     let fresh = subst (λ (x : Edit). are_fresh (left_by db x) x.news ≡ true) is step.fresh in
     let last : after.trees 1 ≡ put_row row (db 1) = ap (λ (d : Database). d.trees 1) now ∙ ap (λ (t : Trees). t 1) trees ∙ step.rows ∙ ap (edited db) is in
     let other : after.trees 0 ≡ db 0 = ap (λ (d : Database). d.trees 0) now ∙ ap (λ (t : Trees). t 0) trees ∙ step.tables.0 (λ e. omega (arith, e)) in
-    (ap (λ (d : Database). d.schema) now, ap (map cells_in) other, rw last (put_row_more head_in row (db 1) (was_not _ (both_true _ _ fresh))))
+    let third : after.trees 2 ≡ db 2 = ap (λ (d : Database). d.trees 2) now ∙ ap (λ (t : Trees). t 2) trees ∙ step.tables.1.1.0 (λ e. omega (arith, e)) in
+    (ap (λ (d : Database). d.schema) now, ap (map cells_in) other, rw last (put_row_more head_in row (db 1) (was_not _ (both_true _ _ fresh))), ap (map peer_in) third)
+
+-- what the insert of a peer does
+pub does_meet : (old : State) (db : Database) (p : LogPeer) (text : List ℕ) (tally : Tally) → old.now.schema ≡ log_schema → Does old.step_limit (mode_of old) (peer_params p) old.now text None insert_met (Ok (tally, db))
+    → (db.schema ≡ log_schema) × Meets old.now.trees db.trees (p ∷ [])
+does_meet old after p text tally has did =
+    let params = peer_params p in
+    let db = old.now.trees in
+    let done = went (subst (λ s. Does old.step_limit (mode_of old) params (record old.now { schema = s }) text None insert_met (Ok (tally, after))) has did) in
+    let now = ap (λ (q : Tally × Database). q.1) (same_value (went (went done.2).2).2) in
+    let given = went done.1 in
+    let written = went (went given.2).2 in
+    let counted = went written.2 in
+    let trees : done.0.trees ≡ written.0 = ap (λ (it : Written). it.trees) (same_value counted.2) ∙ same_value counted.1 in
+    let step = one_step log_schema _ db written.0 (edit_of db peer_table [] Chosen 0 given.0) refl written.1 in
+    let row = peer_row (next_rowid (db 2)) p in
+    let it : Edit = record { table = peer_table; gone = []; news = row ∷ [] } in
+    let is : edit_of db peer_table [] Chosen 0 given.0 ≡ it = ap (λ all. edit_of db peer_table [] Chosen 0 all) given.1.1 ∙ rw (cast_null, cast_int (pos p.writer), cast_int (pos p.seen)) refl in
+    let fresh = subst (λ (x : Edit). are_fresh (left_by db x) x.news ≡ true) is step.fresh in
+    let last : after.trees 2 ≡ put_row row (db 2) = ap (λ (d : Database). d.trees 2) now ∙ ap (λ (t : Trees). t 2) trees ∙ step.rows ∙ ap (edited db) is in
+    let first : after.trees 0 ≡ db 0 = ap (λ (d : Database). d.trees 0) now ∙ ap (λ (t : Trees). t 0) trees ∙ step.tables.0 (λ e. omega (arith, e)) in
+    let other : after.trees 1 ≡ db 1 = ap (λ (d : Database). d.trees 1) now ∙ ap (λ (t : Trees). t 1) trees ∙ step.tables.1.0 (λ e. omega (arith, e)) in
+    (ap (λ (d : Database). d.schema) now, record { peers = rw last (put_row_more peer_in row (db 2) (was_not _ (both_true _ _ fresh))); heads = ap (map head_in) other; rows = ap (map cells_in) first })

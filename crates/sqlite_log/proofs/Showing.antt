@@ -12,14 +12,15 @@ use Rattle.sqlite.specs.Listing.{understood}
 use Rattle.sqlite.specs.State.{State, HasCleanDisk, IsUnchanged, Shown, Survives, CommitsShowing}
 use Rattle.sqlite.proofs.Callers.{IsPlain, never_commits, reads_as}
 use Rattle.sqlite.proofs.StateLemmas.{survives_weaker}
-use Rattle.sqlite_log.specs.Cells.{cells_in, cells_shown, head_in, head_shown}
-use Rattle.sqlite_log.specs.States.{heads_in, heads_of, IsLog, log_in, log_of}
+use Rattle.sqlite_log.specs.Cells.{cells_in, cells_shown, head_in, head_shown, peer_in, peer_shown}
+use Rattle.sqlite_log.specs.States.{heads_in, heads_of, IsLog, log_in, log_of, peers_in, peers_of}
 use Rattle.sqlite_log.specs.Tables.{log_schema}
-use Rattle.sqlite_log.proofs.Statements.{edits_is, edits_plain, edits_query, edits_text, heads_is, heads_plain, heads_query, heads_text}
+use Rattle.sqlite_log.proofs.Statements.{edits_is, edits_plain, edits_query, edits_text, heads_is, heads_plain, heads_query, heads_text, peers_is, peers_plain, peers_query, peers_text}
 
 abbrev shown_edit : Row → Row
 shown_edit r = column r 2 ∷ column r 3 ∷ column r 4 ∷ column r 5 ∷ column r 6 ∷ column r 7 ∷ []
 
+-- the three columns of a head or of a peer
 abbrev shown_head : Row → Row
 shown_head r = column r 2 ∷ column r 3 ∷ column r 4 ∷ []
 
@@ -58,6 +59,20 @@ shows_heads old new rows log h =
     heads_again : (rs : List Row) → map head_shown (map shown_head rs) ≡ map head_in rs
     heads_again [] = refl
     heads_again (r ∷ rs) = ap (λ hs. head_in r ∷ hs) (heads_again rs)
+
+pub shows_peers : (old new : State) (rows : List Row) → IsLog old → Shown peers_text [] old new rows → IsPermutation (peers_of old) (map peer_shown rows)
+shows_peers old new rows log h =
+    let read = reads_as peers_text [] old new log_schema log.has _ peers_is.0 peers_plain peers_is.1 rows h in
+    let a : IsAnswer peers_query (overlay old.now.trees []) [] rows = read.answer Null in
+    let grouped : a.staged ≡ staged (old.now.trees 2) = a.grouped in
+    let kept : a.kept ≡ map (output peers_query) (staged (old.now.trees 2)) = a.distinct ∙ ap (map (output peers_query)) grouped in
+    let moved : IsPermutation (map (λ (o : Output). o.1) a.kept) (map (λ (o : Output). o.1) a.ordered) = IsPermutation-map (λ (o : Output). o.1) a.kept a.ordered a.same in
+    let shown : IsPermutation (map shown_head (old.now.trees 2)) rows = subst₂ IsPermutation (ap (map (λ (o : Output). o.1)) kept ∙ outputs peers_query shown_head (λ r. refl) (old.now.trees 2)) (sym a.shown) moved in
+    subst (λ ps. IsPermutation ps (map peer_shown rows)) (peers_again (old.now.trees 2) ∙ ap (λ (d : Database). peers_in d.trees) log.settled) (IsPermutation-map peer_shown _ _ shown)
+  where
+    peers_again : (rs : List Row) → map peer_shown (map shown_head rs) ≡ map peer_in rs
+    peers_again [] = refl
+    peers_again (r ∷ rs) = ap (λ ps. peer_in r ∷ ps) (peers_again rs)
 
 -- ---- a query changes nothing
 

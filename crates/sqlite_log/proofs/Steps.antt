@@ -1,5 +1,5 @@
 -- From states to states.
-use Rattle.std.proofs.Common.{◌≡◌, ◌⊎◌, inl, inr, ℕ, List, [], ◌∷◌, ◌++◌, true, false, cond, None, Ok, Err, Result, OnOk, OnErr, IfErr, IsTrue, refl, sym, ap, subst, ◌∙◌, append-nil, append_assoc, map, Some, suc, zero, take, get_or, length, ◌<◌, ◌≤◌, ◌+◌, arith, IfOk, ⊎_elim}
+use Rattle.std.proofs.Common.{◌≡◌, ◌⊎◌, inl, inr, ℕ, List, [], ◌∷◌, ◌++◌, true, false, cond, None, Ok, Err, Result, OnOk, OnErr, IfErr, IsTrue, refl, sym, ap, subst, subst₂, ◌∙◌, append-nil, append_assoc, map, Some, suc, zero, take, get_or, length, ◌<◌, ◌≤◌, ◌+◌, arith, IfOk, ⊎_elim}
 use Rattle.std.specs.List.{AllByRecursion}
 use Rattle.std.proofs.lemmas.List.{take_more, map-append}
 use Rattle.edit_sums.specs.Sums.{high_among}
@@ -20,18 +20,19 @@ use Rattle.sqlite.specs.Command.TheVariants.{CreateTable}
 use Rattle.edit_sums.specs.declared.entries.Edit.{Edit}
 use Rattle.edit_log.specs.declared.logs.LogHead.{LogHead}
 use Rattle.edit_log.specs.declared.logs.LogFault.{LogFault}
+use Rattle.edit_log.specs.declared.logs.LogPeer.{LogPeer}
 use Rattle.edit_log.specs.declared.logs.LogRow.{LogRow}
 use Rattle.edit_log.specs.Logs.{LeavesAllOrNone, stamped}
 use Rattle.sqlite_log.specs.CellLaws.{all_spelled, rows_in-append, rows_in-permutation, rows_read}
-use Rattle.sqlite_log.proofs.Creating.{does_make_edits, does_make_meta}
+use Rattle.sqlite_log.proofs.Creating.{does_make_edits, does_make_meta, does_make_peers}
 use Rattle.std.proofs.lemmas.Simd.{map-map}
 use Rattle.sqlite_trees.proofs.ListLemmas.{all-append}
 use Rattle.sqlite.specs.Listing.{understood}
-use Rattle.sqlite_log.specs.Cells.{Cells, cells_in, cells_of, cells_shown, head_in, IsEdit, row_in}
-use Rattle.sqlite_log.specs.States.{Adds, Grows, heads_in, heads_of, held_in, HasSchema, IsInside, IsLog, log_in, log_of, MayLeave, Stands, StandsAs}
-use Rattle.sqlite_log.specs.Tables.{edit_schema, log_schema, no_schema}
-use Rattle.sqlite_log.proofs.Statements.{edit_is, edit_plain, edit_text, head_is, head_params, head_plain, head_text, insert_edit, insert_head, insert_is, insert_plain, insert_text, meta_is, meta_plain, meta_text, params_of}
-use Rattle.sqlite_log.proofs.Inserting.{does_add, does_head}
+use Rattle.sqlite_log.specs.Cells.{Cells, cells_in, cells_of, cells_shown, head_in, IsEdit, peer_in, row_in, rows_in}
+use Rattle.sqlite_log.specs.States.{Adds, Grows, heads_in, heads_of, held_in, HasSchema, IsInside, IsLog, log_in, log_of, MayLeave, Meets, peers_in, peers_of, Stands, StandsAs}
+use Rattle.sqlite_log.specs.Tables.{edit_schema, log_schema, meta_schema, no_schema}
+use Rattle.sqlite_log.proofs.Statements.{edit_is, edit_plain, edit_text, head_is, head_params, head_plain, head_text, insert_edit, insert_head, insert_is, insert_met, insert_plain, insert_text, met_is, met_plain, met_text, meta_is, meta_plain, meta_text, params_of, peer_is, peer_params, peer_plain, peer_text}
+use Rattle.sqlite_log.proofs.Inserting.{does_add, does_head, does_meet}
 
 -- a statement that is not run changes nothing, or the transaction is undone
 executes_err : (sql : List ℕ) (params : Row) (old new : State) (e : Error) → Executes sql params old new (Err e) → IsUnchanged old new ⊎ IsRolledBack old new
@@ -71,6 +72,13 @@ adds_inside old new c (Err _) log h = tt
 adds_inside old new c (Ok count) log h =
     let w : Writes old new None insert_edit (statement_of insert_text (understood log_schema insert_text)) (params_of c) count = runs_as insert_text (params_of c) old new log_schema log.schema insert_edit insert_is insert_plain count h.0 in
     let did = does_add old new.now c (statement_of insert_text (understood log_schema insert_text)) w.tally log.schema w.changed in
+    (record { schema = did.0; inside = h.1.mode }, did.1)
+
+pub meets_inside : (old new : State) (p : LogPeer) (r : Result ℕ Error) → IsInside old → ExecutesInside 0 met_text (peer_params p) old new r → OnOk r (IsInside new × Meets old.now.trees new.now.trees (p ∷ []))
+meets_inside old new p (Err _) log h = tt
+meets_inside old new p (Ok count) log h =
+    let w : Writes old new None insert_met (statement_of met_text (understood log_schema met_text)) (peer_params p) count = runs_as met_text (peer_params p) old new log_schema log.schema insert_met met_is met_plain count h.0 in
+    let did = does_meet old new.now p (statement_of met_text (understood log_schema met_text)) w.tally log.schema w.changed in
     (record { schema = did.0; inside = h.1.mode }, did.1)
 
 kept_unchanged : (old new : State) → IsUnchanged old new ⊎ IsRolledBack old new → KeepsCommit old new
@@ -114,7 +122,7 @@ keeps_begun g old new h = record { was_open = h.was_open; committed = h.committe
 -- ---- rows, one after another
 
 pub grows_not : (a : Trees) → Grows a a []
-grows_not a = record { rows = same_rows (log_in a); heads = refl }
+grows_not a = record { rows = same_rows (log_in a); heads = refl; peers = refl }
   where
     same_rows : (xs : List Cells) → Adds xs xs []
     same_rows xs = subst (λ l. IsPermutation l xs) (sym (append-nil xs)) (IsPermutation-refl xs)
@@ -123,6 +131,14 @@ pub grows_more : (a b c : Trees) (xs ys : List Cells) → Grows a b xs → Grows
 grows_more a b c xs ys one two = record {
   rows = subst (λ l. IsPermutation l (log_in c)) (append_assoc (log_in a) xs ys) (IsPermutation-trans _ _ _ (IsPermutation-append_left ys _ _ one.rows) two.rows);
   heads = two.heads ∙ one.heads;
+  peers = two.peers ∙ one.peers;
+}
+
+pub meets_more : (a b c : Trees) (xs ys : List LogPeer) → Meets a b xs → Meets b c ys → Meets a c (xs ++ ys)
+meets_more a b c xs ys one two = record {
+  peers = subst (λ l. IsPermutation l (peers_in c)) (append_assoc (peers_in a) xs ys) (IsPermutation-trans _ _ _ (IsPermutation-append_left ys _ _ one.peers) two.peers);
+  heads = two.heads ∙ one.heads;
+  rows = two.rows ∙ one.rows;
 }
 
 -- ---- statements that are committed alone
@@ -135,7 +151,7 @@ makes_edits old new (Ok count) blank h =
     let now = committed old new blank.alone w.shown.committed_is in
     (record { is_open = w.shown.is_open; has = did.0; alone = w.shown.mode ∙ blank.alone; settled = sym now }, ap (λ (d : Database). log_in d.trees) now ∙ ap (map cells_in) did.1)
 
-pub makes_meta : (old new : State) (r : Result ℕ Error) → HasSchema edit_schema old → Executes meta_text [] old new r → OnOk r (IsLog new × (heads_of new ≡ []) × (log_of new ≡ log_of old))
+pub makes_meta : (old new : State) (r : Result ℕ Error) → HasSchema edit_schema old → Executes meta_text [] old new r → OnOk r (HasSchema meta_schema new × (heads_of new ≡ []) × (log_of new ≡ log_of old))
 makes_meta old new (Err _) edits h = tt
 makes_meta old new (Ok count) edits h =
     let w = runs_as meta_text [] old new edit_schema edits.has CreateTable meta_is.0 meta_plain count h in
@@ -146,8 +162,21 @@ makes_meta old new (Ok count) edits h =
       ap (λ (d : Database). log_in d.trees) now ∙ ap (map cells_in) did.2 ∙ ap (λ (d : Database). log_in d.trees) edits.settled,
     )
 
+pub makes_peers : (old new : State) (r : Result ℕ Error) → HasSchema meta_schema old → Executes peer_text [] old new r
+    → OnOk r (IsLog new × (peers_of new ≡ []) × (heads_of new ≡ heads_of old) × (log_of new ≡ log_of old))
+makes_peers old new (Err _) both h = tt
+makes_peers old new (Ok count) both h =
+    let w = runs_as peer_text [] old new meta_schema both.has CreateTable peer_is.0 peer_plain count h in
+    let did = does_make_peers old new.now _ w.tally peer_is.1 both.has w.changed in
+    let now = committed old new both.alone w.shown.committed_is in (
+      record { is_open = w.shown.is_open; has = did.0; alone = w.shown.mode ∙ both.alone; settled = sym now },
+      ap (λ (d : Database). peers_in d.trees) now ∙ ap (map peer_in) did.1,
+      ap (λ (d : Database). heads_in d.trees) now ∙ ap (map head_in) did.2 ∙ ap (λ (d : Database). heads_in d.trees) both.settled,
+      ap (λ (d : Database). log_in d.trees) now ∙ ap (map cells_in) did.3 ∙ ap (λ (d : Database). log_in d.trees) both.settled,
+    )
+
 pub adds_head : (old new : State) (head : LogHead) (r : Result ℕ Error) → IsLog old → heads_of old ≡ [] → Executes head_text (head_params head) old new r
-    → OnOk r (IsLog new × (heads_of new ≡ head ∷ []) × (log_of new ≡ log_of old))
+    → OnOk r (IsLog new × (heads_of new ≡ head ∷ []) × (log_of new ≡ log_of old) × (peers_of new ≡ peers_of old))
 adds_head old new head (Err _) log none h = tt
 adds_head old new head (Ok count) log none h =
     let w = runs_as head_text (head_params head) old new log_schema log.has insert_head head_is head_plain count h in
@@ -158,6 +187,7 @@ adds_head old new head (Ok count) log none h =
       record { is_open = w.shown.is_open; has = did.0; alone = w.shown.mode ∙ log.alone; settled = sym now },
       ap (λ (d : Database). heads_in d.trees) now ∙ one,
       ap (λ (d : Database). log_in d.trees) now ∙ did.1 ∙ ap (λ (d : Database). log_in d.trees) log.settled,
+      ap (λ (d : Database). peers_in d.trees) now ∙ did.3 ∙ ap (λ (d : Database). peers_in d.trees) log.settled,
     )
 
 -- ---- what a log then holds
@@ -174,6 +204,14 @@ pub left_held : (old new : State) (time : ℕ) (es : List Edit) → AllByRecursi
 left_held old new time es fits survives clean left may = ⊎_elim
     (λ before. inl (may.0, before, may.2))
     (λ grows. inr (subst (IsPermutation (held_in old.committed.trees ++ stamped time es)) (sym may.2) (grows_held old.committed.trees may.0 time es fits grows)))
+    (survives.crash clean may.0 may.1)
+
+-- what a crash leaves of a log's rows, in a call that notes peers
+pub left_meeting : (old new : State) (met : List LogPeer) → Survives old new (λ trees. Meets old.committed.trees trees met) → HasCleanDisk new
+    → LeavesAllOrNone (held_in old.committed.trees) [] (MayLeave old) (MayLeave new)
+left_meeting old new met survives clean left may = ⊎_elim
+    (λ before. inl (may.0, before, may.2))
+    (λ meets. inr (subst₂ IsPermutation (sym (append-nil (held_in old.committed.trees))) (sym (may.2 ∙ ap rows_in meets.rows)) (IsPermutation-refl (held_in old.committed.trees))))
     (survives.crash clean may.0 may.1)
 
 pub shown_held : (s : State) (shown : List Row) (rows : List LogRow) → IsPermutation (log_of s) (map cells_shown shown) → map (λ r. row_in (cells_shown r)) shown ≡ map Some rows

@@ -15,6 +15,7 @@ use Rattle.edit_sums.specs.declared.contents.Content.TheVariants.{Gone, Link, Fi
 use Rattle.edit_sums.specs.declared.entries.Edit.{Edit}
 use Rattle.edit_log.specs.declared.logs.LogRow.{LogRow}
 use Rattle.edit_log.specs.declared.logs.LogHead.{LogHead}
+use Rattle.edit_log.specs.declared.logs.LogPeer.{LogPeer}
 use Rattle.sqlite_log.specs.declared.reading.EditCells.{EditCells}
 
 -- the cells of a row of the table of edits, without its number
@@ -97,6 +98,16 @@ head_in values = record { format = count_in (column values 2); writer = count_in
 
 abbrev pub head_shown : Row → LogHead
 head_shown values = record { format = count_in (column values 0); writer = count_in (column values 1); mark = bytes (column values 2) }
+
+-- the row of a peer
+abbrev pub peer_row : ℤ → LogPeer → Row
+peer_row id p = Int id ∷ Null ∷ Bytes p.mark ∷ Int (pos p.writer) ∷ Int (pos p.seen) ∷ []
+
+abbrev pub peer_in : Row → LogPeer
+peer_in values = record { mark = bytes (column values 2); writer = count_in (column values 3); seen = count_in (column values 4) }
+
+abbrev pub peer_shown : Row → LogPeer
+peer_shown values = record { mark = bytes (column values 0); writer = count_in (column values 1); seen = count_in (column values 2) }
 
 -- ---- edits that can be spelled
 

@@ -5,8 +5,9 @@ use Rattle.sqlite.specs.Schema.{Schema}
 use Rattle.sqlite.specs.Tree.{Trees}
 use Rattle.sqlite.specs.State.{State, HasCleanDisk}
 use Rattle.edit_log.specs.declared.logs.LogHead.{LogHead}
+use Rattle.edit_log.specs.declared.logs.LogPeer.{LogPeer}
 use Rattle.edit_log.specs.declared.logs.LogRow.{LogRow}
-use Rattle.sqlite_log.specs.Cells.{Cells, cells_in, head_in, rows_in}
+use Rattle.sqlite_log.specs.Cells.{Cells, cells_in, head_in, peer_in, rows_in}
 use Rattle.std.proofs.Common.{ap, subst, sym, ◌∙◌}
 use Rattle.std.proofs.lemmas.List.Sorted.{IsPermutation-refl}
 use Rattle.sqlite.specs.Store.{Ghosts}
@@ -20,12 +21,18 @@ log_in trees = map cells_in (trees 0)
 abbrev pub heads_in : Trees → List LogHead
 heads_in trees = map head_in (trees 1)
 
+abbrev pub peers_in : Trees → List LogPeer
+peers_in trees = map peer_in (trees 2)
+
 -- those that are committed
 abbrev pub log_of : State → List Cells
 log_of s = log_in s.committed.trees
 
 abbrev pub heads_of : State → List LogHead
 heads_of s = heads_in s.committed.trees
+
+abbrev pub peers_of : State → List LogPeer
+peers_of s = peers_in s.committed.trees
 
 -- the rows of a log
 abbrev pub held_in : Trees → List LogRow
@@ -49,10 +56,17 @@ Stands head s = HasCleanDisk s → IsLog s × (heads_of s ≡ head ∷ [])
 abbrev pub Adds : List Cells → List Cells → List Cells → Type 0
 Adds old new added = IsPermutation (old ++ added) new
 
--- the log with these rows more, and with the same head
+-- the log with these rows more, and with the same head and peers
 pub record Grows (old new : Trees) (added : List Cells) : Type 0 where
   pub rows : Adds (log_in old) (log_in new) added
   pub heads : heads_in new ≡ heads_in old
+  pub peers : peers_in new ≡ peers_in old
+
+-- the log with these peers more, wherever their numbers put them, and with the same head and rows
+pub record Meets (old new : Trees) (met : List LogPeer) : Type 0 where
+  pub peers : IsPermutation (peers_in old ++ met) (peers_in new)
+  pub heads : heads_in new ≡ heads_in old
+  pub rows : log_in new ≡ log_in old
 
 -- a transaction over a log
 pub record IsInside (s : State) : Type 0 where

@@ -46,15 +46,25 @@ edit_columns =
 abbrev pub meta_columns : List Column
 meta_columns = id_column ∷ full_column (codes "format") Integer ∷ full_column (codes "writer") Integer ∷ full_column (codes "mark") Blob ∷ []
 
+abbrev pub peer_columns : List Column
+peer_columns = id_column ∷ full_column (codes "mark") Blob ∷ full_column (codes "writer") Integer ∷ full_column (codes "seen") Integer ∷ []
+
 abbrev pub edit_table : Table
 edit_table = plain_table (codes "edit") 0 edit_columns
 
 abbrev pub meta_table : Table
 meta_table = plain_table (codes "meta") 1 meta_columns
 
+abbrev pub peer_table : Table
+peer_table = plain_table (codes "peer") 2 peer_columns
+
 -- a log that is being made: it has no table for its head yet
 abbrev pub edit_schema : Schema
 edit_schema = record { tables = edit_table ∷ []; indexes = []; views = [] }
 
+-- and now none for its peers
+abbrev pub meta_schema : Schema
+meta_schema = record { tables = edit_table ∷ meta_table ∷ []; indexes = []; views = [] }
+
 abbrev pub log_schema : Schema
-log_schema = record { tables = edit_table ∷ meta_table ∷ []; indexes = []; views = [] }
+log_schema = record { tables = edit_table ∷ meta_table ∷ peer_table ∷ []; indexes = []; views = [] }

@@ -9,13 +9,13 @@ ghost use Rattle.sqlite.specs.WalReads.{AreClean};
 ghost use Rattle.sqlite_store.specs.Laws.{settled_at};
 ghost use Rattle.sqlite_log.specs.Closed.{HoldsLog};
 ghost use Rattle.sqlite_log.specs.Found.{FindsLog, IsLeft};
-ghost use Rattle.sqlite_log.specs.States.{held_in, log_lasts, MayLeave, Stands};
+ghost use Rattle.sqlite_log.specs.States.{held_in, log_lasts, MayLeave, peers_in, Stands};
 
 use crate::faults::fault_of;
 use crate::log::SqliteLog;
 use crate::making::make_log;
 use crate::reading::open_head;
-use edit_log::{EditLog, LogFault, LogHead, LogRow};
+use edit_log::{EditLog, LogFault, LogHead, LogPeer, LogRow};
 use edit_sums::Edit;
 use sqlite::{Connection, FileStore, Files};
 use sqlite_disk::Disk;
@@ -35,7 +35,7 @@ impl<D: Disk + Drop> Drop for FileLog<D> {
 }
 
 impl<D: Disk + Drop> FileLog<D> {
-    // Makes a log with this head and no edits in an empty database.
+    // Makes a log with this head, no edits and no peers in an empty database.
     pub(crate) fn make(
         alloc: Global,
         mut conn: Connection<FileStore<D>>,
@@ -45,6 +45,7 @@ impl<D: Disk + Drop> FileLog<D> {
         ensures log { IfOk result (λ log. Stands log.inside.head (file_state log.inside.conn)) }
         ensures head { IfOk result (λ log. log.inside.head ≡ head) }
         ensures empty { IfOk result (λ log. HasCleanDisk (file_state log.inside.conn) → held_in (file_state log.inside.conn).committed.trees ≡ []) }
+        ensures alone { IfOk result (λ log. HasCleanDisk (file_state log.inside.conn) → peers_in (file_state log.inside.conn).committed.trees ≡ []) }
     {
         make_log(&mut conn, &head)?;
         Ok(FileLog {
@@ -75,7 +76,7 @@ impl<D: Disk + Drop> FileLog<D> {
     pub fn close(self) -> Result<Files<D>, LogFault>
         requires running { Stands self.inside.head (file_state self.inside.conn) }
         ensures alone { IfOk result (λ files. AreClean D.Disk files.log files.db →
-            HoldsLog D.Disk files self.inside.head (held_in (file_state self.inside.conn).committed.trees)) }
+            HoldsLog D.Disk files self.inside.head (held_in (file_state self.inside.conn).committed.trees) (peers_in (file_state self.inside.conn).committed.trees)) }
         ensures clean { IfOk result (λ files. AreClean D.Disk files.log files.db → HasCleanDisk (file_state self.inside.conn)) }
     {
         let FileLog { inside } = self;
@@ -89,7 +90,7 @@ impl<D: Disk + Drop> FileLog<D> {
     }
 
     /// What an open finds is what a crash left: whatever a crash at this moment leaves of the files of a log, an open that
-    /// finds these files finds rows that a crash may leave. It touches no file.
+    /// finds these files finds rows and peers that a crash may leave. It touches no file.
     pub fn found_again<E: Disk + Drop>(self, later: &FileLog<E>) -> FileStore<D>
         ensures found { IsClean (files.view result) → (left : Image) → (files.state result).may_leave left → FindsLog left later.now.inside.conn → IsLeft self.inside.conn later.now.inside.conn }
     {
@@ -106,6 +107,8 @@ impl<D: Disk + Drop> EditLog for FileLog<D> {
     ghost head = { λ log. log.inside.head };
 
     ghost held = { λ log. held_in (file_state log.inside.conn).committed.trees };
+
+    ghost peers = { λ log. peers_in (file_state log.inside.conn).committed.trees };
 
     ghost may_leave = { λ log. MayLeave (file_state log.inside.conn) };
 
@@ -129,5 +132,13 @@ impl<D: Disk + Drop> EditLog for FileLog<D> {
 
     fn read(&mut self, alloc: Global) -> Result<Vec<LogRow>, LogFault> {
         self.inside.read(alloc)
+    }
+
+    fn note_peers(&mut self, met: &[LogPeer]) -> Result<(), LogFault> {
+        self.inside.note_peers(met)
+    }
+
+    fn peers(&mut self, alloc: Global) -> Result<Vec<LogPeer>, LogFault> {
+        self.inside.peers(alloc)
     }
 }

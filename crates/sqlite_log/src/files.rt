@@ -5,7 +5,7 @@ ghost use Rattle.sqlite.specs.Files.{file_state, IsOpened};
 ghost use Rattle.sqlite.specs.Start.{FindsIn};
 ghost use Rattle.sqlite.specs.State.{HasCleanDisk};
 ghost use Rattle.sqlite_log.specs.Found.{FindsLog};
-ghost use Rattle.sqlite_log.specs.States.{held_in, Stands};
+ghost use Rattle.sqlite_log.specs.States.{held_in, peers_in, Stands};
 
 use crate::faults::fault_of;
 use crate::file_logs::FileLog;
@@ -80,7 +80,7 @@ pub fn open<S: Start>(
     Ok(log)
 }
 
-// Makes a log with this head and no edits in a file that was just made.
+// Makes a log with this head, no edits and no peers in a file that was just made.
 fn make_in<S: Start>(
     rt: &HostRuntime,
     path: &str,
@@ -90,14 +90,15 @@ fn make_in<S: Start>(
     ensures log { IfOk result (λ log. Stands log.inside.head (file_state log.inside.conn)) }
     ensures head { IfOk result (λ log. log.inside.head ≡ head) }
     ensures empty { IfOk result (λ log. HasCleanDisk (file_state log.inside.conn) → held_in (file_state log.inside.conn).committed.trees ≡ []) }
+    ensures alone { IfOk result (λ log. HasCleanDisk (file_state log.inside.conn) → peers_in (file_state log.inside.conn).committed.trees ≡ []) }
 {
     let conn = connect(rt, path, start)?;
     FileLog::make(rt.alloc(), conn, head)
 }
 
-/// Makes a log with this head and no edits at a path. `Exists` if a file is there, which stays as it is. With `Disk` and `Memory`
-/// nothing is left at the path, if the disk lets it be removed. A crash leaves a log that has this head and no edits, or a file
-/// that no open takes for a log.
+/// Makes a log with this head, no edits and no peers at a path. `Exists` if a file is there, which stays as it is. With `Disk` and
+/// `Memory` nothing is left at the path, if the disk lets it be removed. A crash leaves a log that has this head, no edits and no
+/// peers, or a file that no open takes for a log.
 pub fn create<S: Start>(
     rt: &HostRuntime,
     path: &str,
@@ -107,6 +108,7 @@ pub fn create<S: Start>(
     ensures log { IfOk result (λ log. Stands log.inside.head (file_state log.inside.conn)) }
     ensures head { IfOk result (λ log. log.inside.head ≡ head) }
     ensures empty { IfOk result (λ log. HasCleanDisk (file_state log.inside.conn) → held_in (file_state log.inside.conn).committed.trees ≡ []) }
+    ensures alone { IfOk result (λ log. HasCleanDisk (file_state log.inside.conn) → peers_in (file_state log.inside.conn).committed.trees ≡ []) }
 {
     make_file(rt, path)?;
     match make_in(rt, path, head, start) {

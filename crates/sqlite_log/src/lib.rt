@@ -1,9 +1,9 @@
-//! A log of edits in an SQLite file, which SQLite's own programs open. Each edit is a row of the table `edit`, and what the
-//! log says of itself is the one row of the table `meta`.
+//! A log of edits in an SQLite file, which SQLite's own programs open. Each edit is a row of the table `edit`, what the log
+//! says of itself is the one row of `meta`, and each node that was met or told of is a row of `peer`.
 //!
 //! Promise: a commit is whole; a file opens as what it holds.
 //!
-//! Edits are inserted and never changed, each group in one transaction. What a crash leaves of one, what an open finds, and
+//! Edits and peers are inserted and never changed, each group in one transaction. What a crash leaves of one, what an open finds, and
 //! when a read gives other bytes than were written: the kit's crate `sqlite` says it, and each sentence here has its premise,
 //! a clean disk.
 //!
@@ -20,6 +20,7 @@ mod file_logs;
 mod files;
 mod log;
 mod making;
+mod peers;
 mod reading;
 mod removing;
 mod schemas;

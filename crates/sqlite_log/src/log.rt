@@ -2,13 +2,14 @@
 ghost use Rattle.std.specs.Prelude.{◌≡◌};
 ghost use Rattle.sqlite.specs.Held.{state};
 ghost use Rattle.sqlite.specs.State.{HasCleanDisk};
-ghost use Rattle.sqlite_log.specs.States.{held_in, log_lasts, MayLeave, Stands};
+ghost use Rattle.sqlite_log.specs.States.{held_in, log_lasts, MayLeave, peers_in, Stands};
 
 use crate::adding::add_all;
 use crate::faults::fault_of;
+use crate::peers::{add_peers, read_peers};
 use crate::reading::read_all;
 use crate::spelling::note_edits;
-use edit_log::{EditLog, LogFault, LogHead, LogRow};
+use edit_log::{EditLog, LogFault, LogHead, LogPeer, LogRow};
 use edit_sums::Edit;
 use sqlite::{Alter, Connection};
 use std::alloc::Global;
@@ -39,6 +40,8 @@ impl<S: Alter> EditLog for SqliteLog<S> {
 
     ghost held = { λ log. held_in (state S.Store log.conn).committed.trees };
 
+    ghost peers = { λ log. peers_in (state S.Store log.conn).committed.trees };
+
     ghost may_leave = { λ log. MayLeave (state S.Store log.conn) };
 
     ghost lasts = { λ log honest running left may. log_lasts (record {
@@ -65,6 +68,17 @@ impl<S: Alter> EditLog for SqliteLog<S> {
 
     fn read(&mut self, alloc: Global) -> Result<Vec<LogRow>, LogFault> {
         read_all(alloc, &mut self.conn)
+    }
+
+    fn note_peers(&mut self, met: &[LogPeer]) -> Result<(), LogFault> {
+        match add_peers(&mut self.conn, met) {
+            Ok(()) => Ok(()),
+            Err(error) => Err(fault_of(error)),
+        }
+    }
+
+    fn peers(&mut self, alloc: Global) -> Result<Vec<LogPeer>, LogFault> {
+        read_peers(alloc, &mut self.conn)
     }
 }
 

@@ -3,7 +3,7 @@ ghost use Rattle.std.specs.Prelude.{◌≡◌, [], codes, IsTrue};
 ghost use Rattle.sqlite.specs.Kind.TheVariants.{Integer, Text, Blob};
 ghost use Rattle.sqlite.specs.Collation.TheVariants.{Binary};
 ghost use Rattle.sqlite.specs.declared.types.Value.TheVariants.{Null};
-ghost use Rattle.sqlite_log.specs.Tables.{edit_columns, edit_table, full_column, id_column, log_schema, meta_columns, meta_table, no_schema, plain_table};
+ghost use Rattle.sqlite_log.specs.Tables.{edit_columns, edit_table, full_column, id_column, log_schema, meta_columns, meta_table, no_schema, peer_columns, peer_table, plain_table};
 
 use sqlite_schema::code::Terms;
 use sqlite_schema::schema::{Column, Kind, Schema, Table};
@@ -85,6 +85,18 @@ fn are_meta_columns(columns: &[Column]) -> bool
         && is_full(mark, b"mark", Kind::Blob)
 }
 
+fn are_peer_columns(columns: &[Column]) -> bool
+    ensures columns { IsTrue result → columns.now ≡ peer_columns }
+{
+    let [id, mark, writer, seen] = columns else {
+        return false;
+    };
+    is_id(id)
+        && is_full(mark, b"mark", Kind::Blob)
+        && is_full(writer, b"writer", Kind::Integer)
+        && is_full(seen, b"seen", Kind::Integer)
+}
+
 fn has_no_terms(terms: &Terms) -> bool
     ensures none { IsTrue result → terms.now ≡ [] }
 {
@@ -122,15 +134,22 @@ fn is_meta_table(table: &Table) -> bool
     is_plain(table, b"meta", 1) && are_meta_columns(table.columns.as_slice())
 }
 
+fn is_peer_table(table: &Table) -> bool
+    ensures table { IsTrue result → table.now ≡ peer_table }
+{
+    is_plain(table, b"peer", 2) && are_peer_columns(table.columns.as_slice())
+}
+
 // Whether the schema is that of a log.
 pub(crate) fn is_log(schema: &Schema) -> bool
     ensures log { IsTrue result → schema.now ≡ log_schema }
 {
-    let [edit, meta] = schema.tables.as_slice() else {
+    let [edit, meta, peer] = schema.tables.as_slice() else {
         return false;
     };
     is_edit_table(edit)
         && is_meta_table(meta)
+        && is_peer_table(peer)
         && schema.indexes.is_empty()
         && schema.views.is_empty()
 }

@@ -11,6 +11,7 @@ returns-in-Ok-clause-alone g c clean =
       left = copied.left;
       heads = rw taken (c.requires.running (rw (← taken) copied.was_clean)).1;
       holds = refl;
+      knows = refl;
     })
 
 pub returns-in-Ok-clause-clean : goal.returns-in-Ok-clause-clean
