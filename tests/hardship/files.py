@@ -8,7 +8,7 @@ import os
 import shutil
 import sqlite3
 import sys
-from dataclasses import dataclass
+from dataclasses import dataclass, replace
 
 from cases import Case
 from programs import ROOT
@@ -19,7 +19,7 @@ import spelling
 PROGRAM = "fleet_node"
 DISK, MEMORY = b"fleet: Z5 Disk\n", b"fleet: out of memory\n"
 FOLDER = "/etc/systemd/system"
-OWN, OTHER = 1, 2
+OWN, OTHER, SEED = 1, 2, 77
 
 # About how many of a run's requests for memory are refused, each in a run of its own, and as many calls at files with all behind them.
 SOME = 60
@@ -51,12 +51,37 @@ SCRIPT = [
 
 @dataclass(frozen=True)
 class Asked:
-    """What is asked of a node: a word, what is given, the answers, and what the file holds at first and after each answer."""
+    """What is asked of a node: a word, what is given, the answers, or what makes them of the file's mark and peers, and what the file holds at first
+    and after each answer."""
 
     word: str
     given: bytes
     answers: tuple
     stores: tuple
+
+
+def framed(*frames):
+    """The bytes of frames on a stream: each behind its length."""
+    return b"".join(len(it).to_bytes(4, "big") + it for it in (spelling.spelled("frame", frame) for frame in frames))
+
+
+def versions_of(store):
+    return {place: written[:2] for place, written in store.items()}
+
+
+def exchanged():
+    """An exchange that another node begins, which holds a piece: it comes in two frames, each of which is committed."""
+    first, second = ({place: PIECE[place]} for place in sorted(PIECE) if TAKEN[place] == PIECE[place])
+    begin = (OTHER, bytes(16), SEED, []), [(None, None, 1)], [], {}, False
+    given = framed(begin, (None, [], [(None, None, versions_of(PIECE))], first, True), (None, [], [], second, False))
+    return Asked("exchange", given, exchange_answers, (BEGUN, BEGUN, BEGUN | first, TAKEN))
+
+
+def exchange_answers(mark, known):
+    """What a node of this mark, which knows these, must say in it: it asks for what is newer than its versions, and then sends what is asked back."""
+    newer = {place: written for place, written in BEGUN.items() if TAKEN[place] == written}
+    asks = (OWN, mark, SEED, known), [], [(None, None, versions_of(BEGUN))], {}, False
+    return framed(asks), b"", framed((None, [], [], newer, False))
 
 
 def stores_of(edits):
@@ -72,6 +97,7 @@ def all_asked():
     lines, answers, edits = zip(*SCRIPT)
     yield Asked("take", spelling.spelled("piece", PIECE), (b"changed 2\n",), (BEGUN, TAKEN))
     yield Asked("run", "".join(lines).encode(), answers, stores_of(edits))
+    yield exchanged()
     yield Asked("compact", b"", (), (BEGUN,))
     yield Asked("store", b"", (spelling.spelled("store", BEGUN),), (BEGUN, BEGUN))
 
@@ -94,6 +120,18 @@ def copied(bench):
     shutil.rmtree(folder, ignore_errors=True)
     shutil.copytree(made(bench), folder)
     return os.path.join(folder, "node")
+
+
+def with_answers(asked, file):
+    """What is asked, with the answers of the node in the file."""
+    if not callable(asked.answers):
+        return asked
+    base = sqlite3.connect(f"file:{file}?mode=ro", uri=True)
+    try:
+        known = base.execute("SELECT DISTINCT mark, writer FROM peer ORDER BY mark, writer").fetchall()
+        return replace(asked, answers=asked.answers(base.execute("SELECT mark FROM meta").fetchone()[0], known))
+    finally:
+        base.close()
 
 
 def held(bench, file):
@@ -137,6 +175,7 @@ def judge(bench, tally, place, run, asked, file, told):
 def in_turn(bench, tally, asked, refused, told):
     """Asks a node while the first, the second and each further call is refused, until none is. What changed nothing is asked once more."""
     kind, ending = refused
+    unsaid, asked = asked, with_answers(asked, copied(bench))
     plain = bench.run(PROGRAM, asked.given, words=(asked.word, copied(bench)))
     for number in numbers(plain, kind, ending):
         file, place = copied(bench), f"call {number}{ending}"
@@ -145,7 +184,8 @@ def in_turn(bench, tally, asked, refused, told):
         if left and not ending:
             tally.wrong(place, f"{sorted(left)} left beside the node")
         if judge(bench, tally, place, run, asked, file, told) == BEGUN and run.status:
-            judge(bench, tally, f"again behind {number}{ending}", bench.run(PROGRAM, asked.given, words=(asked.word, file)), asked, file, ())
+            again = with_answers(unsaid, file)
+            judge(bench, tally, f"again behind {number}{ending}", bench.run(PROGRAM, again.given, words=(again.word, file)), again, file, ())
             tally.again += 1
 
 

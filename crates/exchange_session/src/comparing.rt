@@ -13,10 +13,10 @@ use range_prints::{PlaceVersion, Range, parts, print, within};
 use std::alloc::{AllocError, Global};
 
 // The most versions in a range that are told one by one.
-const FEW: usize = 8;
+const FEW: usize = 4;
 
 // The most parts into which a range is cut.
-const PARTS: usize = 8;
+const PARTS: usize = 4;
 
 /// What is told and asked of ranges in which prints are unequal.
 pub struct Compared {

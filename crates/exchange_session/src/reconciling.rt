@@ -10,7 +10,7 @@ use delta_pieces::delta_between;
 use replica_store::Replica;
 use std::alloc::{AllocError, Global};
 
-// The most turns in which both sides compare ranges. Each turn leaves a part an eighth of its range's versions, so that this
+// The most turns in which both sides compare ranges. Each turn leaves a part a quarter of its range's versions, so that this
 // is more than any store needs that memory holds.
 const MOST_TURNS: u32 = 64;
 

@@ -24,6 +24,7 @@ IsJobFor asked.Store (job.Work work.Store) = Unit {0}
 IsJobFor asked.Id (job.Work work.Id) = Unit {0}
 IsJobFor asked.Delta (job.Work (work.Delta digest)) = Unit {0}
 IsJobFor asked.Take (job.Work (work.Take piece)) = Unit {0}
+IsJobFor (asked.Exchange calls) (job.Exchange begins) = begins ≡ calls
 IsJobFor (asked.History place) (job.Work (work.History named)) = place_of place.now ≡ Ok named
 IsJobFor (asked.Tree folder host) (job.Tree into viewer) = (into ≡ folder) × IsHostOf (option_map (λ h. h.now) host) viewer
 IsJobFor other job = ⊥

@@ -1,15 +1,20 @@
 -- What the words ask for.
 -- Source: this project's own.
-use Rattle.std.specs.Prelude.{◌≡◌, ℕ, codes, List, option_map, Some}
-use Rattle.clap.specs.Words.{first_value}
+use Rattle.std.specs.Prelude.{◌≡◌, ℕ, Bool, codes, false, List, option_map, Some, true}
+use Rattle.clap.specs.Words.{first_value, one_text}
 use Rattle.clap.specs.declared.parser.matches.Found.{Found}
 use Rattle.fleet_node.specs.declared.requests.{Asked.{Asked}, FileRequest.{FileRequest}}
-use Rattle.fleet_node.specs.declared.requests.Asked.TheVariants.{Delta, Digest, History, Id, Run, Store, Take, Tree}
+use Rattle.fleet_node.specs.declared.requests.Asked.TheVariants.{Delta, Digest, Exchange, History, Id, Run, Store, Take, Tree}
 use Rattle.fleet_node.specs.declared.requests.FileRequest.TheVariants.{Compact, Init, Over}
 
 -- the first value of FILE
 abbrev pub HasFile : Found → List ℕ → Type 0
 HasFile words file = first_value words (codes "FILE") ≡ Some file
+
+-- whether the words say that the node begins
+abbrev pub IsCall : Found → Bool → Type 0
+IsCall words calls =
+    (one_text words (codes "call") ≡ Some (codes "true") → calls ≡ true) × (one_text words (codes "call") ≡ Some (codes "false") → calls ≡ false)
 
 -- this subcommand with these words asks for this over an open file
 abbrev pub AsksOver : List ℕ → Found → Asked → Type 0
@@ -19,6 +24,7 @@ AsksOver name words Store = name ≡ codes "store"
 AsksOver name words Id = name ≡ codes "id"
 AsksOver name words Delta = name ≡ codes "delta"
 AsksOver name words Take = name ≡ codes "take"
+AsksOver name words (Exchange calls) = (name ≡ codes "exchange") × IsCall words calls
 AsksOver name words (History place) = (name ≡ codes "history") × (first_value words (codes "PLACE") ≡ Some place.now)
 AsksOver name words (Tree folder host) =
     (name ≡ codes "tree") × (first_value words (codes "DIR") ≡ Some folder.now) × (first_value words (codes "host") ≡ option_map (λ h. h.now) host)

@@ -1,5 +1,5 @@
 //! The words of the command line.
-use clap::{Arg, Command, value_parser};
+use clap::{Arg, ArgAction, Command, value_parser};
 use std::alloc::{AllocError, Global};
 
 /// The subcommands that take a file alone, with what each does.
@@ -63,6 +63,22 @@ fn history<'a>(alloc: Global) -> Result<Command<'a>, AllocError> {
     ))
 }
 
+fn call<'a>(alloc: Global) -> Arg<'a> {
+    Arg::new(alloc, "call")
+        .long("call")
+        .action(ArgAction::SetTrue)
+        .help("Begin, and don't wait for the other node to begin")
+}
+
+fn exchange<'a>(alloc: Global) -> Result<Command<'a>, AllocError> {
+    let command = over_file(
+        alloc,
+        "exchange",
+        "Exchange what differs with another node, over standard input and output",
+    )?;
+    command.arg(call(alloc))
+}
+
 fn host<'a>(alloc: Global) -> Arg<'a> {
     Arg::new(alloc, "host")
         .long("host")
@@ -111,6 +127,7 @@ pub fn command<'a>(alloc: Global) -> Result<Command<'a>, AllocError> {
         .arg_required_else_help(true);
     let command = with(command, init(alloc))?;
     let command = with_all_over_file(alloc, command)?;
+    let command = with(command, exchange(alloc))?;
     let command = with(command, history(alloc))?;
     with(command, tree(alloc))
 }

@@ -45,6 +45,7 @@ fn job_of<'a>(rt: &HostRuntime, asked: &Asked<'a>) -> Result<Job<'a>, FleetFault
             Job::Work(Work::Delta(read_digest(alloc, &mut Watched::new(rt.reader()))?))
         }
         Asked::Take => Job::Work(Work::Take(read_piece(alloc, &mut Watched::new(rt.reader()))?)),
+        Asked::Exchange { calls } => Job::Exchange { calls },
         Asked::History { place } => {
             Job::Work(Work::History(Place::parse(alloc, place.as_bytes())?))
         }

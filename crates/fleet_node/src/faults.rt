@@ -1,9 +1,10 @@
 //! Why something was not done.
 ghost use Rattle.std.specs.Prelude.{◌≡◌};
-ghost use Rattle.fleet_node.specs.declared.faults.FleetFault.TheVariants.{Command, Memory, Tree};
+ghost use Rattle.fleet_node.specs.declared.faults.FleetFault.TheVariants.{Command, Exchange, Memory, Tree};
 
 use load_places::{HostFault, PlaceFault};
 use node_commands::CommandFault;
+use node_exchange::ExchangeFault;
 use node_files::NodeFault;
 use std::alloc::AllocError;
 use thiserror::Error;
@@ -15,6 +16,9 @@ pub enum FleetFault {
     /// A command over the file was not done.
     #[error("{0}")]
     Command(CommandFault),
+    /// An exchange ended early.
+    #[error("{0}")]
+    Exchange(ExchangeFault),
     /// A tree was not written.
     #[error("{0}")]
     Tree(TreeFault),
@@ -46,6 +50,14 @@ impl From<HostFault> for FleetFault {
 impl From<PlaceFault> for FleetFault {
     fn from(refused: PlaceFault) -> FleetFault {
         FleetFault::Command(CommandFault::from(refused))
+    }
+}
+
+impl From<ExchangeFault> for FleetFault {
+    ghost from_gives = { λ refused fault. fault ≡ Exchange refused };
+
+    fn from(refused: ExchangeFault) -> FleetFault {
+        FleetFault::Exchange(refused)
     }
 }
 

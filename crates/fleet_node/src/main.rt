@@ -1,11 +1,11 @@
-//! A node in a file: makes one, answers scripts at it, writes what it holds, takes what another one sends, tells a place's
-//! history, writes its unit files into a folder, and compacts it.
+//! A node in a file: makes one, answers scripts at it, writes what it holds, takes what another one sends, exchanges with
+//! another one what differs, tells a place's history, writes its unit files into a folder, and compacts it.
 //! The exit status is 0 if it was done, 1 if it was refused or a read, a write or the disk failed, and 2 for wrong words.
 //!
 //! Promise: a file opens as what it holds; a commit is whole; compaction keeps the sum.
 //!
 //! If the status is 1, a line on standard error names the refusal. Digests, pieces and stores are bytes on standard input and
-//! output, so two files exchange over any pipe.
+//! output, so two files exchange over any pipe. An exchange speaks with the other node in turns, over both.
 #![tactic(auto)]
 
 mod commands;

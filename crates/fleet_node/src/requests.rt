@@ -31,6 +31,10 @@ pub enum Asked<'a> {
     Delta,
     /// Read a piece, and commit it.
     Take,
+    /// Exchange what differs with another node: begin, or let it begin.
+    Exchange {
+        calls: bool,
+    },
     /// Write the history of a place.
     History {
         place: &'a str,
@@ -53,6 +57,9 @@ fn asked_of<'a>(name: &str, words: &ArgMatches<'a>) -> Option<Asked<'a>>
         "id" => Some(Asked::Id),
         "delta" => Some(Asked::Delta),
         "take" => Some(Asked::Take),
+        "exchange" => Some(Asked::Exchange {
+            calls: words.get_flag("call"),
+        }),
         "history" => Some(Asked::History {
             place: words.get_str("PLACE")?,
         }),

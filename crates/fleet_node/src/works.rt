@@ -2,6 +2,7 @@
 ghost use Rattle.std.specs.Prelude.{◌≡◌, [], false, IfOk, IfSome, OnOk, option_map};
 ghost use Rattle.fleet_node.specs.Jobs.{IsHostOf};
 ghost use Rattle.node_commands.specs.Works.{Commits, replica_after};
+ghost use Rattle.node_exchange.specs.Later.{IsLater};
 
 use crate::faults::FleetFault;
 use durable_node::{EditLog, NodeFault, NodeFile};
@@ -10,9 +11,11 @@ use fleet_script::KeptFault;
 use host_trees::tree;
 use load_places::HostName;
 use node_commands::{CommandFault, Work, do_work};
+use node_exchange::{call, respond};
 use script_pipes::Watched;
 use std::alloc::Global;
 use std::io;
+use std::random::RandomSource;
 use std::rt::Clock;
 use std::sync::Wait;
 use std::thread::Threads;
@@ -26,6 +29,10 @@ pub enum Job<'a> {
     Script,
     /// A piece of work, whose answer goes to standard output.
     Work(Work),
+    /// Exchange what differs with another node on standard input and output: begin, or let it begin.
+    Exchange {
+        calls: bool,
+    },
     /// Write the unit files into a folder: those that a host sees, or the fleet's.
     Tree {
         folder: &'a str,
@@ -111,6 +118,37 @@ fn answer_work<L: EditLog>(
     Ok(())
 }
 
+// A seed of prints, which no other exchange has. `Read` if the system gives no random bytes.
+fn seed_of(rt: &impl RandomSource) -> Result<u64, FleetFault> {
+    let mut bytes = [0; 8];
+    match rt.fill_bytes(&mut bytes) {
+        Ok(()) => Ok(u64::from_le_bytes(bytes)),
+        Err(_) => Err(FleetFault::Command(CommandFault::Read)),
+    }
+}
+
+// Exchanges what differs with the node that standard input and output lead to.
+fn exchange<L: EditLog>(
+    rt: &HostRuntime,
+    node: &mut NodeFile<L>,
+    calls: bool,
+) -> Result<(), FleetFault>
+    requires whole { node.old.is_spent ≡ false }
+    requires saved { node.old.unsaved ≡ [] }
+    ensures later { IsLater L.is_honest L.head L.may_leave node.old node.new }
+    ensures saved { OnOk result (node.new.unsaved ≡ []) }
+{
+    let mut source = Watched::new(rt.reader());
+    let mut sink = Watched::new(io::writer(rt));
+    if calls {
+        let seed = seed_of(rt)?;
+        call(rt.alloc(), node, seed, now(rt), &mut source, &mut sink)?;
+    } else {
+        respond(rt.alloc(), node, now(rt), &mut source, &mut sink)?;
+    }
+    Ok(())
+}
+
 /// Does what is to be done with a node that was just opened, and drops it. Scripts load units by threads of `workers`.
 pub fn do_job<W: AllocGlobal + Threads + Wait + Sync, L: EditLog + Drop>(
     rt: &HostRuntime,
@@ -124,6 +162,7 @@ pub fn do_job<W: AllocGlobal + Threads + Wait + Sync, L: EditLog + Drop>(
     match job {
         Job::Script => answer_script(rt, workers, node),
         Job::Work(work) => answer_work(rt, &mut node, &work),
+        Job::Exchange { calls } => exchange(rt, &mut node, calls),
         Job::Tree { folder, host } => write_files(rt, &node, folder, host.as_ref()),
     }
 }

@@ -1,9 +1,10 @@
 //! Messages that are heard.
-ghost use Rattle.std.specs.Prelude.{◌≡◌, ◌↔◌, [], false, OnOk, true};
-ghost use Rattle.node_exchange.specs.Later.{IsLater};
+ghost use Rattle.std.specs.Prelude.{◌++◌, ◌≡◌, ◌↔◌, [], false, IfOk, OnOk, true};
+ghost use Rattle.edit_sums.specs.Sums.{join};
+ghost use Rattle.node_exchange.specs.{Hearing.{Hears}, Later.{IsLater}};
 
 use crate::faults::ExchangeFault;
-use crate::reading::read_frame;
+use crate::reading::read_next;
 use delta_pieces::Piece;
 use durable_node::{EditLog, NodeFault, NodeFile};
 use exchange_bytes::Frame;
@@ -12,7 +13,7 @@ use script_pipes::Source;
 use std::alloc::Global;
 
 // The most frames of a message: more than any store needs that memory holds.
-const MOST_FRAMES: u32 = 10_000_000;
+const MOST_FRAMES: u32 = 100_000;
 
 /// What a peer said that is to be answered; what it sent is taken.
 pub struct Heard {
@@ -28,7 +29,10 @@ impl Drop for Heard {
 
 impl Heard {
     // Nothing yet.
-    fn nothing(alloc: Global) -> Heard {
+    fn nothing(alloc: Global) -> Heard
+        ensures prints { result.prints.items ≡ [] }
+        ensures asks { result.asks.items ≡ [] }
+    {
         Heard {
             prints: Vec::new(alloc),
             asks: Vec::new(alloc),
@@ -52,18 +56,20 @@ impl Heard {
     }
 }
 
-// Takes a piece, and commits it with this time, unless it has no entry.
+// Takes a piece, and commits with this time what was news.
 fn take_piece<L: EditLog>(node: &mut NodeFile<L>, piece: Piece, time: u32) -> Result<(), NodeFault>
     requires whole { node.old.is_spent ≡ false }
     requires saved { node.old.unsaved ≡ [] }
+    ensures taken { OnOk result (node.new.replica.store ≡ join node.old.replica.store piece) }
+    ensures peers { L.is_honest node.new.log → OnOk result (L.peers node.new.log ≡ L.peers node.old.log) }
     ensures later { IsLater L.is_honest L.head L.may_leave node.old node.new }
     ensures whole { OnOk result (node.new.is_spent ≡ false) }
     ensures saved { OnOk result (node.new.unsaved ≡ []) }
 {
-    if piece.is_empty() {
+    node.absorb(piece)?;
+    if node.unsaved().is_empty() {
         return Ok(());
     }
-    node.absorb(piece)?;
     node.commit(time)
 }
 
@@ -76,6 +82,10 @@ fn take_frame<L: EditLog>(
 ) -> Result<(), ExchangeFault>
     requires whole { node.old.is_spent ≡ false }
     requires saved { node.old.unsaved ≡ [] }
+    ensures taken { OnOk result (node.new.replica.store ≡ join node.old.replica.store frame.piece) }
+    ensures prints { OnOk result (heard.new.prints.items ≡ heard.old.prints.items ++ frame.prints.items) }
+    ensures asks { OnOk result (heard.new.asks.items ≡ heard.old.asks.items ++ frame.asks.items) }
+    ensures peers { L.is_honest node.new.log → OnOk result (L.peers node.new.log ≡ L.peers node.old.log) }
     ensures later { IsLater L.is_honest L.head L.may_leave node.old node.new }
     ensures whole { OnOk result (node.new.is_spent ≡ false) }
     ensures saved { OnOk result (node.new.unsaved ≡ []) }
@@ -88,7 +98,7 @@ fn take_frame<L: EditLog>(
 }
 
 /// Hears a message whose first frame was read: takes what it brings, each frame's entries committed with this time before
-/// the next is read.
+/// the next is read. A later frame that says who the peer is is refused with `Hello`.
 pub fn hear<L: EditLog, S: Source>(
     alloc: Global,
     node: &mut NodeFile<L>,
@@ -98,6 +108,9 @@ pub fn hear<L: EditLog, S: Source>(
 ) -> Result<Heard, ExchangeFault>
     requires whole { node.old.is_spent ≡ false }
     requires saved { node.old.unsaved ≡ [] }
+    ensures heard { IfOk result (λ heard. Hears first node.old.replica.store node.new.replica.store heard.prints.items heard.asks.items
+        (S.remaining source.old) (S.remaining source.new)) }
+    ensures peers { L.is_honest node.new.log → OnOk result (L.peers node.new.log ≡ L.peers node.old.log) }
     ensures later { IsLater L.is_honest L.head L.may_leave node.old node.new }
     ensures whole { OnOk result (node.new.is_spent ≡ false) }
     ensures saved { OnOk result (node.new.unsaved ≡ []) }
@@ -110,7 +123,7 @@ pub fn hear<L: EditLog, S: Source>(
         if !more {
             return Ok(heard);
         }
-        frame = read_frame(alloc, source)?;
+        frame = read_next(alloc, source)?;
     }
     Err(ExchangeFault::Endless)
 }

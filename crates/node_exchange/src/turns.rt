@@ -1,35 +1,22 @@
 //! Who speaks when.
-ghost use Rattle.std.specs.Prelude.{◌≡◌, [], false, OnOk};
-ghost use Rattle.node_exchange.specs.Later.{IsLater, MeetsOther};
+ghost use Rattle.std.specs.Prelude.{◌≡◌, [], false, IfOk, IsErrOf, OnOk, Some};
+ghost use Rattle.exchange_bytes.specs.declared.frames.Hello.{Hello};
+ghost use Rattle.node_exchange.specs.{Later.{IsLater}, Meeting.{MayMeet}, Talks.{Calls, Notes, Responds, Talks}};
 
 use crate::faults::ExchangeFault;
 use crate::hearing::{Heard, hear};
-use crate::reading::read_frame;
+use crate::meeting::{hello_of, known_peers, may_meet, news_of, note};
+use crate::reading::{read_frame, read_next};
 use crate::saying::say;
 use durable_node::{EditLog, NodeFile};
-use edit_log::LogHead;
-use exchange_bytes::{Frame, Hello, Peers};
+use edit_log::{LogHead, LogPeer};
+use exchange_bytes::{Frame, Hello};
 use exchange_session::{Message, answer, open};
 use script_pipes::{Sink, Source};
 use std::alloc::Global;
 
-// The most turns of a side. Each leaves a part an eighth of its range's versions, so that this is more than any store needs.
+// The most turns of a side. Each leaves a part a quarter of its range's versions, so that this is more than any store needs.
 const MOST_TURNS: u32 = 64;
-
-// What a node says of itself.
-fn hello_of(alloc: Global, head: LogHead, seed: u64) -> Hello
-    ensures writer { result.writer ≡ head.writer }
-    ensures mark { result.mark ≡ head.mark }
-    ensures seed { result.seed ≡ seed }
-{
-    let mark = head.mark;
-    Hello {
-        writer: head.writer,
-        mark,
-        seed,
-        peers: Peers::new(alloc),
-    }
-}
 
 // A message that says nothing.
 fn nothing(alloc: Global) -> Message {
@@ -40,15 +27,16 @@ fn nothing(alloc: Global) -> Message {
     }
 }
 
-// Returns the seed of a peer's first frame. A peer that writes under this node's number is refused: whichever file it has, two
-// nodes give out the same versions.
-fn meet(frame: &Frame, head: LogHead) -> Result<u64, ExchangeFault>
-    ensures other { OnOk result (MeetsOther frame.now head) }
+// Returns what a peer says of itself in its first frame, if it may be met.
+fn meet<'a>(frame: &'a Frame, head: LogHead, known: &[LogPeer]) -> Result<&'a Hello, ExchangeFault>
+    ensures says { IfOk result (λ hello. frame.now.hello ≡ Some hello.now) }
+    ensures may { IfOk result (λ hello. MayMeet head known.now hello.now) }
+    ensures taken { IsErrOf result ExchangeFault.WriterTaken → (hello : Hello) × ((frame.now.hello ≡ Some hello) × (MayMeet head known.now hello → ⊥)) }
 {
     match &frame.hello {
         None => Err(ExchangeFault::Hello),
-        Some(hello) if hello.writer == head.writer => Err(ExchangeFault::WriterTaken),
-        Some(hello) => Ok(hello.seed),
+        Some(hello) if !may_meet(head, known, hello) => Err(ExchangeFault::WriterTaken),
+        Some(hello) => Ok(hello),
     }
 }
 
@@ -65,6 +53,9 @@ fn converse<L: EditLog, S: Source, K: Sink>(
 ) -> Result<(), ExchangeFault>
     requires whole { node.old.is_spent ≡ false }
     requires saved { node.old.unsaved ≡ [] }
+    ensures talks { OnOk result (Talks seed node.old.replica.store (record { prints = heard.prints.items; asks = heard.asks.items; pieces = [] }) hello
+        node.new.replica.store (K.contents sink.old) (K.contents sink.new) (S.remaining source.old) (S.remaining source.new)) }
+    ensures peers { L.is_honest node.new.log → OnOk result (L.peers node.new.log ≡ L.peers node.old.log) }
     ensures later { IsLater L.is_honest L.head L.may_leave node.old node.new }
     ensures whole { OnOk result (node.new.is_spent ≡ false) }
     ensures saved { OnOk result (node.new.unsaved ≡ []) }
@@ -82,7 +73,7 @@ fn converse<L: EditLog, S: Source, K: Sink>(
         if is_last {
             return Ok(());
         }
-        let first = read_frame(alloc, source)?;
+        let first = read_next(alloc, source)?;
         heard = hear(alloc, node, time, source, first)?;
     }
     Err(ExchangeFault::Endless)
@@ -95,9 +86,11 @@ fn converse<L: EditLog, S: Source, K: Sink>(
 /// one process, and not of streams.
 ///
 /// Each turn costs a pass over the replica; a turn tells prints of parts of the ranges in which the turn before it differed.
-/// Fails with `WriterTaken` if the peer writes under the same number; with `Bytes`, `Length`, `Hello` or `Endless` if what
-/// comes is no message; with `Node` if the node refuses what comes; with `Read`, `Write` or `Memory`. Then what was
-/// committed before stays, and nothing is lost.
+/// Who the peer is, and whom it knows, is noted in the node's log once its first message came whole.
+///
+/// Fails with `WriterTaken` if the peer writes under the same number, or if either side knows another file under the number of
+/// the other; with `Bytes`, `Length`, `Hello` or `Endless` if what comes is no message; with `Node` if the node refuses what
+/// comes; with `Read`, `Write` or `Memory`. Then what was committed before stays, and nothing is lost.
 pub fn call<L: EditLog, S: Source, K: Sink>(
     alloc: Global,
     node: &mut NodeFile<L>,
@@ -108,21 +101,33 @@ pub fn call<L: EditLog, S: Source, K: Sink>(
 ) -> Result<(), ExchangeFault>
     requires whole { node.old.is_spent ≡ false }
     requires saved { node.old.unsaved ≡ [] }
+    ensures calls { OnOk result (Calls (L.head node.old.log) seed node.old.replica.store node.new.replica.store
+        (λ known met. L.is_honest node.new.log → Notes (L.head node.old.log) known met time (L.peers node.old.log) (L.peers node.new.log))
+        (record {
+          written_before = K.contents sink.old;
+          written = K.contents sink.new;
+          read_before = S.remaining source.old;
+          read = S.remaining source.new;
+        })) }
     ensures later { IsLater L.is_honest L.head L.may_leave node.old node.new }
     ensures whole { OnOk result (node.new.is_spent ≡ false) }
     ensures saved { OnOk result (node.new.unsaved ≡ []) }
 {
     let head = node.head();
+    let known = known_peers(alloc, node)?;
     let message = open(alloc, node.replica(), seed)?;
-    say(alloc, sink, Some(hello_of(alloc, head, seed)), message)?;
+    let own = hello_of(alloc, head, &known, seed)?;
+    say(alloc, sink, Some(own), message)?;
     let first = read_frame(alloc, source)?;
-    meet(&first, head)?;
+    let met = meet(&first, head, &known)?;
+    let news = news_of(alloc, head, &known, met, time)?;
     let heard = hear(alloc, node, time, source, first)?;
+    note(node, &news)?;
     converse(alloc, node, seed, time, heard, None, source, sink)
 }
 
-/// Takes part in an exchange that the peer begins, as `call` does, with the peer's seed. A peer that writes under the same
-/// number is told who this node is before it is refused, so that it refuses too.
+/// Takes part in an exchange that the peer begins, as `call` does, with the peer's seed. A peer that is refused is told before it
+/// who this node is and whom it knows, so that it refuses too.
 pub fn respond<L: EditLog, S: Source, K: Sink>(
     alloc: Global,
     node: &mut NodeFile<L>,
@@ -132,21 +137,33 @@ pub fn respond<L: EditLog, S: Source, K: Sink>(
 ) -> Result<(), ExchangeFault>
     requires whole { node.old.is_spent ≡ false }
     requires saved { node.old.unsaved ≡ [] }
+    ensures responds { OnOk result (Responds (L.head node.old.log) node.old.replica.store node.new.replica.store
+        (λ known met. L.is_honest node.new.log → Notes (L.head node.old.log) known met time (L.peers node.old.log) (L.peers node.new.log))
+        (record {
+          written_before = K.contents sink.old;
+          written = K.contents sink.new;
+          read_before = S.remaining source.old;
+          read = S.remaining source.new;
+        })) }
     ensures later { IsLater L.is_honest L.head L.may_leave node.old node.new }
     ensures whole { OnOk result (node.new.is_spent ≡ false) }
     ensures saved { OnOk result (node.new.unsaved ≡ []) }
 {
     let head = node.head();
+    let known = known_peers(alloc, node)?;
     let first = read_frame(alloc, source)?;
-    match meet(&first, head) {
-        Ok(seed) => {
-            let heard = hear(alloc, node, time, source, first)?;
-            let hello = Some(hello_of(alloc, head, seed));
-            converse(alloc, node, seed, time, heard, hello, source, sink)
-        }
+    let met = match meet(&first, head, &known) {
+        Ok(met) => met,
         Err(fault) => {
-            say(alloc, sink, Some(hello_of(alloc, head, 0)), nothing(alloc))?;
-            Err(fault)
+            let own = hello_of(alloc, head, &known, 0)?;
+            say(alloc, sink, Some(own), nothing(alloc))?;
+            return Err(fault);
         }
-    }
+    };
+    let seed = met.seed;
+    let news = news_of(alloc, head, &known, met, time)?;
+    let heard = hear(alloc, node, time, source, first)?;
+    note(node, &news)?;
+    let own = hello_of(alloc, head, &known, seed)?;
+    converse(alloc, node, seed, time, heard, Some(own), source, sink)
 }

@@ -1,8 +1,9 @@
-//! Calls on the bytes of stores, pieces and digests. Bytes are written in the spelling of texts.
+//! Calls on the bytes of stores, pieces, digests and frames. Bytes are written in the spelling of texts.
 ghost use Rattle.std.specs.{Option.{IsNone}, Prelude.{◌<◌, IfOk, IfSome}};
 ghost use Rattle.store_bytes.specs.Streams.{most_left};
 
 use crate::edits::{append_at, append_store, append_version};
+use crate::frames::{cut, read_frame, spell_frames};
 use crate::pieces::{append_digest, append_piece, asked, piece};
 use replica_store::{Entry, Place, Version};
 use store_bytes::{
@@ -18,6 +19,8 @@ pub fn answer(words: &mut Words, out: &mut Answer) -> Result<(), LineFault> {
         b"id" => spell_id(words, out),
         b"piece" => spell_piece(words, out),
         b"digest" => spell_digest(words, out),
+        b"frames" => spell_frames(words, out),
+        b"cut" => cut(words, out),
         b"read" => read(words, out),
         b"fed" => fed(words, out),
     )
@@ -55,6 +58,7 @@ fn read(words: &mut Words, out: &mut Answer) -> Result<(), LineFault> {
         b"store" => read_store(out, &bytes),
         b"piece" => read_piece(out, &bytes),
         b"digest" => read_digest(out, &bytes),
+        b"frame" => read_frame(words, out, &bytes),
     )
 }
 
@@ -83,8 +87,8 @@ fn read_digest(out: &mut Answer, bytes: &[u8]) -> Result<(), LineFault> {
     }
 }
 
-// Writes a fault, after a space unless nothing is written yet.
-fn refuse(out: &mut Answer, fault: DecodeFault) -> Result<(), LineFault> {
+/// Writes a fault, after a space unless nothing is written yet.
+pub fn refuse(out: &mut Answer, fault: DecodeFault) -> Result<(), LineFault> {
     match fault {
         DecodeFault::Memory => Err(LineFault::Memory),
         DecodeFault::Fault(fault) => {

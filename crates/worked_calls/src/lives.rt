@@ -7,7 +7,9 @@ use std::alloc::Global;
 use worked_lines::{Answer, LineFault, Words, match_word, placed_of};
 
 // The fault of a line whose node is refused memory, or what else the node is refused.
-fn unless_memory<T: Drop>(outcome: Result<T, NodeFault>) -> Result<Option<T>, LineFault> {
+pub(crate) fn unless_memory<T: Drop>(
+    outcome: Result<T, NodeFault>,
+) -> Result<Option<T>, LineFault> {
     match outcome {
         Ok(done) => Ok(Some(done)),
         Err(NodeFault::Memory) => Err(LineFault::Memory),
@@ -16,7 +18,7 @@ fn unless_memory<T: Drop>(outcome: Result<T, NodeFault>) -> Result<Option<T>, Li
 }
 
 // A node over a new log that does so many steps, unless these don't suffice.
-fn open(alloc: Global, steps: u64) -> Result<Option<NodeFile<MemoryLog>>, LineFault> {
+pub(crate) fn open(alloc: Global, steps: u64) -> Result<Option<NodeFile<MemoryLog>>, LineFault> {
     let head = LogHead {
         format: FORMAT,
         writer: 7,

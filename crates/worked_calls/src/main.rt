@@ -18,10 +18,12 @@ mod contents;
 mod drop_ins;
 mod edits;
 mod fakes;
+mod frames;
 mod implied;
 mod join_maps;
 mod joins;
 mod lives;
+mod meetings;
 mod names;
 mod orders;
 mod paths;
@@ -65,6 +67,7 @@ fn answer(words: &mut Words, out: &mut Answer) -> Result<(), LineFault> {
         b"bytes" => bytes::answer(words, out),
         b"world" => worlds::answer(words, out),
         b"life" => lives::answer(words, out),
+        b"met" => meetings::answer(words, out),
         b"fragment" => choices::answer(words, out),
         b"dropins" => drop_ins::answer(words, out),
         b"tree" => trees::answer(words, out),

@@ -5,6 +5,7 @@ use exchange_session::{Message, RangeAsk, RangePrint, open, reconcile, reply};
 use join_law::Version;
 use range_prints::{Range, parts, print, versions, within};
 use replica_store::{Place, Replica};
+use std::alloc::Global;
 use worked_lines::{Answer, LineFault, Words, is, match_word, place_of};
 
 // The most turns of a line.
@@ -21,19 +22,18 @@ pub fn answer(words: &mut Words, out: &mut Answer) -> Result<(), LineFault> {
     )
 }
 
-// The bound that the next word writes: a place, or none as `-`.
-fn bound(words: &mut Words) -> Result<Option<Place>, LineFault> {
-    let word = words.word()?;
+/// The bound that a word writes: a place, or none as `-`.
+pub fn bound_of(alloc: Global, word: &[u8]) -> Result<Option<Place>, LineFault> {
     if is(word, b"-") {
         return Ok(None);
     }
-    Ok(Some(place_of(words.alloc, word)?))
+    Ok(Some(place_of(alloc, word)?))
 }
 
 // The range that the next two words write.
 fn range(words: &mut Words) -> Result<Range, LineFault> {
-    let from = bound(words)?;
-    let until = bound(words)?;
+    let from = bound_of(words.alloc, words.word()?)?;
+    let until = bound_of(words.alloc, words.word()?)?;
     Ok(Range { from, until })
 }
 
@@ -148,8 +148,8 @@ fn append_pieces(out: &mut Answer, words: &Words, message: &Message) -> Result<(
     Ok(())
 }
 
-// Writes a message: prints of ranges, asks, and pieces; `nothing` if it has none.
-fn append_message(out: &mut Answer, words: &Words, message: &Message) -> Result<(), LineFault> {
+/// Writes a message, after a stroke unless nothing is written yet: prints of ranges, asks, and pieces; `nothing` if it has none.
+pub fn append_message(out: &mut Answer, words: &Words, message: &Message) -> Result<(), LineFault> {
     let mut told = Answer::new(words.alloc);
     append_prints(&mut told, &message.prints);
     append_asks(&mut told, words, &message.asks);

@@ -1,11 +1,12 @@
-use Rattle.node_exchange.proofs.Keeping.{later_committed, later_in_memory, later_same, later_then}
+use Rattle.node_exchange.proofs.Keeping.{later_committed, later_in_memory, later_then}
 use Rattle.node_exchange.proofs.hearing.take_piece.Goals as goal
-
-pub returns-then-is_empty-clause-later : goal.returns-then-is_empty-clause-later
-returns-then-is_empty-clause-later g c = later_same g.L.EditLog.is_honest g.L.EditLog.head g.L.EditLog.may_leave c.args.node.now
 
 pub returns-in_err-absorb-clause-later : goal.returns-in_err-absorb-clause-later
 returns-in_err-absorb-clause-later g c =
+    later_in_memory g.L.EditLog.is_honest g.L.EditLog.head g.L.EditLog.may_leave c.args.node.now c.absorb.new.self c.absorb.ensures.log c.absorb.ensures.writer c.absorb.ensures.held
+
+pub returns-then-is_empty-clause-later : goal.returns-then-is_empty-clause-later
+returns-then-is_empty-clause-later g c =
     later_in_memory g.L.EditLog.is_honest g.L.EditLog.head g.L.EditLog.may_leave c.args.node.now c.absorb.new.self c.absorb.ensures.log c.absorb.ensures.writer c.absorb.ensures.held
 
 pub returns-clause-later : goal.returns-clause-later

@@ -1,17 +1,81 @@
-use Rattle.node_exchange.proofs.Keeping.{later_same, later_then}
+use Rattle.std.proofs.Common.{◌≡◌, ◌++◌, ◌∙◌, [], ap, List, None, refl, subst, sym}
+use Rattle.edit_sums.specs.Sums.{EntryMap}
+use Rattle.edit_log.specs.declared.logs.{LogHead.{LogHead}, LogPeer.{LogPeer}}
+use Rattle.exchange_bytes.specs.declared.frames.Hello.{Hello}
+use Rattle.exchange_session.specs.{Runs.{said_of}, Standing.{opening}}
+use Rattle.node_exchange.specs.Hearing.{Hears}
+use Rattle.std.specs.Prelude.{IsPermutation}
+use Rattle.node_exchange.specs.Meeting.{IsHelloOf, MayMeet, news_of}
+use Rattle.node_exchange.specs.Talks.{Calls, Notes, Talks}
+use Rattle.node_exchange.proofs.Keeping.{later_then}
+use Rattle.node_exchange.proofs.Talking.{both_ok, called, notes_kept}
 use Rattle.node_exchange.proofs.turns.call.Goals as goal
 
-pub returns-in_err-message-clause-later : goal.returns-in_err-message-clause-later
-returns-in_err-message-clause-later g c = later_same g.L.EditLog.is_honest g.L.EditLog.head g.L.EditLog.may_leave c.args.node.now
+pub returns-in_err-heard-clause-later : goal.returns-in_err-heard-clause-later
+returns-in_err-heard-clause-later g c =
+    let log = g.L.EditLog in
+    later_then log.is_honest log.head log.may_leave c.args.node.now c.known_peers.new.node c.hear.new.node c.known_peers.ensures.later c.hear.ensures.later
 
-pub returns-in_err-say-clause-later : goal.returns-in_err-say-clause-later
-returns-in_err-say-clause-later g c = later_same g.L.EditLog.is_honest g.L.EditLog.head g.L.EditLog.may_leave c.args.node.now
-
-pub returns-in_err-first-clause-later : goal.returns-in_err-first-clause-later
-returns-in_err-first-clause-later g c = later_same g.L.EditLog.is_honest g.L.EditLog.head g.L.EditLog.may_leave c.args.node.now
-
-pub returns-in_err-meet-clause-later : goal.returns-in_err-meet-clause-later
-returns-in_err-meet-clause-later g c = later_same g.L.EditLog.is_honest g.L.EditLog.head g.L.EditLog.may_leave c.args.node.now
+pub returns-in_err-note-clause-later : goal.returns-in_err-note-clause-later
+returns-in_err-note-clause-later g c =
+    let log = g.L.EditLog in
+    later_then log.is_honest log.head log.may_leave c.args.node.now c.known_peers.new.node c.note.new.node c.known_peers.ensures.later
+    (later_then log.is_honest log.head log.may_leave c.known_peers.new.node c.hear.new.node c.note.new.node c.hear.ensures.later c.note.ensures.later)
 
 pub returns-clause-later : goal.returns-clause-later
-returns-clause-later g c = later_then g.L.EditLog.is_honest g.L.EditLog.head g.L.EditLog.may_leave c.args.node.now c.hear.new.node c.converse.new.node c.hear.ensures.later c.converse.ensures.later
+returns-clause-later g c =
+    let log = g.L.EditLog in
+    later_then log.is_honest log.head log.may_leave c.args.node.now c.known_peers.new.node c.converse.new.node c.known_peers.ensures.later
+    (later_then log.is_honest log.head log.may_leave c.known_peers.new.node c.hear.new.node c.converse.new.node c.hear.ensures.later
+    (later_then log.is_honest log.head log.may_leave c.hear.new.node c.note.new.node c.converse.new.node c.note.ensures.later c.converse.ensures.later))
+
+pub returns-clause-calls : goal.returns-clause-calls
+returns-clause-calls g c =
+    let log = g.L.EditLog in
+    let head = log.head c.args.node.now.log in
+    let known = c.in_ok-known.known.items in
+    let from = c.args.node.now.replica.store in
+    let mid = c.hear.new.node.replica.store in
+    let met = c.in_ok-met.met.now in
+    let own = c.in_ok-own.own in
+    let message = c.in_ok-message.message in
+    let prints = c.in_ok-heard.heard.prints.items in
+    let asks = c.in_ok-heard.heard.asks.items in
+    let Honest = log.is_honest c.converse.new.node.log in
+    let Noted = λ (k : List LogPeer) (h : Hello). Honest → Notes head k h c.args.time (log.peers c.args.node.now.log) (log.peers c.converse.new.node.log) in
+    let is_own : IsHelloOf head known c.args.seed own =
+    subst (λ (h : LogHead). IsHelloOf h known c.args.seed own) c.head-head.ensures.head (subst (λ (k : List LogPeer). IsHelloOf c.head-head.result k c.args.seed own) c.deref.ensures.value c.in_ok-own.ensures.own) in
+    let may : MayMeet head known met =
+    subst (λ (h : LogHead). MayMeet h known met) c.head-head.ensures.head (subst (λ (k : List LogPeer). MayMeet c.head-head.result k met) c.deref-2.ensures.value c.in_ok-met.ensures.may) in
+    let held : c.replica.result.now.store ≡ from = λ i. ((c.replica.ensures.replica ∙ c.known_peers.ensures.replica) i).store in
+    let opens : said_of message ≡ opening c.args.seed from =
+    (λ i. record { prints = c.in_ok-message.ensures.print i; asks = c.in_ok-message.ensures.asks i; pieces = c.in_ok-message.ensures.pieces i }) ∙ ap (opening c.args.seed) held in
+    let read_store : c.known_peers.new.node.replica.store ≡ from = λ i. (c.known_peers.ensures.replica i).store in
+    let hears : Hears c.in_ok-first.first from mid prints asks (g.S.Source.remaining c.read_frame.new.source) (g.S.Source.remaining c.hear.new.source) =
+    subst (λ (s : EntryMap). Hears c.in_ok-first.first s mid prints asks (g.S.Source.remaining c.read_frame.new.source) (g.S.Source.remaining c.hear.new.source)) read_store c.in_ok-heard.ensures.heard in
+    let noted_store : c.note.new.node.replica.store ≡ mid = λ i. (c.note.ensures.replica i).store in
+    both_ok c.converse.result
+    (Talks c.args.seed c.note.new.node.replica.store (record { prints = prints; asks = asks; pieces = [] }) None c.converse.new.node.replica.store (g.K.Sink.contents c.say.new.sink) (g.K.Sink.contents c.converse.new.sink) (g.S.Source.remaining c.hear.new.source) (g.S.Source.remaining c.converse.new.source))
+    Honest
+    (log.peers c.converse.new.node.log ≡ log.peers c.note.new.node.log)
+    (Calls head c.args.seed from c.converse.new.node.replica.store Noted (record {
+      written_before = g.K.Sink.contents c.args.sink.now;
+      written = g.K.Sink.contents c.converse.new.sink;
+      read_before = g.S.Source.remaining c.args.source.now;
+      read = g.S.Source.remaining c.converse.new.source;
+    }))
+    c.converse.ensures.talks c.converse.ensures.peers
+    (λ talks kept.
+    let notes : Noted known met = λ h.
+    let noted = c.converse.ensures.later.honest h in
+    let heard = c.note.ensures.later.honest noted in
+    let read = c.hear.ensures.later.honest heard in
+    let all : IsPermutation (log.peers c.hear.new.node.log ++ news_of c.head-head.result c.deref-3.result.now met c.args.time) (log.peers c.note.new.node.log) =
+    subst (λ (l : List LogPeer). IsPermutation (log.peers c.hear.new.node.log ++ l) (log.peers c.note.new.node.log)) (c.deref-4.ensures.value ∙ c.in_ok-news.ensures.news) (c.in_ok-note.ensures.noted noted) in
+    notes_kept head c.head-head.result known c.deref-3.result.now met c.args.time (log.peers c.args.node.now.log) (log.peers c.hear.new.node.log) (log.peers c.note.new.node.log) (log.peers c.converse.new.node.log)
+    (c.in_ok-known.ensures.latest read) (c.in_ok-heard.ensures.peers heard ∙ c.in_ok-known.ensures.peers read) c.head-head.ensures.head c.deref-3.ensures.value all (kept h) in
+    let rest : Talks c.args.seed mid (record { prints = prints; asks = asks; pieces = [] }) None c.converse.new.node.replica.store (g.K.Sink.contents c.say.new.sink) (g.K.Sink.contents c.converse.new.sink) (g.S.Source.remaining c.hear.new.source) (g.S.Source.remaining c.converse.new.source) =
+    subst (λ (s : EntryMap). Talks c.args.seed s (record { prints = prints; asks = asks; pieces = [] }) None c.converse.new.node.replica.store (g.K.Sink.contents c.say.new.sink) (g.K.Sink.contents c.converse.new.sink) (g.S.Source.remaining c.hear.new.source) (g.S.Source.remaining c.converse.new.source)) noted_store talks in
+    called head c.args.seed from mid c.converse.new.node.replica.store Noted known own met (said_of message) c.in_ok-first.first prints asks
+    (g.K.Sink.contents c.args.sink.now) (g.K.Sink.contents c.say.new.sink) (g.K.Sink.contents c.converse.new.sink) (g.S.Source.remaining c.args.source.now) (g.S.Source.remaining c.read_frame.new.source) (g.S.Source.remaining c.hear.new.source) (g.S.Source.remaining c.converse.new.source)
+    is_own may notes c.in_ok-say.ensures.written opens c.in_ok-met.ensures.says c.in_ok-first.ensures.read hears rest)
