@@ -27,6 +27,8 @@ E, R, L, U = "/etc/systemd/system", "/run/systemd/system", "/usr/local/lib/syste
 
 sys.path.insert(0, os.path.join(ROOT, "tools"))
 
+os.umask(0o022)  # modes are compared
+
 LINKS = 20_000  # names of one file
 
 
@@ -62,7 +64,8 @@ class Bench:
     def fleet(self, *words, status=0, env=(), **more):
         """Runs `tools/fleet`, which must end with this status."""
         around = {**os.environ, "FLEET_SHELL": self.program, **dict(env)}
-        ran = subprocess.run([FLEET, *words], env=around, check=False, **{"stdout": subprocess.PIPE, "stderr": subprocess.PIPE, **more})
+        ran = subprocess.run([sys.executable, FLEET, *words], env=around, check=False,
+            **{"stdout": subprocess.PIPE, "stderr": subprocess.PIPE, **more})
         found = Ran(ran.returncode, ran.stdout, ran.stderr)
         same(found.status, status, f"status of {words}: {found}")
         return found

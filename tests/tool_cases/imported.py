@@ -61,11 +61,12 @@ def what_is_not_taken(bench):
         f"{E}/a b.service: {name}", f"{E}/a.service.d/10.conf: left out: a drop-in that is a link, to ../other.conf",
         f"{E}/a.service.d/deep: left out: a folder in a folder",
         f"{E}/a.service.wants/s.service: left out: its target isn't 1 to 4,095 bytes of printable ASCII without spaces",
-        f"{E}/b\\x0ac.service: {name}", f"{E}/big.service: left out: over 65,536 bytes", f"{E}/empty.wants: nothing to take: an empty folder",
+        f"{E}/b\\x0ac.service: {name}", f"{E}/big.service: left out: over 65,536 bytes",
         f"{E}/pipe.service: {neither}", f"{E}/socket.service: {neither}", f"{E}/\\xff\\xfe.service: {name}",
         f"{U}/t.service: taken, but: a folder where a unit's file is expected: what it holds is of no unit",
         "/run/systemd/generator: left out: units that generators made; 1 there",
         "/lib/systemd/system: left out: units of a system whose /lib isn't /usr/lib; 1 there",
+        f"{E}/empty.wants: nothing to take: an empty folder",
         f"{root}: 8 taken, 11 left out, 1 to be looked at",
     ])
     same([it.split(" ")[2] for it in ran.lines()[1:]], [
@@ -255,7 +256,8 @@ def too_large(bench):
     root = bench.tree("a", {f"{U}/u{number}.service": b"\xff" * 65_536 for number in range(65)})
     ran = bench.fleet("import", root, status=2)
     size = len("node tree 1\n") + sum(len(f"put tree {U}/u{number}.service \n") + 4 * 65_536 for number in range(65))
-    same((ran.out, ran.told()), (b"", [f"import: too large: the script has {size:,} bytes, and the program reads at most 16,777,216"]))
+    same((ran.out, ran.told()), (b"", [f"import: too large: the script has {size:,} bytes, and the program reads at most 16,777,216: "
+                                            "`fleet import --factor` gives what hosts share once, `--split` writes several scripts"]))
 
 
 def own_tree_is_whole(bench):

@@ -81,12 +81,18 @@ def what_is_left_out(bench):
         "/usr/lib/systemd/system.conf.d/x.conf": "[Manager]\n DefaultStandardError = inherit\n", "/run/systemd/system.conf": Link("system.conf"),
     })
     ran = bench.fleet("check", root, "a", status=1)
-    same(ran.lines()[2:-2], [
+    same(ran.lines()[1:-2], [
+        "b.service: without ExecStart=: systemd refuses it", "c.service: Unit.Wants: K6 BadName: a word that is no unit name; it is passed over",
+        *(f"{name}: {why}: systemd refuses it" for name, why in (
+            ("d.timer", "without On..="), ("e.path", "without Path..=, DirectoryNotEmpty="), ("f.socket", "without Listen..="),
+            ("srv-w.swap", "What=/w, which isn't the path after which it is named, /srv/w"),
+            ("two.service", "several ExecStart=, which only one of Type=oneshot may have; this is of Type=simple"),
+            ("x-y.mount", "Where=/x/z, which isn't the path after which it is named, /x/y"),
+        )), "/run/systemd/system.conf: can't be read: Too many levels of symbolic links",
         "not modelled: devices of the machine, which start at once here: 1 unit",
         "not modelled: init.scope, which the manager makes for itself: 1 unit",
         "not modelled: units of the initial RAM disk, where the manager adds otherwise: 1 unit",
         "not modelled: what systemd-oomd may kill, by which it is pulled: 1 unit", "not modelled: images, for which modprobe@ is pulled: 1 unit",
-        "not modelled: settings by which systemd refuses a unit, as a service without ExecStart=: 7 units",
         "not modelled: an earlier Slice= before the last, which stays required: 1 unit",
         "not modelled: StopPropagatedFrom=, PropagatesStopTo=, OnSuccess= and JoinsNamespaceOf=: 1 unit",
         "not modelled: specifiers of the machine, which stay as they are written: 1 file",
@@ -97,7 +103,6 @@ def what_is_left_out(bench):
         "read otherwise: quotes in dependency lists, which are read as part of a name: 2 files",
         "read otherwise: folders of links for a type, as service.wants: 1 link", "read otherwise: left out of the store: 2 places",
     ])
-    same(ran.told()[-1], "/run/systemd/system.conf: can't be read: Too many levels of symbolic links")
     ring = {**EARLY, f"{U}/a.service": "[Unit]\nAfter=b.service\nRequires=b.service\n[Service]\nExecStart=/a\n",
             f"{U}/b.service": "[Unit]\nAfter=a.service\n[Service]\nExecStart=/b\n"}
     same(bench.fleet("check", bench.tree("ring", ring), "a", status=1).lines()[1:3], [
@@ -112,7 +117,8 @@ def what_defaults_change(bench):
     other = bench.tree("other", {f"{U}/a.service": "[Unit]\nDefaultDependencies=no\n"})
     value = ["a.service", "  + Unit.DefaultDependencies: no"]
     same(bench.fleet("diff", one, other, status=1).lines(), [
-        HEADS["manager"], *value, "  - Before: shutdown.target", "  - After: basic.target", "  - After: sysinit.target", "  - Requires: sysinit.target",
+        HEADS["manager"], *value, "  - Before: shutdown.target", "  - After: basic.target", "  - After: sysinit.target",
+            "  - Requires: sysinit.target",
         "  - Conflicts: shutdown.target", "basic.target", "  - status: not-found", "  - names: basic.target", "  - Before: a.service",
         "shutdown.target", "  - status: not-found", "  - names: shutdown.target", "  - After: a.service", "  - ConflictedBy: a.service",
         "sysinit.target", "  - status: not-found", "  - names: sysinit.target", "  - Before: a.service", "  - RequiredBy: a.service",

@@ -3,6 +3,7 @@ import os
 
 from .bench import TREES, E, L, Link, R, U, same
 
+WHY = "why: trees tell no times, and a counter counts its node's edits in the order of places: "
 DEBIAN, WEB1 = (os.path.join(TREES, it) for it in ("debian", "web1"))
 
 
@@ -95,9 +96,10 @@ def nodes_meet(bench):
     # counters go by the order of places: a 1, b 2, c 3, only 4; a 1, b 2, x 3, only 4; c 1
     rows = [(f"{E}/a", "1.2 two file 2"), (f"{E}/b", "2.2 two file 4"), (f"{E}/c", "3.1 node1 file 1"), (f"{L}/x", "3.2 two file 0"),
             (f"{U}/only", "4.2 two file 3")]
-    same(bench.fleet("merge", one, f"two={two}", three).lines(), [
+    same(bench.fleet("merge", one, f"two={two}", three, status=1).lines(), [
         *(f"{place:{len(L) + 2}} {what}" for place, what in rows), f"differed: {E}/a: two's 1.2 stands, over node1's 1.1",
         f"differed: {E}/c: node1's 3.1 stands, over node3's 1.3", f"differed: {U}/only: two's 4.2 stands, over node1's 4.1",
+        f"{WHY}at 1 the node stands that edited more places before; at 2 counters are equal, and the node stands that is named later",
         "5 places, at 3 of which nodes differed",
     ])
     text = bench.fleet("merge", "--script", one, f"two={two}", three).out
@@ -113,10 +115,10 @@ def nodes_with_a_base(bench):
     one = bench.tree("one", {f"{E}/a": "a", f"{E}/b": "one", f"{E}/d": "one", f"{E}/n": "new"})
     two = bench.tree("two", {f"{E}/a": "two", f"{E}/b": "b", f"{E}/c": "c", f"{E}/n": Link("new")})
     # the base's counters are 1 to 4; then one: b 5, c gone 6, d 7, n 8; and two: a 5, d gone 6, n 7
-    same(bench.fleet("merge", "--base", base, f"one={one}", f"two={two}").lines(), [
+    same(bench.fleet("merge", "--base", base, f"one={one}", f"two={two}", status=1).lines(), [
         f"{E}/a 5.2 two file 3", f"{E}/b 5.1 one file 3", f"{E}/c 6.1 one gone", f"{E}/d 7.1 one file 3", f"{E}/n 8.1 one file 3",
         f"differed: {E}/d: one's 7.1 stands, over two's 6.2", f"differed: {E}/n: one's 8.1 stands, over two's 7.2",
-        "5 places, at 2 of which nodes differed",
+        f"{WHY}at 2 the node stands that edited more places before", "5 places, at 2 of which nodes differed",
     ])
     same(bench.fleet("merge", "--base", base, f"base={one}", status=2).told(), ["merge: base: two nodes of this name"])
 

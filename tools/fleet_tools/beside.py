@@ -2,7 +2,6 @@
 import os
 import re
 
-from .faults import printable
 from .files import bytes_of, led_to
 from .places import is_unit_name
 
@@ -35,7 +34,7 @@ class Beside:
         except (FileNotFoundError, NotADirectoryError):
             return default
         except OSError as fault:
-            self.unread.append(f"{printable(path)}: can't be read: {fault.strerror}")
+            self.unread.append((path, fault.strerror))
             return default
 
     def paths(self, folders):
@@ -57,7 +56,7 @@ def is_mask(path):
 
 
 def counts_beside(trees):
-    """Rows of what it is, what is counted, and how many there are in all trees; and the lines on what can't be read."""
+    """Rows of what it is, what is counted, and how many there are in all trees; and what can't be read, with why."""
     looks = [Beside(it.root) for it in trees]
     rows = []
     for what, is_meant, folders in NAMES:

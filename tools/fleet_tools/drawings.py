@@ -1,5 +1,7 @@
 """Pictures as SVG and as DOT."""
 import math
+import os
+import textwrap
 from collections import Counter
 from html import escape
 
@@ -8,15 +10,24 @@ from .pictures import Role, Shape, Tie
 
 STYLE = """
 text { font: 12px "DejaVu Sans Mono", Menlo, Consolas, monospace; fill: #1b2733 }
-.title { font-size: 15px; font-weight: bold } .step, .legend { font-size: 11px; fill: #5b6875 }
+.title { font-size: 15px; font-weight: bold } .row, .legend { font-size: 11px; fill: #5b6875 }
 .band { fill: #f3f6f9 }
 rect.box { fill: #ffffff; stroke: #54687a } .asked rect.box { fill: #dcebfb; stroke: #1d5fa8; stroke-width: 2 }
 .stops rect.box, .faulty rect.box { fill: #fdeaea; stroke: #c62828; stroke-width: 1.5 } .stops text, .faulty text { fill: #a31515 }
 path { fill: none } .needs { stroke: #2c4a68; stroke-width: 1.3 } .wishes { stroke: #5f8f5a; stroke-dasharray: 5 3 }
 .order { stroke: #9aa6b2; stroke-dasharray: 1 3 } .triggers { stroke: #8a5aa8; stroke-dasharray: 8 3 }
 .conflict, .waited, .requisite { stroke: #c62828; stroke-width: 2 }
-.many path { opacity: 0.6 } .many path.pale { opacity: 0.25 }
+.many path { opacity: 0.6 } .many path.pale { opacity: 0.3 }
 """
+# The same of a picture that is searched.
+LIVE_STYLE = """
+g[data-unit] { cursor: pointer } .dim { opacity: 0.15 } .many path.dim { opacity: 0.06 } .many path.lit { opacity: 1 } .lit { stroke-width: 2 }
+.found rect.box { fill: #fff2b8; stroke: #b07a00; stroke-width: 2 }
+#bar div { font: 13px sans-serif; text-align: right; background: #ffffffd0; padding: 3px } #bar input { width: 11em } #bar button { min-width: 2em }
+"""
+SCRIPT = os.path.join(os.path.dirname(os.path.realpath(__file__)), "picture.js")
+BAR_WIDTH = 420
+MOST_LETTERS, LEGEND = 140, 64  # of a line of the title, and how low the legend stands
 ARROWS = {Tie.NEEDS: "#2c4a68", Tie.WISHES: "#5f8f5a", Tie.ORDER: "#9aa6b2", Tie.WAITED: "#c62828", Tie.REQUISITE: "#c62828",
           Tie.TRIGGERS: "#8a5aa8"}
 A_GREAT_MANY = 60  # lines: where a picture has more, all are paler
@@ -35,23 +46,20 @@ def class_of(tie):
 
 
 def curve(one, other):
-    """The path from one box to another."""
-    (x1, y1), (x2, y2) = one.middle(), other.middle()
-    if one.x >= other.x + other.width:
-        x1, x2 = one.x, other.x + other.width
-    elif other.x >= one.x + one.width:
-        x1, x2 = one.x + one.width, other.x
-    else:
-        return arc(one, other)
-    reach = (x2 - x1) / 2
-    return f"M{x1:.1f} {y1:.1f} C{x1 + reach:.1f} {y1:.1f} {x2 - reach:.1f} {y2:.1f} {x2:.1f} {y2:.1f}"
+    """The path from one box down to another."""
+    (x1, _), (x2, _) = one.middle(), other.middle()
+    if abs(one.y - other.y) < HEIGHT:
+        return beside(one, other)
+    y1, y2 = (one.y + HEIGHT, other.y) if one.y < other.y else (one.y, other.y + HEIGHT)
+    reach = (y2 - y1) / 2
+    return f"M{x1:.1f} {y1:.1f} C{x1:.1f} {y1 + reach:.1f} {x2:.1f} {y2 - reach:.1f} {x2:.1f} {y2:.1f}"
 
 
-def arc(one, other):
-    """The path between two boxes above each other, round their left."""
-    x1, x2, y1, y2 = one.x, other.x, one.middle()[1], other.middle()[1]
-    out = min(x1, x2) - min(14 + abs(y2 - y1) / 8, MARGIN - 4)
-    return f"M{x1:.1f} {y1:.1f} C{out:.1f} {y1:.1f} {out:.1f} {y2:.1f} {x2:.1f} {y2:.1f}"
+def beside(one, other):
+    """The path between two boxes beside each other, round above them."""
+    (x1, _), (x2, _) = one.middle(), other.middle()
+    out = min(one.y, other.y) - min(14 + abs(x2 - x1) / 8, 60)
+    return f"M{x1:.1f} {one.y:.1f} C{x1:.1f} {out:.1f} {x2:.1f} {out:.1f} {x2:.1f} {other.y:.1f}"
 
 
 def across(one, other, bend):
@@ -91,63 +99,98 @@ def head_of(tie):
 
 
 def lines_of(picture, layout):
-    """All lines between the boxes."""
-    wishes = Counter(it.source for it in picture.lines if it.tie is Tie.WISHES)
-    for it in picture.lines:
-        pale = " pale" if it.tie is Tie.WISHES and wishes[it.source] > MOST_WISHES else ""
-        yield f'<path class="{class_of(it.tie)}{pale}" d="{path_of(it, picture, layout)}"{head_of(it.tie)}/>'
+    """All lines that are drawn between the boxes."""
+    wishes = Counter(it.target for it in picture.drawn if it.tie is Tie.WISHES)
+    for it in picture.drawn:
+        pale = " pale" if it.tie is Tie.WISHES and wishes[it.target] > MOST_WISHES else ""
+        ends = f'data-from="{escape(it.source)}" data-to="{escape(it.target)}"'
+        yield f'<path class="{class_of(it.tie)}{pale}" {ends} d="{path_of(it, picture, layout)}"{head_of(it.tie)}/>'
 
 
 def hint(box, lines):
-    """What a unit's hint says: the lines that it has."""
+    """What a unit's hint says: what is said of it by all lines, those too that aren't drawn."""
     rows = {}
     for line in lines:
-        rows.setdefault(line.tie.value, []).append(line.target)
+        rows.setdefault(line.tie.value, []).append(line.said()[1])
     return "\n".join([box.name, *[f"{tie}: {' '.join(names)}" for tie, names in rows.items()]])
 
 
 def box_of(box, spot, lines):
     """A unit's box with its name, and its lines as a hint."""
     x, y = spot.middle()
-    return (f'<g class="{box.role.value}"><title>{escape(hint(box, lines))}</title>'
+    return (f'<g class="{box.role.value}" data-unit="{escape(box.name)}"><title>{escape(hint(box, lines))}</title>'
             f'<rect class="box" x="{spot.x:.1f}" y="{spot.y:.1f}" width="{spot.width:.1f}" height="{HEIGHT}" rx="4"/>'
             f'<text x="{x:.1f}" y="{y + 4:.1f}" text-anchor="middle">{escape(box.name)}</text></g>')
+
+
+def title(words):
+    """The title, on at most two lines."""
+    lines = textwrap.wrap(words, MOST_LETTERS, max_lines=2, placeholder=" ..")
+    yield from (f'<text class="title" x="{MARGIN}" y="{24 + 19 * at}">{escape(line)}</text>' for at, line in enumerate(lines))
 
 
 def legend(ties):
     """A sample of each sort of line, with what it says."""
     x = MARGIN
     for tie in ties:
-        yield f'<path class="{class_of(tie)}" d="M{x} 52 L{x + 34} 52"{head_of(tie)}/><text class="legend" x="{x + 40}" y="56">{tie.value}</text>'
-        x += 60 + 7 * len(tie.value)
+        yield (f'<path class="{class_of(tie)}" d="M{x} {LEGEND} L{x + 34} {LEGEND}"{head_of(tie)}/>'
+               f'<text class="legend" x="{x + 40}" y="{LEGEND + 4}">{tie.value}</text>')
+        x += legend_width([tie])
+
+
+def legend_width(ties):
+    """How wide the legend of ties is."""
+    return sum(60 + 7 * len(it.value) for it in ties)
 
 
 def bands(picture, layout):
-    """What lies behind the columns of each step."""
-    if picture.shape is not Shape.STEPS:
+    """What lies behind each row, with its number."""
+    if picture.shape is not Shape.ROWS:
         return
-    for step, (left, right) in layout.steps.items():
-        words = "stops" if step == 0 else f"step {step}"
-        yield (f'<rect class="band" x="{left:.1f}" y="{HEAD - 26}" width="{right - left:.1f}" height="{layout.height - HEAD + 18:.1f}" rx="6"/>'
-               f'<text class="step" x="{left + 8:.1f}" y="{HEAD - 11}">{words}</text>')
+    for row, (top, bottom) in layout.rows.items():
+        yield (f'<rect class="band" x="{MARGIN / 2:.1f}" y="{top:.1f}" width="{layout.width - MARGIN:.1f}" height="{bottom - top:.1f}" rx="6"/>'
+               f'<text class="row" x="{MARGIN / 2 + 6:.1f}" y="{top + 20:.1f}">{row or "stops"}</text>')
 
 
-def svg(picture):
-    """The picture as SVG."""
+def bar(wide):
+    """What a picture is searched and zoomed with."""
+    words = ('<input id="search" placeholder="search: / and Enter"/> <span id="told"></span> <button id="less">-</button> '
+             '<button id="more">+</button> <button id="fit">fit</button>')
+    left, top = max(wide - BAR_WIDTH, 0), LEGEND - 18
+    return (f'<g id="bar" data-wide="{BAR_WIDTH}" data-top="{top}" transform="translate({left:.0f} {top})">'
+            f'<foreignObject x="0" y="0" width="{BAR_WIDTH}" height="34"><div xmlns="http://www.w3.org/1999/xhtml">{words}</div></foreignObject></g>')
+
+
+def script():
+    """The script of a picture that is searched."""
+    with open(SCRIPT, encoding="utf-8") as file:
+        return f"<script>//<![CDATA[\n{file.read()}//]]></script>"
+
+
+def svg(picture, is_plain=False):
+    """The picture as SVG, with what makes it searchable if it isn't to be plain."""
     layout = layout_of(picture)
-    ties = [it for it in Tie if any(line.tie is it for line in picture.lines)]
-    wide = max(layout.width, 2 * MARGIN + 9.4 * len(picture.title), 2 * MARGIN + sum(60 + 7 * len(it.value) for it in ties))
+    ties = [it for it in Tie if any(line.tie is it for line in picture.drawn)]
+    beside = legend_width(ties) + (0 if is_plain else BAR_WIDTH)
+    wide = max(layout.width, 2 * MARGIN + 9.4 * min(len(picture.title), MOST_LETTERS), 2 * MARGIN + beside)
     size = f'width="{wide:.0f}" height="{layout.height:.0f}"'
-    parts = [f'<svg xmlns="http://www.w3.org/2000/svg" {size} viewBox="0 0 {wide:.0f} {layout.height:.0f}"><style>{STYLE}</style>',
+    style = STYLE if is_plain else STYLE + LIVE_STYLE
+    parts = [f'<svg xmlns="http://www.w3.org/2000/svg" {size} viewBox="0 0 {wide:.0f} {layout.height:.0f}"><style>{style}</style>',
              f'<defs>{"".join(arrow(it) for it in ties if it in ARROWS)}</defs><rect width="100%" height="100%" fill="#ffffff"/>',
-             f'<text class="title" x="{MARGIN}" y="30">{escape(picture.title)}</text>', *legend(ties), *bands(picture, layout)]
-    parts.append(f'<g class="{"many" if len(picture.lines) > A_GREAT_MANY else "few"}">')
+             *title(picture.title), *legend(ties), *bands(picture, layout)]
+    parts.append(f'<g class="{"many" if len(picture.drawn) > A_GREAT_MANY else "few"}">')
     parts += [*lines_of(picture, layout), "</g>"]
-    from_unit = {box.name: [] for box in picture.boxes}
+    of_unit = {box.name: [] for box in picture.boxes}
     for line in picture.lines:
-        from_unit[line.source].append(line)
-    parts += [box_of(it, layout.spots[it.name], from_unit[it.name]) for it in picture.boxes]
-    return "\n".join([*parts, "</svg>", ""])
+        of_unit[line.said()[0]].append(line)
+    parts += [box_of(it, layout.spots[it.name], of_unit[it.name]) for it in picture.boxes]
+    return "\n".join([*parts, *([] if is_plain else [bar(wide), script()]), "</svg>", ""])
+
+
+def tooltip(line):
+    """What a line says, in words."""
+    unit, other = line.said()
+    return f"{unit} {line.tie.value} {other}"
 
 
 def quoted(text):
@@ -158,12 +201,12 @@ def quoted(text):
 def dot(picture):
     """The picture as DOT text."""
     colours = {Role.STOPS: ", color=red, fontcolor=red", Role.FAULTY: ", color=red, fontcolor=red", Role.ASKED: ", penwidth=2"}
-    lines = ["digraph plan {", f"  label={quoted(picture.title)};", "  rankdir=LR;", "  node [shape=box, fontname=monospace];"]
-    for step in sorted({it.step for it in picture.boxes}):
-        names = [it for it in picture.boxes if it.step == step]
+    lines = ["digraph plan {", f"  label={quoted(picture.title)};", "  rankdir=TB;", "  node [shape=box, fontname=monospace];"]
+    for row in sorted({it.row for it in picture.boxes}):
+        names = [it for it in picture.boxes if it.row == row]
         lines += [f"  {quoted(it.name)} [label={quoted(it.name)}{colours.get(it.role, '')}];" for it in names]
         if picture.shape is not Shape.RING:
             lines.append("  { rank=same; " + " ".join(f"{quoted(it.name)};" for it in names) + " }")
-    for it in picture.lines:
-        lines.append(f"  {quoted(it.source)} -> {quoted(it.target)} [{DOT_STYLES[it.tie]}, tooltip={quoted(it.tie.value)}];")
+    for it in picture.drawn:
+        lines.append(f"  {quoted(it.source)} -> {quoted(it.target)} [{DOT_STYLES[it.tie]}, tooltip={quoted(tooltip(it))}];")
     return "\n".join([*lines, "}", ""])

@@ -1,11 +1,15 @@
 """Writes what a node of a script shows as a tree."""
 import os
+from dataclasses import dataclass
+from typing import Dict, List
 
 from .answers import Answers
-from .faults import Fault, Status, printable
-from .places import Link, place_of
-from .refusals import Refusal
-from .scripts import unspelled
+from .asking import needed
+from .faults import Fault
+from .modes import OWN, WIDEST
+from .places import Content, Link, Place, place_of
+from .scripts import node_word, remarked_hosts
+from .wholes import umask
 
 # Commands that change no node, so that a script's nodes are the same without them; the answers to all others have one line.
 READING = ("files", "text", "cat", "show", "units", "tree", "list", "plan", "same", "crowd", "workers")
@@ -25,70 +29,75 @@ def changing_lines(script):
             yield line
 
 
-def content_of(line):
-    """What a line puts or links, where the program took it; nothing of another line."""
-    command, _, behind = line.lstrip(b" ").partition(b" ")
-    _node, _, behind = behind.lstrip(b" ").partition(b" ")
-    _place, _, text = behind.lstrip(b" ").partition(b" ")
-    if command == b"put":
-        return unspelled(text)
-    return Link(text.strip(b" ").decode("ascii")) if command == b"link" else None
+@dataclass(frozen=True)
+class Shown:
+    """What a node shows: contents by place, the places that the node has them at, and the crossed units."""
+
+    entries: Dict[Place, Content]
+    origins: Dict[Place, Place]
+    crossed: List[str]
 
 
-def shown(script, node, program):
-    """What a node shows when the script is done: the visible places with their contents. An edit's version is its own, so the version that
-    stands at a place says which line it came from."""
-    lines = list(changing_lines(script))
+def shown(script, node, host, program):
+    """What a node shows when the script is done: all visible places with their contents, or, for a host, those of the one tree that it sees, as
+    the fleet's."""
+    lines, word = list(changing_lines(script)), node_word(node)
     # a carriage return before a line feed is none of the line's own
     written = [it + b"\r" if it.endswith(b"\r") else it for it in lines]
-    answers = Answers(program.answer([*written, f"files {node}".encode("ascii")]))
-    put = {}
-    for line in lines:
-        head, _, version = answers.line().partition(" ")
-        if head == "ok" and version:
-            put[version] = content_of(line)
-    files = answers.last_block()
-    if isinstance(files, Refusal):
-        raise Fault(f"{node}: {files}", Status.WRONG)
-    rows = [it.split(" ") for it in files]
-    return dict(held_at(*it, put) for it in rows if it[2] != "gone")
+    answers = asked(program, written, [f"files {word}"])
+    places = {it.place: it.length for it in needed(answers.files(), node) if it.length >= 0 or it.target}
+    answers.ended()
+    if host is not None and host not in remarked_hosts(script) and not any(it.startswith(f"{host}:") for it in places):
+        raise Fault(f"--host {host}: {node} has no place of this host")
+    lengths = {place: length for place, length in places.items() if length >= 0}
+    answers = asked(program, written, [f"text {word} {it}" for it in places] if host is None else [f"tree {word}@{host}"])
+    rows, crossed = (dict(answers.text(lengths) for _ in places), []) if host is None else needed(answers.tree(lengths, host), node)
+    answers.ended()
+    entries = entries_of(rows)
+    return Shown(entries, {it: it._replace(host=host) if host is not None and f"{host}:{it}" in places else it for it in entries}, crossed)
 
 
-def held_at(text, version, what, told, put):
-    """The place and the content that a row of `files` tells, of what was put under each version."""
-    content = put[version]
-    if told != (content.target if isinstance(content, Link) else str(len(content))):
-        raise Fault(f"{text}: the program holds a {what} of {told}, and the script was read otherwise")
-    return place_of(text), content
+def entries_of(rows):
+    """What stands at places that answers tell, each with bytes or a link's target."""
+    return {place_of(place): content if isinstance(content, bytes) else Link(content) for place, content in rows.items()}
 
 
-def seen_by(entries, host):
-    """What a host sees, as the fleet's places: of each path the host's own."""
-    mine = {place._replace(host=""): content for place, content in entries.items() if place.host == host}
-    return {**{place: content for place, content in entries.items() if not place.host}, **mine}
+def asked(program, written, questions):
+    """The answers to questions behind a script, whose own are passed over."""
+    answers = Answers(program.answer([*written, *(it.encode("ascii") for it in questions)]))
+    answers.changes(len(written))
+    return answers
 
 
 class Writer:
-    """Writes places into a new tree. Nothing is written through a link of it."""
+    """Writes places into a new tree, of the modes that are known, the others of one mode. Nothing is written through a link of it."""
 
-    def __init__(self, root):
-        self.root = os.path.abspath(root)
+    def __init__(self, root, modes, is_own):
+        self.root = root
+        self.modes = modes
+        self.mode = (OWN if is_own else WIDEST) & ~umask()
         self.folders = {self.root}
         self.blocked = []
 
     def write(self, entries):
         """Writes all, in order; what can't stand beside what stands there already is kept for `blocked`."""
-        os.makedirs(self.root, exist_ok=True)
         for place, content in sorted(entries.items()):
             base = os.path.join(self.root, HOSTS, place.host) if place.host else self.root
-            path = base + place.path()
-            if not self.make_folders(os.path.dirname(path)) or os.path.lexists(path):
-                self.blocked.append(str(place))
-            elif isinstance(content, Link):
-                os.symlink(content.target, path)
-            else:
-                with open(path, "xb") as file:
-                    file.write(content)
+            try:
+                self.write_at(base + place.path(), place, content)
+            except OSError as fault:
+                raise Fault(f"{place}: not written: {fault.strerror}; nothing is left of the tree") from fault
+
+    def write_at(self, path, place, content):
+        """Writes a file or a link, where nothing stands in the way."""
+        if not self.make_folders(os.path.dirname(path)) or os.path.lexists(path):
+            self.blocked.append(str(place))
+        elif isinstance(content, Link):
+            os.symlink(content.target, path)
+        else:
+            with open(os.open(path, os.O_WRONLY | os.O_CREAT | os.O_EXCL | os.O_CLOEXEC, OWN), "wb") as file:
+                file.write(content)
+                os.fchmod(file.fileno(), self.mode if self.modes.get(place) is None else self.modes[place] & WIDEST)
 
     def make_folders(self, path):
         """Makes a folder and those above it; false where something else stands in the way."""
@@ -101,9 +110,3 @@ class Writer:
         os.mkdir(path)
         self.folders.add(path)
         return True
-
-
-def refuse_full(path):
-    """Refuses a folder that is neither new nor empty."""
-    if os.path.lexists(path) and not (os.path.isdir(path) and not os.listdir(path)):
-        raise Fault(f"{printable(path)}: neither new nor an empty folder")

@@ -24,3 +24,9 @@ def printable(text):
         return text
     spelled = text.encode("utf-8", "surrogateescape")
     return "".join(chr(it) if 32 <= it <= 126 else f"\\x{it:02x}" for it in spelled)
+
+
+def cut(text, most=120):
+    """The same, and of what is long its begin."""
+    told = printable(text)
+    return told if len(told) <= most else told[:most] + ".."

@@ -1,4 +1,4 @@
-"""Where the units of a picture stand: a column for each step, or a ring."""
+"""Where the units of a picture stand: in rows from above, or in a ring."""
 import math
 from dataclasses import dataclass
 from typing import Dict, Tuple
@@ -6,9 +6,10 @@ from typing import Dict, Tuple
 from .pictures import Shape
 
 LETTER, PADDING, HEIGHT = 7.3, 9, 22  # the width of a letter, the room beside a name, and the height of a box
-ROW, GAP, MARGIN, HEAD = 32, 90, 32, 96
+MARGIN, HEAD, LEFT = 24, 104, 34  # the room at the sides, above the rows, and for a row's number
+ROOM, LINE, GAP = 14, 32, 46  # between boxes of a row, from one line of boxes to the next, and between rows
+SCREEN = 1400  # to which a row is wrapped
 RING_ROW, MOST_RING = 72, 320  # the height of a ring's row, and the most that it is wide to each side
-MOST_ROWS = 32  # rows of a column; a step with more units has several
 SWEEPS = 12
 
 
@@ -27,10 +28,10 @@ class Spot:
 
 @dataclass(frozen=True)
 class Layout:
-    """Where all stands: spots by name, the left and the right of each step's columns, and the size of the whole."""
+    """Where all stands: spots by name, the top and the bottom of each row, and the size of the whole."""
 
     spots: Dict[str, Spot]
-    steps: Dict[int, Tuple[float, float]]
+    rows: Dict[int, Tuple[float, float]]
     width: float
     height: float
 
@@ -41,25 +42,25 @@ def width_of(name):
 
 
 def rows_of(picture):
-    """The units of each step, so ordered that lines cross little: each stands where those stand, on the middle, to which it has lines."""
-    steps = {}
+    """The units of each row, so ordered that lines cross little: each stands where those stand, on the middle, to which it has lines."""
+    rows = {}
     for box in picture.boxes:
-        steps.setdefault(box.step, []).append(box.name)
-    step_of = {box.name: box.step for box in picture.boxes}
+        rows.setdefault(box.row, []).append(box.name)
+    row_of = {box.name: box.row for box in picture.boxes}
     near = {box.name: [] for box in picture.boxes}
-    for line in picture.lines:
-        if step_of[line.source] != step_of[line.target]:
+    for line in picture.drawn:
+        if row_of[line.source] != row_of[line.target]:
             near[line.source].append(line.target)
             near[line.target].append(line.source)
-    height = {name: (at + 0.5) / len(names) for names in steps.values() for at, name in enumerate(names)}
-    numbers = sorted(steps)
+    place = {name: (at + 0.5) / len(names) for names in rows.values() for at, name in enumerate(names)}
+    numbers = sorted(rows)
     for sweep in range(SWEEPS):
         for number in numbers if sweep % 2 == 0 else numbers[::-1]:
-            names = steps[number]
-            means = {it: mean([height[other] for other in near[it]], height[it]) for it in names}
+            names = rows[number]
+            means = {it: mean([place[other] for other in near[it]], place[it]) for it in names}
             names.sort(key=lambda it: (means[it], it))
-            height.update({name: (at + 0.5) / len(names) for at, name in enumerate(names)})
-    return {number: steps[number] for number in numbers}
+            place.update({name: (at + 0.5) / len(names) for at, name in enumerate(names)})
+    return {number: rows[number] for number in numbers}
 
 
 def mean(numbers, default):
@@ -67,28 +68,36 @@ def mean(numbers, default):
     return sum(numbers) / len(numbers) if numbers else default
 
 
-def columns_of(names):
-    """The columns of a step: as many as its units need, the units going from one to the next, so that each stands as high as its place."""
-    count = math.ceil(len(names) / MOST_ROWS)
+def lines_of(names):
+    """The lines of boxes into which a row is wrapped: as few as the width of a screen allows, and the units going from one to the next, so that
+    each stands about where its place is."""
+    count = math.ceil(sum(width_of(it) + ROOM for it in names) / SCREEN)
+    while count < len(names) and max(length_of(names[at::count]) for at in range(count)) > max(SCREEN, *map(width_of, names)):
+        count += 1
     return [names[at::count] for at in range(count)]
 
 
-def column_layout(picture):
-    """Units in columns, a step after the other."""
-    steps = {number: columns_of(names) for number, names in rows_of(picture).items()}
-    tallest = max(len(columns[0]) for columns in steps.values())
-    spots, bands, x = {}, {}, MARGIN
-    for number, columns in steps.items():
-        left = x
-        for turn, column in enumerate(columns):
-            wide = max(map(width_of, column))
-            top = HEAD + (tallest - len(columns[0])) * ROW / 2 + turn * ROW / len(columns)
-            for at, name in enumerate(column):
-                spots[name] = Spot(x + (wide - width_of(name)) / 2, top + at * ROW, width_of(name))
-            x += wide + PADDING * 2
-        bands[number] = left - PADDING, x - PADDING
-        x += GAP
-    return Layout(spots, bands, x - GAP + MARGIN, HEAD + (tallest + 0.5) * ROW + MARGIN)
+def length_of(names):
+    """How wide a line of these boxes is."""
+    return sum(width_of(it) + ROOM for it in names) - ROOM
+
+
+def row_layout(picture):
+    """Units in rows, from above."""
+    rows = {number: lines_of(names) for number, names in rows_of(picture).items()}
+    wide = max(length_of(line) for lines in rows.values() for line in lines)
+    spots, bands, y = {}, {}, HEAD
+    for number, lines in rows.items():
+        top = y
+        for line in lines:
+            x = MARGIN + LEFT + (wide - length_of(line)) / 2
+            for name in line:
+                spots[name] = Spot(x, y, width_of(name))
+                x += width_of(name) + ROOM
+            y += LINE
+        bands[number] = top - (LINE - HEIGHT) / 2, y - (LINE - HEIGHT) / 2
+        y += GAP
+    return Layout(spots, bands, 2 * MARGIN + LEFT + wide, y - GAP + MARGIN)
 
 
 def ring_layout(picture):
@@ -107,4 +116,4 @@ def ring_layout(picture):
 
 def layout_of(picture):
     """Where all of a picture stands."""
-    return ring_layout(picture) if picture.shape is Shape.RING else column_layout(picture)
+    return ring_layout(picture) if picture.shape is Shape.RING else row_layout(picture)

@@ -1,9 +1,9 @@
 """What a picture of a plan shows: units in steps, and the lines between them."""
-from dataclasses import dataclass
+from dataclasses import dataclass, replace
 from enum import Enum
 from typing import Tuple
 
-from .answers import NEEDING, WISHING
+from .answers import INVERSES, NEEDING, WISHING
 
 TYING = ("Requires", "Requisite", "BindsTo", "PartOf")
 # Refusals that are about the way from the target to some units.
@@ -31,39 +31,50 @@ class Tie(Enum):
     REQUISITE = "needs running"
 
 
-class Shape(Enum):
-    """How a picture's units stand: in the steps of a plan, on ways from what is asked for to what is at fault, or in a ring."""
+# Ties whose words the first unit of a line says of the second.
+OF_THE_FIRST = (Tie.ORDER, Tie.TRIGGERS, Tie.CONFLICT, Tie.WAITED)
 
-    STEPS = "steps"
-    WAYS = "ways"
+
+class Shape(Enum):
+    """How a picture's units stand: in rows, each below what it waits for, requires or wishes for; or in a ring."""
+
+    ROWS = "rows"
     RING = "ring"
 
 
 @dataclass(frozen=True)
 class Box:
-    """A unit, what it is, and the step in which it starts; what stops has step 0. On ways the step is the distance."""
+    """A unit, what it is, and its row, from above; what stops has row 0."""
 
     name: str
     role: Role
-    step: int
+    row: int
 
 
 @dataclass(frozen=True)
 class Line:
-    """A line from one unit to another."""
+    """A line from a unit that must stand to one that waits for it, and what it says of them: in the words of the tie the second to the first,
+    or, where `is_turned`, the first to the second."""
 
     source: str
     target: str
     tie: Tie
+    is_turned: bool = False
+
+    def said(self):
+        """The unit of which the tie says something, and the other one."""
+        is_first = (self.tie in OF_THE_FIRST) != self.is_turned
+        return (self.source, self.target) if is_first else (self.target, self.source)
 
 
 @dataclass(frozen=True)
 class Picture:
-    """A picture: its title, its units in order, its lines, and how the units stand."""
+    """A picture: its title, its units in order, its lines, those of them that are drawn, and how the units stand."""
 
     title: str
     boxes: Tuple[Box, ...]
     lines: Tuple[Line, ...]
+    drawn: Tuple[Line, ...]
     shape: Shape
 
 
@@ -77,69 +88,145 @@ def main_name(name, units):
     return next((it.name for it in units.values() if name in it.names), name)
 
 
-def steps_of(start, units):
-    """The step of each unit that starts: one behind all for which it waits."""
-    steps = {}
-    for name in start:
-        steps[name] = 1 + max((steps[it] for it in units[name].to("After") if it in steps), default=0)
-    return steps
+def completed(units):
+    """Units that were told by several answers, with each edge on both of its sides."""
+    edges = {name: {kind: list(names) for kind, names in it.edges.items()} for name, it in units.items()}
+    for name, unit in units.items():
+        for kind, names in unit.edges.items():
+            for other in names:
+                back = edges.get(other, {}).setdefault(INVERSES[kind], [])
+                if name not in back:
+                    back.append(name)
+    return {name: replace(it, edges={kind: tuple(names) for kind, names in edges[name].items()}) for name, it in units.items()}
 
 
 def orders_of(start, units):
-    """The order between units that start, without what follows from the rest of it: pairs of the one that waits and that for which."""
-    before, found = {}, []
-    numbers = {name: 1 << at for at, name in enumerate(start)}
-    for name in start:
-        waits = [it for it in units[name].to("After") if it in before]
-        implied = 0
-        for it in waits:
-            implied |= before[it]
-        found += [(name, it) for it in waits if not implied & numbers[it]]
-        before[name] = implied | sum(numbers[it] for it in waits if not implied & numbers[it])
-    return found
+    """The order among units that start: pairs of the one that must stand, and of the one that waits for it."""
+    return [(other, name) for name in sorted(start) for other in units[name].to("After") if other in start]
 
 
-def lines_of(names, units):
-    """The lines of requirement and wish among these units, and of what triggers another one that isn't tied to it so. What is in a slice
-    requires it, so that slices have lines too."""
+def ties_of(names, units):
+    """What these units require of each other, wish for, and trigger otherwise: rows of the one that does, the other, and the tie. What is in
+    a slice requires it, so that slices have lines too."""
     found = {}
     for tie, kinds in ((Tie.NEEDS, NEEDING), (Tie.WISHES, WISHING), (Tie.TRIGGERS, ("Triggers",))):
         for name in names:
             for other in (it for kind in kinds for it in units[name].to(kind) if it in names):
                 if tie is not Tie.TRIGGERS or (other, name) not in found:
-                    found.setdefault((name, other), Line(name, other, tie))
-    return list(found.values())
+                    found.setdefault((name, other), tie)
+    return [(name, other, tie) for (name, other), tie in found.items()]
+
+
+def rows_of(names, orders, ties):
+    """The row of each unit, one below all that lead to it, and the pairs of ties turned so that none leads up: one that would close a circle
+    goes the other way."""
+    after, turned = {it: set() for it in names}, {}
+    for source, target in orders:
+        after[source].add(target)
+    for source, target in ties:
+        turned[source, target] = (source, target) not in turned and leads_to(target, source, after)
+        first, second = (target, source) if turned[source, target] else (source, target)
+        after[first].add(second)
+    rows = {}
+    for name in in_order(names, after):
+        rows.setdefault(name, 1)
+        for it in after[name]:
+            rows[it] = max(rows.get(it, 1), rows[name] + 1)
+    return rows, turned
+
+
+def leads_to(one, other, after):
+    """Whether a way leads from a unit to another."""
+    found, waiting = {one}, [one]
+    while waiting:
+        name = waiting.pop()
+        if name == other:
+            return True
+        new = after[name] - found
+        found |= new
+        waiting += new
+    return False
+
+
+def in_order(names, after):
+    """The units, each behind all that lead to it."""
+    left = {it: 0 for it in names}
+    for those in after.values():
+        for it in those:
+            left[it] += 1
+    free, found = [it for it in names if not left[it]], []
+    while free:
+        found.append(name := free.pop(0))
+        for it in sorted(after[name]):
+            left[it] -= 1
+            if not left[it]:
+                free.append(it)
+    return found
 
 
 def picture_of_plan(target, plan, units):
-    """The picture of a plan."""
-    asked, steps = main_name(target, units), steps_of(plan.start, units)
+    """The picture of a plan, with all its lines."""
+    asked, known = main_name(target, units), set(plan.start)
+    # what triggers another unit stands before it
+    ties = {(name, other) if tie is Tie.TRIGGERS else (other, name): tie for name, other, tie in ties_of(plan.start, units)}
+    rows, turned = rows_of(plan.start, orders := orders_of(known, units), ties)
+    lines = [Line(*(pair[::-1] if turned[pair] else pair), tie, turned[pair]) for pair, tie in ties.items()]
+    said = {frozenset(it) for it in ties}
+    lines += [Line(*pair, Tie.ORDER) for pair in orders if frozenset(pair) not in said]
     boxes = [Box(it, Role.STOPS, 0) for it in plan.stop]
-    boxes += [Box(it, Role.ASKED if it == asked else Role.STARTS, steps[it]) for it in plan.start]
-    lines = lines_of(steps, units)
-    tied = {(it.source, it.target) for it in lines}
-    lines += [Line(other, name, Tie.ORDER) for name, other in orders_of(plan.start, units) if not {(name, other), (other, name)} & tied]
+    boxes += [Box(it, Role.ASKED if it == asked else Role.STARTS, rows[it]) for it in plan.start]
     for name in plan.stop:
         rivals = {*units[name].to("Conflicts"), *units[name].to("ConflictedBy")}
-        lines += [Line(it, name, Tie.CONFLICT) for it in plan.start if it in rivals]
-        lines += [Line(name, it, Tie.NEEDS) for it in plan.stop if any(it in units[name].to(kind) for kind in TYING)]
+        lines += [Line(name, it, Tie.CONFLICT) for it in plan.start if it in rivals]
+        lines += [Line(it, name, Tie.NEEDS) for it in plan.stop if any(it in units[name].to(kind) for kind in TYING)]
     count = f"{len(plan.start)} to start" + (f", {len(plan.stop)} to stop" if plan.stop else "")
-    return Picture(f"{target}: {count}", tuple(boxes), tuple(lines), Shape.STEPS)
+    return Picture(f"{target}: {count}", tuple(boxes), tuple(lines), tuple(lines), Shape.ROWS)
+
+
+def without_what_follows(picture):
+    """A picture that draws no line between units where others lead from the one to the other."""
+    if picture.shape is not Shape.ROWS:
+        return picture
+    numbers = {it.name: 1 << at for at, it in enumerate(picture.boxes)}
+    falling = [it for it in picture.lines if it.tie is not Tie.CONFLICT]
+    after = {it.name: {} for it in picture.boxes}
+    for line in falling:
+        after[line.source][line.target] = line
+    below, follows = {}, set()
+    for name in in_order(list(after), {it: set(those) for it, those in after.items()})[::-1]:
+        # units from which ways lead, and those that are on ways of two lines or more
+        below[name] = numbers[name]
+        far = 0
+        for it in after[name]:
+            far |= below[it] & ~numbers[it]
+            below[name] |= below[it]
+        follows |= {(name, it) for it in after[name] if far & numbers[it]}
+    return replace(picture, drawn=tuple(it for it in picture.lines if it.tie is Tie.CONFLICT or (it.source, it.target) not in follows))
+
+
+def objects_of(picture):
+    """The objects of a picture: each unit, and each line that is drawn."""
+    yield {"title": picture.title}
+    yield from ({"unit": it.name, "is": it.role.value, "row": it.row} for it in picture.boxes)
+    for it in picture.drawn:
+        unit, other = it.said()
+        yield {"from": it.source, "to": it.target, "unit": unit, "tie": it.tie.value, "other": other}
 
 
 def picture_of_cycle(target, refusal, units):
     """The picture of units that wait for each other."""
     names = refusal.told
     boxes = tuple(Box(it, Role.FAULTY, 1) for it in names)
-    ring = [Line(one, other, Tie.WAITED) for one, other in zip(names, [*names[1:], names[0]])]
-    return Picture(f"{target}: no plan, {len(names)} units wait for each other", boxes, (*ring, *lines_of(names, units)), Shape.RING)
+    lines = [Line(one, other, Tie.WAITED) for one, other in zip(names, [*names[1:], names[0]])]
+    lines += [Line(name, other, tie, True) if tie is Tie.TRIGGERS else Line(other, name, tie) for name, other, tie in ties_of(names, units)]
+    return Picture(f"{target}: no plan, {len(names)} units wait for each other", boxes, tuple(lines), tuple(lines), Shape.RING)
 
 
 def way_to(name, asked, units):
     """The units on a shortest way of requirements to this one from that which is asked for; it alone where there is none."""
     came, row = {asked: None}, [asked]
     while row and name not in came:
-        pairs = [(it, at) for at in row for kind in NEEDING for it in units[at].to(kind)]
+        pairs = [(it, at) for at in row if at in units for kind in NEEDING for it in units[at].to(kind)]
         row = [it for it in dict.fromkeys(it for it, _ in pairs) if it not in came]
         came.update({it: at for it, at in reversed(pairs) if it in row})
     way = [name]
@@ -161,8 +248,9 @@ def picture_of_refusal(target, refusal, units):
             depths[name] = min(depth, depths.get(name, depth))
     if refusal.code == "P6":
         depths.setdefault(faulty[1], depths[faulty[0]] + 1)
-    boxes = [Box(it, Role.FAULTY if it in faulty else Role.ASKED if it == asked else Role.STARTS, 1 + depth) for it, depth in depths.items()]
-    lines = [Line(one, other, Tie.NEEDS) for one, other in dict.fromkeys(pair for way in ways for pair in zip(way, way[1:]))]
-    between = {"P7": Tie.CONFLICT, "P6": Tie.REQUISITE}.get(refusal.code)
-    lines += [Line(*faulty, between)] if between else []
-    return Picture(f"{target}: no plan: {refusal}", tuple(boxes), tuple(lines), Shape.WAYS)
+    last = 1 + max(depths.values())
+    boxes = [Box(it, Role.FAULTY if it in faulty else Role.ASKED if it == asked else Role.STARTS, last - depth) for it, depth in depths.items()]
+    lines = [Line(other, one, Tie.NEEDS) for one, other in dict.fromkeys(pair for way in ways for pair in zip(way, way[1:]))]
+    if refusal.code in ("P6", "P7"):
+        lines.append(Line(*faulty, Tie.CONFLICT) if refusal.code == "P7" else Line(*faulty[::-1], Tie.REQUISITE))
+    return Picture(f"{target}: no plan: {refusal}", tuple(boxes), tuple(lines), tuple(lines), Shape.ROWS)

@@ -12,6 +12,8 @@ MOST_NAME_BYTES = 255
 KINDS = ("service", "socket", "device", "mount", "automount", "swap", "target", "path", "timer", "slice", "scope")
 UNIT_NAME = r"[A-Za-z0-9:\-_.\\][A-Za-z0-9:\-_.\\@]*\.(?:" + "|".join(KINDS) + ")"
 
+PLACE = r"(?:[A-Za-z0-9.\-]{1,64}:)?(?:" + "|".join(DIRECTORIES) + ")/[!-~]+"
+
 WORD = re.compile("[!-~]+")
 HOST = re.compile(r"[A-Za-z0-9.\-]{1,64}")
 HOST_RULE = "1 to 64 ASCII letters, digits, dashes and dots"
@@ -42,6 +44,11 @@ class Place(NamedTuple):
     def path(self):
         """The path without the host."""
         return "/".join([DIRECTORIES[self.rank], *([self.folder] if self.folder else []), self.name])
+
+    def above(self):
+        """The path and those of the folders in which it is, up to its directory."""
+        directory = DIRECTORIES[self.rank]
+        return [self.path(), directory, *([f"{directory}/{self.folder}"] if self.folder else [])]
 
     def __str__(self):
         return f"{self.host}:{self.path()}" if self.host else self.path()

@@ -1,7 +1,10 @@
 """What the program refuses, in words."""
+import re
 from dataclasses import dataclass
 from typing import Tuple
 
+from .faults import printable
+from .places import is_unit_name
 from .profiles import hint
 
 
@@ -18,6 +21,11 @@ class Refusal:
         more = hint(profile, self.told[0]) if self.code in ("P2", "P3", "P4") else ""
         return f"{self}; {more}" if more else str(self)
 
+    def about(self, names):
+        """The words in front of a refusal that say which of several names it is about, where one of them is no unit's."""
+        wrong = [it for it in names if not is_unit_name(it)] if self.code[0] == "N" and len(names) > 1 else []
+        return f"{printable(wrong[0])}: " if wrong else ""
+
     def __str__(self):
         words = SENTENCES.get(self.code)
         spelled = " ".join([self.code, self.name, *self.told])
@@ -32,6 +40,7 @@ def cycle_words(*names):
 
 SENTENCES = {
     "L2": lambda: "more than 4,096 names must be loaded",
+    "N2": lambda: "its ending is no kind of unit",
     "P1": lambda: "a template: ask for an instance of it",
     "P2": lambda _name: "it has no file",
     "P3": lambda _name: "it is masked",
@@ -62,7 +71,13 @@ NOTES = {
 }
 
 
+# How many units these refusals tell.
+TOLD = {"L2": 0, "P1": 0, "P2": 1, "P3": 1, "P4": 1, "P5": 0, "P6": 2, "P7": 2, "X1": 0}
+REFUSAL = re.compile(r"error: ([A-Z][0-9]) ([A-Za-z]+)((?: [!-~]+)*)")
+
+
 def refusal_of(line):
     """The refusal that an answer's line tells; nothing where it tells none."""
-    words = line.split(" ")
-    return Refusal(words[1], words[2], tuple(words[3:])) if words[0] == "error:" else None
+    found = REFUSAL.fullmatch(line)
+    told = tuple(found[3].split()) if found else ()
+    return Refusal(found[1], found[2], told) if found and TOLD.get(found[1], len(told)) == len(told) else None

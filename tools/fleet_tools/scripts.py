@@ -1,16 +1,15 @@
-"""Scripts as the program reads them: written from trees, and read again."""
+"""Scripts as the program reads them, written from trees."""
+import hashlib
 import re
 
 from .faults import Fault
-from .places import Link
+from .places import NODE, Link
 
 MOST_SCRIPT_BYTES = 16_777_216
 
 # What a text can have as it is, and how the rest is spelled.
 PLAIN = bytes(range(32, 127))
 OTHERS = {it: f"\\x{it:02x}" for it in range(256) if it not in PLAIN}
-ESCAPE = re.compile(rb"\\(?:([nt\\])|x([0-9A-Fa-f]{2}))")
-LETTERS = {b"n": b"\n", b"t": b"\t", b"\\": b"\\"}
 
 
 def spelled(content):
@@ -21,9 +20,11 @@ def spelled(content):
     return text
 
 
-def unspelled(text):
-    """The bytes for which a TEXT of a script stands, where it is one."""
-    return ESCAPE.sub(lambda it: LETTERS[it[1]] if it[1] else bytes([int(it[2], 16)]), text)
+def node_word(name):
+    """The name in scripts of a node with this name: the same where scripts can have it, else its letters and digits and a print of it."""
+    if NODE.fullmatch(name):
+        return name
+    return "".join(it for it in name if it.isalnum())[:24] + hashlib.sha256(name.encode("ascii")).hexdigest()[:8]
 
 
 def edit_line(node, place, content):
@@ -46,9 +47,32 @@ def node_of(node, trees, writer=1):
     return [f"node {node} {writer}".encode("ascii"), *edits_of(node, trees)]
 
 
+def remarks_of(trees):
+    """The lines of a script that name the hosts whose trees have no place, as where `--factor` left none; `remarked_hosts` reads them."""
+    return [f"# {it.host} has no place of its own".encode("ascii") for it in trees if it.host and not it.entries]
+
+
+def remarked_hosts(script):
+    """The hosts that a script names as ones without a place."""
+    return {it.decode("ascii") for it in re.findall(rb"(?m)^# ([A-Za-z0-9.\-]{1,64}) has no place of its own\r?$", script)}
+
+
 def script_of(lines):
     """The script with these lines; a fault where the program wouldn't read so long a one."""
     script = b"".join(b"%b\n" % it for it in lines)
     if len(script) > MOST_SCRIPT_BYTES:
-        raise Fault(f"too large: the script has {len(script):,} bytes, and the program reads at most {MOST_SCRIPT_BYTES:,}")
+        raise Fault(f"too large: the script has {len(script):,} bytes, and the program reads at most {MOST_SCRIPT_BYTES:,}: "
+                    "`fleet import --factor` gives what hosts share once, `--split` writes several scripts")
     return script
+
+
+def parts_of(lines):
+    """The lines of as many scripts as it takes so that the program reads each."""
+    parts, size = [[]], 0
+    for line in lines:
+        if size + len(line) + 1 > MOST_SCRIPT_BYTES:
+            parts.append([])
+            size = 0
+        parts[-1].append(line)
+        size += len(line) + 1
+    return parts

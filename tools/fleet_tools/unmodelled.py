@@ -3,10 +3,11 @@ What the rules leave out by a profile is a table of it."""
 import re
 
 from .answers import NEEDING, UnitStatus
-from .places import KINDS, Link, path_named, whole_path
+from .places import KINDS, Link
 from .profiles import Profile
 from .refusals import Refusal
 from .trees import Grade
+from .unit_faults import OFF, values_of
 
 PAGE = "docs/SYSTEMD.md"
 
@@ -23,38 +24,27 @@ IMPLYING = ("Slice", "BusName", "PAMName", "WorkingDirectory", "RootDirectory", 
 TRIGGERING = (".socket", ".timer", ".path", ".automount")
 PROCESSES = ("service", "socket", "mount", "swap")
 
-OFF = ("0", "no", "false", "off")
 # A specifier that isn't one of those that are read.
 MACHINE = re.compile(rb"(?<!%)(?:%%)*%(?![nNpPiIjJ])[A-Za-z]")
 # A list of units, or by manager of paths too, with a quote.
 LISTS = b"Before|After|Wants|Requires|Requisite|BindsTo|PartOf|Conflicts|OnFailure|PropagatesReloadTo|ReloadPropagatedFrom"
 LISTS_OF_MANAGER = LISTS + b"|Upholds|RequiresMountsFor"
 QUOTED = rb"(?m)^[ \t]*(?:%b)[ \t]*=(?:[^\n]*\\\n)*[^\n]*[\"']"
+QUOTES_THERE = (b"'", b'"')
 COMMENT = re.compile(rb"(?m)^[ \t]*[#;].*$")
 
 # ---- of units
 
 
-def kind_of(unit):
-    """The type of a unit."""
-    return unit.name.rpartition(".")[2]
-
-
-def values_of(unit, *keys):
-    """The values of keys in the section of the unit's type."""
-    settings = unit.settings()
-    return [it for key in keys for it in settings.get(f"{kind_of(unit).capitalize()}.{key}", [])]
-
-
 def has_defaults(unit):
     """Whether systemd would give a unit default dependencies."""
-    said = unit.settings().get("Unit.DefaultDependencies", ["yes"])
+    said = unit.settings.get("Unit.DefaultDependencies", ["yes"])
     return not unit.name.endswith(".device") and (not said or said[-1].lower() not in OFF)
 
 
 def has_key(unit, keys):
     """Whether a unit sets one of these keys, in any section but [Install]."""
-    return any(setting.rpartition(".")[2] in keys and not setting.startswith("Install.") for setting, _ in unit.values)
+    return not unit.keys.isdisjoint(keys)
 
 
 def is_triggering(unit):
@@ -79,7 +69,7 @@ def is_device(unit):
 
 def is_of_initrd(unit):
     """Whether a unit is for the initial RAM disk alone."""
-    settings = unit.settings()
+    settings = unit.settings
     return any("/etc/initrd-release" in settings.get(f"Unit.{key}", []) for key in ("ConditionPathExists", "AssertPathExists"))
 
 
@@ -98,33 +88,6 @@ def has_earlier_slice(unit):
     return len(set(values_of(unit, "Slice"))) > 1
 
 
-def is_bad_service(unit):
-    """Whether a service lacks a command to start without staying up by itself, or has several and isn't of the type that runs them in turn."""
-    commands = values_of(unit, "ExecStart")
-    if commands:
-        return len(commands) > 1 and values_of(unit, "Type")[-1:] != ["oneshot"]
-    is_kept = values_of(unit, "ExecStop") and values_of(unit, "RemainAfterExit")[-1:] not in ([], *([it] for it in OFF))
-    return not (is_kept or unit.settings().get("Unit.SuccessAction"))
-
-
-def is_bad(unit):
-    """Whether systemd refuses a unit that has a file, since it lacks a setting of its type or is named after another path than it says."""
-    if unit.status is not UnitStatus.LOADED:
-        return False
-    kind = kind_of(unit)
-    if kind == "service":
-        return is_bad_service(unit)
-    heads = tuple(f"{kind.capitalize()}.{it}" for it in NEEDED_KEYS.get(kind, ()))
-    if heads and not any(key.startswith(heads) for key, _ in unit.values):
-        return True
-    said = values_of(unit, PATH_KEYS[kind])[-1:] if kind in PATH_KEYS else []
-    return bool(said) and whole_path(said[0]) != whole_path(path_named(unit.name))
-
-
-# What the keys begin with of which a unit of a type has one, and the keys that say the path after which a unit is named.
-NEEDED_KEYS = {"socket": ("Listen",), "timer": ("On",), "path": ("Path", "DirectoryNotEmpty"), "mount": ("What",)}
-PATH_KEYS = {"mount": "Where", "automount": "Where", "swap": "What"}
-
 # What by each profile is left out of units: what it is, and whether a unit has it.
 BY_FILES = (
     ("DefaultDependencies= never off", has_defaults),
@@ -139,8 +102,7 @@ BY_MANAGER = (
     ("init.scope, which the manager makes for itself", names_init),
     ("units of the initial RAM disk, where the manager adds otherwise", is_of_initrd),
     ("what systemd-oomd may kill, by which it is pulled", is_killable),
-    ("images, for which modprobe@ is pulled", lambda it: kind_of(it) in PROCESSES and bool(values_of(it, "RootImage"))),
-    ("settings by which systemd refuses a unit, as a service without ExecStart=", is_bad),
+    ("images, for which modprobe@ is pulled", lambda it: it.kind in PROCESSES and bool(values_of(it, "RootImage"))),
     ("an earlier Slice= before the last, which stays required", has_earlier_slice),
     ("StopPropagatedFrom=, PropagatesStopTo=, OnSuccess= and JoinsNamespaceOf=", lambda it: has_key(it, PROPAGATING)),
 )
@@ -152,9 +114,9 @@ QUOTES = "quotes in dependency lists, which are read as part of a name"
 LINKS_OF_TYPES = "folders of links for a type, as service.wants"
 
 
-def files_with(trees, pattern):
-    """How many files have this outside of comments."""
-    contents = (content for tree in trees for content in tree.entries.values() if not isinstance(content, Link))
+def files_with(trees, pattern, signs):
+    """How many files have this outside of comments, which none has without one of these signs."""
+    contents = [it for tree in trees for it in tree.entries.values() if not isinstance(it, Link) and any(sign in it for sign in signs)]
     return sum(bool(re.search(pattern, COMMENT.sub(b"", it))) for it in contents)
 
 
@@ -188,11 +150,11 @@ def left_out_by(profile, units, trees, beside, planned):
     rows = [(what, "unit", sum(map(has, loaded))) for what, has in (BY_FILES if profile is Profile.FILES else BY_MANAGER)]
     if profile is Profile.FILES:
         return [*rows, ("requirements of devices or slices without a file", "unit", sum(needs_made(it, units) for it in loaded)),
-                (SPECIFIERS, "file", files_with(trees, MACHINE)), (QUOTES, "file", files_with(trees, QUOTED % LISTS)),
+                (SPECIFIERS, "file", files_with(trees, MACHINE, [b"%"])), (QUOTES, "file", files_with(trees, QUOTED % LISTS, QUOTES_THERE)),
                 ("what stands in .upholds folders", "place", places_in(trees, lambda it: it.endswith(".upholds"))),
                 (LINKS_OF_TYPES, "link", places_in(trees, is_of_type)), ("left out of the store", "place", not_taken(trees))]
     is_cycle = isinstance(planned, Refusal) and planned.code == "P8"
-    return [*rows, (SPECIFIERS, "file", files_with(trees, MACHINE)), *beside, ("cycles, of which systemd drops a job", "plan", int(is_cycle))]
+    return [*rows, (SPECIFIERS, "file", files_with(trees, MACHINE, [b"%"])), *beside, ("cycles, of which systemd drops a job", "plan", int(is_cycle))]
 
 
 def read_otherwise(profile, units, trees):
@@ -200,5 +162,5 @@ def read_otherwise(profile, units, trees):
     if profile is Profile.FILES:
         return []
     return [("old spellings of settings, as BindTo=", "unit", sum(has_key(it, OLD_SPELLINGS) for it in units.values())),
-            (QUOTES, "file", files_with(trees, QUOTED % LISTS_OF_MANAGER)), (LINKS_OF_TYPES, "link", places_in(trees, is_of_type)),
+            (QUOTES, "file", files_with(trees, QUOTED % LISTS_OF_MANAGER, QUOTES_THERE)), (LINKS_OF_TYPES, "link", places_in(trees, is_of_type)),
             ("left out of the store", "place", not_taken(trees))]
