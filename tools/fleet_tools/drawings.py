@@ -5,7 +5,7 @@ import textwrap
 from collections import Counter
 from html import escape
 
-from .layouts import HEAD, HEIGHT, MARGIN, layout_of
+from .layouts import HEIGHT, MARGIN, layout_of
 from .pictures import Role, Shape, Tie
 
 STYLE = """

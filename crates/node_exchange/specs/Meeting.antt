@@ -23,14 +23,14 @@ abbrev pub is_same_mark : Peer → Peer → Bool
 is_same_mark p q = is_eq (slice_cmp nat_cmp p.mark q.mark)
 
 -- another file under the same number
-abbrev pub is_rival : Peer → Peer → Bool
-is_rival p q = (q.writer == p.writer) && not (is_same_mark p q)
+abbrev pub is_other_file : Peer → Peer → Bool
+is_other_file p q = (q.writer == p.writer) && not (is_same_mark p q)
 
-abbrev pub has_rival : Peer → List Peer → Bool
-has_rival p = list_any (is_rival p)
+abbrev pub has_other_file : Peer → List Peer → Bool
+has_other_file p = list_any (is_other_file p)
 
-abbrev pub knows_rival : List LogPeer → Peer → Bool
-knows_rival known p = list_any (λ q. is_rival p (peer_of q)) known
+abbrev pub knows_other_file : List LogPeer → Peer → Bool
+knows_other_file known p = list_any (λ q. is_other_file p (peer_of q)) known
 
 -- what a node says of itself: who it is, and all whom it knows
 pub record IsHelloOf (head : LogHead) (known : List LogPeer) (given : ℕ) (hello : Hello) : Type 0 where
@@ -38,12 +38,12 @@ pub record IsHelloOf (head : LogHead) (known : List LogPeer) (given : ℕ) (hell
   pub seed : hello.seed ≡ given
   pub peers : (p : Peer) → IsAmong p hello.peers ↔ IsAmong p (map peer_of known)
 
--- Who says so may be met by a node with this head, which knows these: it writes under another number, none that is known is its
--- rival, and it knows no rival of the node.
+-- Who says so may be met by a node with this head, which knows these: it writes under another number, none that is known is another file
+-- of its number, and it knows no other file of the node's number.
 pub record MayMeet (head : LogHead) (known : List LogPeer) (hello : Hello) : Type 0 where
   pub other : hello.writer ≢ head.writer
-  pub free : knows_rival known (speaker hello) ≡ false
-  pub own_free : has_rival (node_of head) hello.peers ≡ false
+  pub free : knows_other_file known (speaker hello) ≡ false
+  pub own_free : has_other_file (node_of head) hello.peers ≡ false
 
 -- ---- what is noted of a meeting
 

@@ -2,7 +2,7 @@
 ghost use Rattle.std.specs.Prelude.{◌≡◌, ◌↔◌, ◌++◌, [], false, IfOk, IsPermutation, IsTrue, map, OnOk};
 ghost use Rattle.exchange_bytes.specs.declared.peers.Peer.{Peer};
 ghost use Rattle.list_laws.specs.Members.{IsAmong};
-ghost use Rattle.node_exchange.specs.{Later.{IsLater}, Meeting.{has_rival, is_known, is_news, is_rival, is_same, is_same_mark, IsHelloOf, knows_rival, MayMeet, news_of, node_of, peer_of, speaker, told_news, was_met}};
+ghost use Rattle.node_exchange.specs.{Later.{IsLater}, Meeting.{has_other_file, is_known, is_news, is_other_file, is_same, is_same_mark, IsHelloOf, knows_other_file, MayMeet, news_of, node_of, peer_of, speaker, told_news, was_met}};
 ghost use Rattle.durable_node.specs.Peers.{AreLatest};
 
 use crate::faults::ExchangeFault;
@@ -61,24 +61,26 @@ fn is_same_mark(peer: Peer, other: Peer) -> bool
 }
 
 // Returns whether a peer is another file under the same number.
-fn is_rival(peer: Peer, other: Peer) -> bool
-    ensures rival { result ≡ is_rival peer other }
+fn is_other_file(peer: Peer, other: Peer) -> bool
+    ensures other { result ≡ is_other_file peer other }
 {
     other.writer == peer.writer && !is_same_mark(peer, other)
 }
 
 // Returns whether one of these is another file under the peer's number.
-fn has_rival(peer: Peer, others: &[Peer]) -> bool
-    ensures rival { result ≡ has_rival peer others.now }
+fn has_other_file(peer: Peer, others: &[Peer]) -> bool
+    ensures other { result ≡ has_other_file peer others.now }
 {
-    others.iter().any(|other| is_rival(peer, *other))
+    others.iter().any(|other| is_other_file(peer, *other))
 }
 
 // Returns whether one that is known is another file under the peer's number.
-fn knows_rival(known: &[LogPeer], peer: Peer) -> bool
-    ensures rival { result ≡ knows_rival known.now peer }
+fn knows_other_file(known: &[LogPeer], peer: Peer) -> bool
+    ensures other { result ≡ knows_other_file known.now peer }
 {
-    known.iter().any(|other| is_rival(peer, peer_of(other)))
+    known
+        .iter()
+        .any(|other| is_other_file(peer, peer_of(other)))
 }
 
 fn speaker(hello: &Hello) -> Peer
@@ -108,8 +110,8 @@ pub fn may_meet(head: LogHead, known: &[LogPeer], hello: &Hello) -> bool
     ensures only { MayMeet head known.now hello.now → IsTrue result }
 {
     hello.writer != head.writer
-        && !knows_rival(known, speaker(hello))
-        && !has_rival(node_of(head), hello.peers.as_slice())
+        && !knows_other_file(known, speaker(hello))
+        && !has_other_file(node_of(head), hello.peers.as_slice())
 }
 
 // Returns whether a peer of the log is this one.
