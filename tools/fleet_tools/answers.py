@@ -205,6 +205,10 @@ class Answers:
         """Passes over the answer to a merge."""
         self.expect(CHANGED_LINE)
 
+    def number_changed(self):
+        """How many places a merge or a piece changed."""
+        return int(self.expect(CHANGED_LINE)[len("changed ") :])
+
     def is_same(self):
         """Passes over the answer that two nodes hold the same."""
         self.expect(SAME_LINE)

@@ -4,7 +4,7 @@ from dataclasses import dataclass
 from typing import Tuple
 
 from .faults import printable
-from .places import is_unit_name
+from .places import HOST_RULE, is_unit_name
 from .profiles import hint
 
 
@@ -39,6 +39,14 @@ def cycle_words(*names):
 
 
 SENTENCES = {
+    "C1": lambda: "over 65,536 bytes",
+    "C2": lambda: "a target is 1 to 4,095 bytes of printable ASCII without spaces",
+    "E2": lambda: "nothing stands there",
+    "E3": lambda: "nothing stands there",
+    "F1": lambda: "a place is a path in /etc, /run, /usr/local/lib or /usr/lib/systemd/system, behind `HOST:` where it is one host's",
+    "F2": lambda: "more than a folder and a name",
+    "F3": lambda: "a folder or a name that none may have",
+    "H1": lambda: f"no host's name: {HOST_RULE}",
     "L2": lambda: "more than 4,096 names must be loaded",
     "N2": lambda: "its ending is no kind of unit",
     "P1": lambda: "a template: ask for an instance of it",
@@ -72,7 +80,7 @@ NOTES = {
 
 
 # How many units these refusals tell.
-TOLD = {"L2": 0, "P1": 0, "P2": 1, "P3": 1, "P4": 1, "P5": 0, "P6": 2, "P7": 2, "X1": 0}
+TOLD = {**dict.fromkeys(("C1", "C2", "E2", "E3", "F1", "F2", "F3", "H1"), 0), "L2": 0, "P1": 0, "P2": 1, "P3": 1, "P4": 1, "P5": 0, "P6": 2, "P7": 2, "X1": 0}
 REFUSAL = re.compile(r"error: ([A-Z][0-9]) ([A-Za-z]+)((?: [!-~]+)*)")
 
 

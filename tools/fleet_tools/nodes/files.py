@@ -7,7 +7,7 @@ from ..answers import Answers, Held
 from ..asking import needed
 from ..exports import entries_of
 from ..faults import Fault, printable
-from ..places import PLACE
+from ..places import PLACE, Link
 from ..scripts import edit_line, script_of
 from .programs import ran
 
@@ -16,8 +16,19 @@ HERE = "here"
 VARIABLE = "FLEET_STATE"
 FIRST = "/var/lib/fleet/node"
 
+# The refusal of a place at which nothing stands.
+NOT_VISIBLE = "E3"
+
 LOGGED = re.compile(rf"({PLACE}) ([0-9]+\.[0-9]+) @([0-9]+) (file [0-9]+|link [!-~]+|gone)")
 PEER = re.compile(r"([0-9]+) ([0-9a-f]{32}) (here|told|@[0-9]+)")
+
+
+class NoPlace(Exception):
+    """The refusal of what is no place."""
+
+    def __init__(self, refusal):
+        super().__init__(str(refusal))
+        self.refusal = refusal
 
 
 @dataclass(frozen=True)
@@ -82,10 +93,39 @@ class NodeFile:
         answers.ended()
         return content
 
+    def at(self, place):
+        """What is held at a place, a removal too, and what stands there: bytes, a link, or nothing. Both are nothing where it was never edited;
+        instead of them, the refusal of what is no place."""
+        answers = self.answers([f"files {HERE}".encode("ascii"), f"text {HERE} {place}".encode("ascii")])
+        held = {it.place: it for it in needed(answers.files(), HERE)}
+        refusal, content = answers.refused(), None
+        if refusal and refusal.code != NOT_VISIBLE:
+            raise NoPlace(refusal)
+        if not refusal:
+            _, found = answers.text({place: held[place].length} if held[place].length >= 0 else {})
+            content = found if isinstance(found, bytes) else Link(found)
+        answers.ended()
+        return held.get(place), content
+
+    def edit_over(self, place, content):
+        """Edits a place, as `edit` does. What was held there until then, and what the edit comes to."""
+        answers = self.answers([f"files {HERE}".encode("ascii"), edit_line(HERE, place, content)])
+        held = {it.place: it for it in needed(answers.files(), HERE)}
+        found = answers.refused() or answers.versions(1)[0]
+        answers.ended()
+        return held.get(place), found
+
     def edit(self, edits):
         """Edits places, each with bytes, a link, or nothing for a removal. What each comes to: its version, or a refusal, in order."""
         answers = self.answers([edit_line(HERE, place, content) for place, content in edits])
         found = [answers.refused() or answers.versions(1)[0] for _ in edits]
+        answers.ended()
+        return found
+
+    def take(self, piece):
+        """Takes a piece, and returns how many places changed."""
+        answers = Answers(self.run("take", given=piece))
+        found = answers.number_changed()
         answers.ended()
         return found
 

@@ -1,6 +1,9 @@
 """The program that keeps a node in a file, `fleet_node`, and runs of it as the user whose file it is."""
 import os
+import random
+import re
 import subprocess
+import time
 
 from ..faults import Fault, Status, cut, printable
 from ..program import REPOSITORY
@@ -10,17 +13,31 @@ VARIABLE = "FLEET_NODE"
 # Where it stands: of a package, and as the repository builds it.
 PLACES = (os.path.join(REPOSITORY, "bin", NAME), os.path.join(REPOSITORY, "crates", NAME, "out", NAME))
 
+# What it refuses where another process has the file open, which leaves all as it was, and how many seconds that is waited for.
+BUSY, BUSY_SECONDS = "Z4", 5
+
+# What it refuses of a file, in words.
+SENTENCES = {
+    "X7": "two state files write under one number: make one of them anew under a free number",
+    "Z1": "something stands there already",
+    "Z2": "no state file",
+    "Z3": "a state file of another format",
+    "Z4": "another process has it open",
+    "Z5": "the disk refuses, or the file is damaged",
+    "Z7": "its counters are spent",
+}
+
 HOW_TO_BUILD = f"""the program of nodes isn't built. This builds it, with Rattle's `rt` on the path:
   (cd {os.path.join(REPOSITORY, "crates", NAME)} && rt run)    proves it and all below it, compiles it and runs it: an hour or more, once
 {VARIABLE}=FILE names one that stands elsewhere"""
 
 
 class NodeFault(Fault):
-    """What the program refused, by the code that it told; none where it told none."""
+    """What the program refused over a file, by the code that it told; none where it told none."""
 
-    def __init__(self, told, code=""):
-        super().__init__(told, Status.WRONG)
-        self.code = code
+    def __init__(self, path, told, code=""):
+        super().__init__(f"{printable(path)}: {told}", Status.WRONG)
+        self.told, self.code = told, code
 
 
 def program():
@@ -45,16 +62,35 @@ def as_owner(path):
     return {"user": found.st_uid, "group": found.st_gid, "extra_groups": []} if found.st_uid != 0 else {}
 
 
+def code_of(line):
+    """The code of a refusal that a line tells; nothing where it tells none."""
+    found = re.match("[A-Z][0-9]{1,2}(?= [A-Z])", line)
+    return found[0] if found else ""
+
+
+def in_words(line):
+    """A refusal as the program tells it, and what it means, where that is known."""
+    words = SENTENCES.get(code_of(line))
+    return f"{cut(line)}: {words}" if words else cut(line)
+
+
+def told_line(told):
+    """The first line of what it told on standard error; nothing where it told none."""
+    return next((it.removeprefix("fleet: ").rstrip() for it in told.splitlines() if it.strip()), "")
+
+
 def refusal_of(path, status, told):
     """The fault where the program ended with a status other than 0 over a file, having told this on standard error."""
-    line = next((it.removeprefix("fleet: ") for it in told.splitlines() if it.strip()), "")
-    if status < 0:
-        line = f"{NAME} ended with signal {-status}"
-    code = line.split(" ")[0] if line[:1].isupper() and line[1:2].isdigit() else ""
-    return NodeFault(f"{printable(path)}: {cut(line) or f'{NAME} ended with status {status}'}", code)
+    line = told_line(told) if status > 0 else f"{NAME} ended with signal {-status}"
+    return NodeFault(path, in_words(line) or f"{NAME} ended with status {status}", code_of(line))
 
 
-def ran(path, word, words, given):
+def pause():
+    """Waits a short while, of another length each time, so that two who are in each other's way don't meet again."""
+    time.sleep(random.uniform(0.02, 0.3))
+
+
+def ran_once(path, word, words, given):
     """What the program writes when it does something over a file, given these bytes."""
     try:
         done = subprocess.run([program(), word, path, *words], input=given, capture_output=True, check=False, cwd="/", **as_owner(path))
@@ -63,3 +99,15 @@ def ran(path, word, words, given):
     if done.returncode:
         raise refusal_of(path, done.returncode, done.stderr.decode("utf-8", "surrogateescape"))
     return done.stdout
+
+
+def ran(path, word, words, given):
+    """The same, which waits some seconds while another process has the file open."""
+    until = time.monotonic() + BUSY_SECONDS
+    while True:
+        try:
+            return ran_once(path, word, words, given)
+        except NodeFault as fault:
+            if fault.code != BUSY or time.monotonic() >= until:
+                raise
+        pause()
