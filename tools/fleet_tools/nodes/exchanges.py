@@ -1,6 +1,7 @@
 """Exchanges of a state file with another node, over ssh or a socket."""
 import os
 import shlex
+import signal
 import socket
 import tempfile
 import time
@@ -12,6 +13,10 @@ from . import programs
 from .crossings import OfProcess, OfSocket, carried, ways_between
 
 SSH = "FLEET_SSH"
+# The status of an ssh that didn't get there.
+UNREACHED = 255
+# What a side tells that the other one left alone.
+LEFT = ("Y1 Truncated", "read fault", "write fault")
 # How many seconds an exchange is tried again where either side is busy with another one.
 BUSY_SECONDS = 10
 
@@ -39,6 +44,10 @@ class Side:
         """Whether it ended well."""
         return self.status == 0
 
+    def is_left(self):
+        """Whether it tells no more than that the other side said or heard no more."""
+        return self.line in LEFT or self.status in (-signal.SIGPIPE, 128 + signal.SIGPIPE)
+
 
 def line_in(told):
     """The first line in a file of what was told."""
@@ -48,15 +57,16 @@ def line_in(told):
 
 def failure(here, there, count, is_socket):
     """Why an exchange ended early, of what its sides told, where so many bytes came from there."""
-    if programs.BUSY in (here.code(), there.code()):
-        return Failed(f"{programs.in_words(here.line if here.code() == programs.BUSY else there.line)}", programs.BUSY, True)
-    if here.code()[:1] == "Z" or here.code() == "X7":
-        return Failed(f"here: {programs.in_words(here.line)}", here.code())
-    if not there.is_well():
-        return Failed(f"there: {programs.in_words(there.line) or f'it ended with status {there.status}'}", there.code())
-    if is_socket and not count:
-        return Failed("it ended without a word: it is busy, or no node listens there; its journal tells", "", True)
-    return Failed(f"here: {programs.in_words(here.line) or f'{programs.NAME} ended with status {here.status}'}", here.code())
+    sides = ("here", here), ("there", there)
+    for where, it in sides:
+        if it.code() == programs.BUSY:
+            return Failed(f"{where}: {programs.in_words(it.line)}", it.code(), True)
+    if is_socket and not count and here.is_left():
+        return Failed("it ended without a word: it is busy, or no node's; its journal tells", "", True)
+    told = next((it for it in sides if not it[1].is_well() and not it[1].is_left()), sides[there.line != "" and not there.is_well()])
+    where, it = told
+    front = "" if it is there and it.status == UNREACHED and it.line else f"{where}: "
+    return Failed(f"{front}{programs.in_words(it.line) or f'it ended with status {it.status}'}", it.code())
 
 
 def exchange(state, begin, seconds, is_socket):

@@ -61,14 +61,13 @@ class SharedFolder:
 
     def read(self, name):
         """The bytes of a file."""
-        file = os.open(name, READ_FLAGS, dir_fd=self.at)
-        with open(file, "rb") as source:
-            found = os.fstat(file)
-            if not stat.S_ISREG(found.st_mode):
-                raise OSError(errno.EINVAL, "no file", name)
-            if found.st_size > MOST_BYTES:
+        mode = os.stat(name, dir_fd=self.at, follow_symlinks=False).st_mode
+        if not stat.S_ISREG(mode):
+            raise OSError(errno.EINVAL, "a link" if stat.S_ISLNK(mode) else "no file", name)
+        with open(os.open(name, READ_FLAGS, dir_fd=self.at), "rb") as file:
+            if os.fstat(file.fileno()).st_size > MOST_BYTES:
                 raise OSError(errno.EFBIG, f"over {MOST_BYTES:,} bytes", name)
-            return source.read(MOST_BYTES)
+            return file.read(MOST_BYTES)
 
     def write(self, name, content):
         """Writes a file of the node's own, whole or not at all, where it isn't so already. Whether it was written."""
