@@ -157,6 +157,24 @@ def script_at(bench, name, text):
     return at
 
 
+def counting(bench):
+    """The surroundings in which each run of the program adds a line to a file, and that file."""
+    runs = bench.path("runs")
+    return {"FLEET_NODE": script_at(bench, "counting", f'echo "$1" >> "{runs}"\nexec "{PROGRAM}" "$@"\n')}, runs
+
+
+def until_lines(path, count):
+    """Waits until a file has so many lines."""
+    until = time.monotonic() + 60
+    while time.monotonic() < until:
+        if os.path.exists(path):
+            with open(path, "rb") as file:
+                if file.read().count(b"\n") >= count:
+                    return
+        time.sleep(0.02)
+    raise AssertionError(f"{path}: never {count} lines")
+
+
 # An `ssh` that drops its options and its machine, and has the shell run what is left, as the far one would.
 SSH = """while [ "$1" = -o ]; do shift 2; done
 [ "$1" = away ] && { echo 'ssh: Could not resolve hostname away' >&2; exit 255; }

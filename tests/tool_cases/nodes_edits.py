@@ -2,11 +2,9 @@
 import json
 import os
 import random
-import threading
-import time
 
 from .bench import E, R, U, same
-from .nodes_bench import PROGRAM, Held, Node, fleet, program, script_at
+from .nodes_bench import Held, Node, counting, fleet, program, script_at, until_lines
 
 UNIT = b"[Unit]\nDescription=web\n"
 
@@ -97,11 +95,11 @@ def removals_are_one_script(bench):
     node = Node(bench.path("a"), 1)
     places = [f"{E}/{it}" for it in "abc"]
     node.script(*(f"put here {it} x" for it in places))
-    counting = script_at(bench, "counting", f'echo "$1" >> "{bench.path("runs")}"\nexec "{PROGRAM}" "$@"\n')
-    ran = node.fleet("rm", places[0], f"{E}/none", places[1], "/x", places[2], env={"FLEET_NODE": counting}, status=1)
+    around, runs = counting(bench)
+    ran = node.fleet("rm", places[0], f"{E}/none", places[1], "/x", places[2], env=around, status=1)
     same(ran.lines(), [f"{places[0]} 4.1 gone", f"{places[1]} 5.1 gone", f"{places[2]} 6.1 gone"])
     same([it.partition(": F1")[0] for it in ran.told()], [f"rm: {E}/none: E2 Nothing: nothing stands there", "rm: /x"])
-    with open(bench.path("runs"), encoding="ascii") as file:
+    with open(runs, encoding="ascii") as file:
         same(file.read().split(), ["run"])
 
 
@@ -126,10 +124,12 @@ def other_files(bench):
 def waits_where_busy(bench):
     """While another process has the file, a verb waits some seconds, and then it is refused and nothing was done."""
     node, place = Node(bench.path("a"), 1), f"{E}/a"
+    around, runs = counting(bench)
     with Held(node) as held:
-        threading.Timer(0.7, held.free).start()
-        begun = time.monotonic()
-        same((node.fleet("put", place, given=b"A").lines(), time.monotonic() - begun >= 0.6), ([f"{place} 1.1 file 1"], True))
+        call = node.call("put", place, given=b"A", env=around)
+        until_lines(runs, 2)
+        held.free()
+        same(call.ended().lines(), [f"{place} 1.1 file 1"])
     with Held(node):
         same(node.fleet("rm", place, status=1).told(), [f"rm: {node.file}: Z4 Busy: another process has it open"])
     same(node.files(), {place: ("1.1", "file 1")})

@@ -7,7 +7,7 @@ import time
 from contextlib import ExitStack
 
 from .bench import E, same
-from .nodes_bench import PROGRAM, Held, Node, Server, cutter, ssh
+from .nodes_bench import PROGRAM, Held, Node, Server, counting, cutter, ssh, until_lines
 
 NOTHING = "nothing new here"
 
@@ -130,16 +130,17 @@ def busy_ones(bench):
     """Where either side has another exchange, it is tried again; a socket that ends without a word may be busy too."""
     one, other = pair(bench)
     words = ["sync", "--ssh", "web1", "--state-there", other.file]
+    around, runs = counting(bench)
     for number, node in enumerate((one, other)):
         other.script(f"put here {E}/{number}.service x")
         with Held(node) as held:
-            call = one.call(*words, env=ssh(bench))
-            time.sleep(1)
+            call = one.call(*words, env={**ssh(bench), **around})
+            until_lines(runs, 3)
             held.free()
             same((call.ended().status, one.identity()), (0, other.identity()))
-    for number, before in enumerate(("echo 'fleet: Z4 Busy' >&2\nexit 1\n",)):
-        once = f'if mkdir "{bench.path(f"once{number}")}" 2>/dev/null; then\n{before}fi\n'
-        same(one.fleet(*words, env=ssh(bench, once, f"once{number}-ssh")).lines(), [f"web1: {NOTHING}"])
+        os.unlink(runs)
+    once = f'if mkdir "{bench.path("once")}" 2>/dev/null; then\necho "fleet: Z4 Busy" >&2\nexit 1\nfi\n'
+    same(one.fleet(*words, env=ssh(bench, once, "once-ssh")).lines(), [f"web1: {NOTHING}"])
     at_first = ["sh", "-c", f'mkdir "{bench.path("first")}" 2>/dev/null || exec "{PROGRAM}" exchange "{other.file}"']
     with Server(*at_first) as server:
         same(one.fleet("sync", f"localhost:{server.port}").lines(), [f"localhost:{server.port}: {NOTHING}"])

@@ -18,10 +18,12 @@ from .words import (Parser, add, add_profile, add_running, add_where, asking, ho
 ABOUT = """Reads the unit load path below each ROOT (/etc, /run, /usr/local/lib and /usr/lib/systemd/system), puts it into a store,
 and asks the proved program what it comes to."""
 
-ENDS = """ROOT is a folder, as / or the top of an image. web1=ROOT is the tree of the host web1 alone, whose files stand over the fleet's.
+ENDS = """ROOT is a folder, as / or the top of an image. web1=ROOT is the tree of the host web1 alone, whose files stand over the fleet's. A state file
+is a ROOT too, which has the places of the fleet and of all its hosts.
 
 Exit status: 0; 1 where the answer is a refusal, something is wrong or trees differ; 2 where a tree or the words can't be read, or the
 program can't be run. FLEET_SHELL names the program; without it, it is crates/fleet_shell/out/fleet_shell of this repository.
+FLEET_NODE names the one that keeps state files, FLEET_STATE the state file.
 `fleet VERB --help` tells more of a verb."""
 
 def add_verbs_of_trees(found):

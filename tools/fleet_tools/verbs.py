@@ -10,6 +10,7 @@ from .asking import NODE, Seen, Store, hosts_of, needed
 from .factors import factored
 from .faults import Fault, Status, printable
 from .modes import OWN, WIDEST, is_own, make_output_own, own_files, read_table, table_of
+from .nodes.state_trees import is_state, trees_of_state
 from .origins import Origins, shown_with_origins
 from .places import HOST, HOST_RULE
 from .profiles import Profile
@@ -41,17 +42,22 @@ def say_script(script, trees):
 
 
 def read_trees(words, progress, is_following=False):
-    """Reads trees, of which each is for the fleet or for a host of its own."""
+    """Reads trees, of which each is for the fleet or for a host of its own, or of a state file all that it has."""
     named = [named_root(it) for it in words]
-    hosts = [host for host, _ in named]
+    refuse_hosts([host for host, _ in named])
+    trees = [it for host, root in named for it in (trees_of_state(root, host) if is_state(root) else [read_tree(root, host, progress, is_following)])]
+    refuse_hosts([it.host for it in trees])
+    progress.end()
+    return trees
+
+
+def refuse_hosts(hosts):
+    """Refuses hosts that have no host's name, or of which two are one."""
     for host in hosts:
         if host and not HOST.fullmatch(host):
             raise Fault(f"{printable(host)}: no host's name: {HOST_RULE}")
         if hosts.count(host) > 1:
             raise Fault(f"two trees for {f'the host {host}' if host else 'the whole fleet'}: `fleet merge` lets trees meet")
-    trees = [read_tree(root, host, progress, is_following) for host, root in named]
-    progress.end()
-    return trees
 
 
 def counts_of(tree):

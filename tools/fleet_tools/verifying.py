@@ -26,10 +26,11 @@ def said(seen, store):
                     if not folder and is_unit_name(name) and it.content and not isinstance(it.content, Link)})
     if not names:
         return []
-    if not seen.host:
-        return lines_of(program, next(it.root for it in store.trees if not it.host), names)
+    fleet = next((it for it in store.trees if not it.host), None)
+    if not seen.host and os.path.isdir(fleet.root):
+        return lines_of(program, fleet.root, names)
     with tempfile.TemporaryDirectory(prefix="fleet-") as root:
-        Writer(root, {}, False).write(entries_of(seen.tree))
+        Writer(root, {}, False).write(entries_of(seen.tree) if seen.host else fleet.entries)
         return lines_of(program, root, names)
 
 

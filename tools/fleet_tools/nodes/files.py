@@ -16,6 +16,8 @@ HERE = "here"
 VARIABLE = "FLEET_STATE"
 FIRST = "/var/lib/fleet/node"
 
+TRIES = 5
+
 # The refusal of a place at which nothing stands.
 NOT_VISIBLE = "E3"
 
@@ -85,6 +87,20 @@ class NodeFile:
     def visible(self):
         """The places at which something stands, with what does, as `Held` tells it."""
         return {it.place: it for it in self.held() if it.length >= 0 or it.target}
+
+    def contents(self):
+        """What stands at each place: bytes or a link."""
+        places = [it.place for it in self.held() if it.length >= 0 or it.target]
+        for _ in range(TRIES):
+            answers = self.answers([f"files {HERE}".encode("ascii"), *(f"text {HERE} {it}".encode("ascii") for it in places)])
+            rows = [it for it in needed(answers.files(), HERE) if it.length >= 0 or it.target]
+            if [it.place for it in rows] == places:
+                lengths = {it.place: it.length for it in rows if it.length >= 0}
+                found = entries_of(dict(answers.text(lengths) for _ in places))
+                answers.ended()
+                return found
+            places = [it.place for it in rows]  # another process edited it meanwhile
+        raise Fault(f"{printable(self.path)}: it changes while it is read")
 
     def text(self, held: Held):
         """The bytes of a file, or the target of a link, that stands at a place."""
