@@ -20,7 +20,8 @@ from .profiled import SMALL
 from .written import script
 
 DEBIAN = os.path.join(TREES, "debian")
-VERBS = ("import", "export", "merge", "show", "cat", "list", "plan", "check", "diff", "draw")
+VERBS = ("import", "export", "merge", "show", "cat", "list", "plan", "check", "diff", "draw", "init", "put", "link", "rm", "mask", "edit", "revert",
+         "log", "peers", "status", "sync")
 
 
 class Other:
@@ -236,7 +237,7 @@ def completed(bench):
     """What bash completes: verbs, a verb's options, the values of an option, files."""
     subprocess.run([os.path.join(ROOT, "tools", "fleet_words"), bench.path("out")], stdout=subprocess.DEVNULL, check=True)
     bench.tree("here", {"/one tree/x": "", "/two": "2"})
-    for words, wanted in (("fleet m", ["merge"]), ("fleet plan --pro", ["--profile"]), ("fleet plan --profile m", ["manager"]),
+    for words, wanted in (("fleet m", ["mask", "merge"]), ("fleet plan --pro", ["--profile"]), ("fleet plan --profile m", ["manager"]),
                           ("fleet import one", ["one tree"]), ("fleet export --modes t", ["two"]), ("fleet show --host ", [""]),
                           ("fleet cat --", ["--help", "--follow", "--host", "--workers", "--with", "--json", "--unproved"])):
         parts = words.split(" ")

@@ -119,7 +119,7 @@ def stopped_while_editing(bench):
     """Ctrl-C is the editor's; another signal ends the verb, writes nothing, and keeps what was saved."""
     node = Node(bench.path("a"), 1)
     node.script(f"put here {PLACE} text")
-    text = f'echo mine > $1\ntouch "{bench.path("begun")}"\nsleep 1\necho more >> $1\n'
+    text = f'trap "echo saved >> $1; exit 0" TERM\necho mine > $1\ntouch "{bench.path("begun")}"\nsleep 0.5\nsleep 0.5\necho more >> $1\n'
     for number, ended in ((signal.SIGINT, 0), (signal.SIGTERM, -signal.SIGTERM), (signal.SIGHUP, -signal.SIGHUP)):
         call = node.call("edit", PLACE, env=editing(bench, text))
         until = time.monotonic() + 20
@@ -128,7 +128,7 @@ def stopped_while_editing(bench):
         call.signal(number)
         ran = call.ended()
         same((ran.status, node.files()[PLACE]), (ended, ("2.1", "file 10")), ran)
-        same((kept(bench)[-1:], len(ran.told())), ([b"mine\n"], 1) if ended else ([], 0))
+        same((kept(bench)[-1:], len(ran.told())), ([b"mine\nsaved\n"], 1) if ended else ([], 0))
         os.unlink(bench.path("begun"))
 
 

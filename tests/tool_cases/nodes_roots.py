@@ -29,7 +29,7 @@ def same_as_folders(bench):
         same(state.status in (0, 1) and bool(state.out), True, state)
     same(fleet("import", node.file).out, fleet("import", base, f"web1={web1}").out)
     same(fleet("diff", node.file, base, "--other-with", f"web1={web1}", env=around).out, b"")
-    same(fleet("diff", node.file, base, env=around, status=1).lines()[0], "profile manager")
+    same(fleet("diff", node.file, base, env=around, status=1).lines()[0].startswith("# profile manager"), True)
 
 
 def wrong_roots(bench):

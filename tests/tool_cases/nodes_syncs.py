@@ -74,6 +74,8 @@ def refused_peers(bench):
     twin.script(f"put here {E}/twin.service 1")
     held, words = one.files(), ["sync", "--ssh", "web1", "--state-there"]
     cases = [
+        (other.file, "printf 'Warning: key\\n\\nPermission denied (publickey).\\n' >&2\nexit 255\n", "Permission denied (publickey).", ""),
+        (other.file, "echo 'a banner' >&2\necho 'fleet: Z5 Disk' >&2\nexit 1\n", "there: Z5 Disk: the disk refuses, or the file is damaged", ""),
         (twin.file, "", "there: X7 WriterTaken: two state files write under one number: make one of them anew under a free number", "here"),
         (other.file, "echo 'Welcome to web1'\n", "here: a frame is longer than a megabyte", ""),
         (other.file, "exit 0\n", "here: Y1 Truncated", ""), (other.file, "kill -9 $$\n", "there: ", ""),
@@ -97,7 +99,7 @@ def refused_peers(bench):
 def wrong_words(bench):
     """Whom no word names isn't asked; nothing is read as an option of ssh."""
     one = Node(bench.path("one"), 1)
-    for words in ([], ["--ssh=-oProxyCommand=touch x"], ["--ssh", ""], ["a b"], ["web1:"], ["web1:0"], ["web1:70000"], ["web1:1:2:x"], ["[::1"], ["x/y"],
+    for words in ([], ["--ssh=-oProxyCommand=x"], ["--ssh", ""], ["a b"], ["web1:"], ["web1:0"], ["web1:70000"], ["web1:1:2:x"], ["[::1"], ["x/y"],
                   ["web1", "--seconds", "0"], ["web1", "--seconds", "x"]):
         ran = one.fleet("sync", *words, env=ssh(bench), status=2)
         same((ran.out, len(ran.told()) >= 1), (b"", True), words)
@@ -152,14 +154,14 @@ def silent_ones(bench):
     around = ssh(bench, f'echo $$ > "{bench.path("pid")}"\nexec sleep 100\n')
     begun = time.monotonic()
     ran = one.fleet("sync", "--ssh", "web1", "--state-there", other.file, "--seconds", "1", env=around, status=1)
-    same((ran.out, ran.told()), (b"", ["sync: web1: given up after 1 seconds without a byte from there"]))
+    same((ran.out, ran.told()), (b"", ["sync: web1: given up after 1 s without a byte from there"]))
     same((is_running(bench.path("pid")), time.monotonic() - begun < 20), (False, True))
     with Server() as server:
         ran = one.fleet("sync", f"127.0.0.1:{server.port}", "--seconds", "1", status=1)
-        same(ran.told(), [f"sync: 127.0.0.1:{server.port}: given up after 1 seconds without a byte from there"])
+        same(ran.told(), [f"sync: 127.0.0.1:{server.port}: given up after 1 s without a byte from there"])
     around = ssh(bench, 'printf "\\0"\nexec sleep 100\n', "begins")
     ran = one.fleet("sync", "--ssh", "web1", "--seconds", "1", env=around, status=1)
-    same(ran.told(), ["sync: web1: given up after 1 seconds without a byte"])
+    same(ran.told(), ["sync: web1: given up after 1 s without a byte"])
     one.script(f"put here {E}/free.service x")
 
 

@@ -5,7 +5,6 @@ import shutil
 import signal
 import subprocess
 import tempfile
-from contextlib import contextmanager
 
 from ..faults import Fault, Status, cut, printable
 from ..places import MOST_FILE_BYTES, Link
@@ -15,6 +14,8 @@ from .files import NoPlace
 
 NAMED = ("VISUAL", "EDITOR")
 USUAL = ("editor", "vi")
+
+SECONDS_TO_END = 5
 
 
 def editor():
@@ -28,12 +29,20 @@ def editor():
     return [found]
 
 
-@contextmanager
-def interrupts_left_to_it():
-    """While this lasts, Ctrl-C is the editor's, which shares the terminal."""
+def ended(process):
+    """The status with which an editor ends. Ctrl-C meanwhile is the editor's, which shares the terminal; what stops the verb ends the editor, which
+    may still save."""
     before = signal.signal(signal.SIGINT, signal.SIG_IGN)
     try:
-        yield
+        return process.wait()
+    except BaseException:
+        process.terminate()
+        try:
+            process.wait(SECONDS_TO_END)
+        except subprocess.TimeoutExpired:
+            process.kill()
+            process.wait()
+        raise
     finally:
         signal.signal(signal.SIGINT, before)
 
@@ -75,10 +84,10 @@ class Draft:
         """Has it edited. Why that failed, in words; nothing where it went well."""
         words = editor()
         try:
-            with interrupts_left_to_it():
-                status = subprocess.run([*words, self.path], check=False).returncode
+            process = subprocess.Popen([*words, self.path])
         except OSError as fault:
             return f"{cut(words[0])}: it can't be run: {fault.strerror}"
+        status = ended(process)
         if status:
             return f"the editor ended with {f'signal {-status}' if status < 0 else f'status {status}'}"
         return "the editor left no file" if self.text() is None else None

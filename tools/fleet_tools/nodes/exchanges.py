@@ -15,6 +15,7 @@ from .crossings import OfProcess, OfSocket, carried, ways_between
 SSH = "FLEET_SSH"
 # The status of an ssh that didn't get there.
 UNREACHED = 255
+MOST_TOLD = 65_536
 # What a side tells that the other one left alone.
 LEFT = ("Y1 Truncated", "read fault", "write fault")
 # How many seconds an exchange is tried again where either side is busy with another one.
@@ -31,7 +32,7 @@ class Failed(Exception):
 
 @dataclass(frozen=True)
 class Side:
-    """How a side of an exchange ended: its status, none where it didn't, and the first line that it told."""
+    """How a side of an exchange ended: its status, none where it didn't, and the line that it told."""
 
     status: int
     line: str
@@ -49,10 +50,12 @@ class Side:
         return self.line in LEFT or self.status in (-signal.SIGPIPE, 128 + signal.SIGPIPE)
 
 
-def line_in(told):
-    """The first line in a file of what was told."""
+def side_of(status, told):
+    """How a side ended, of which this file has what it told: the program's line, or else the first one; of an ssh that didn't get there the last."""
     told.seek(0)
-    return programs.told_line(told.read(4096).decode("utf-8", "surrogateescape"))
+    lines = [it.strip() for it in told.read(MOST_TOLD).decode("utf-8", "surrogateescape").splitlines() if it.strip()]
+    own = [it for it in lines if it.startswith(programs.TELLS)]
+    return Side(status, (own or (lines[-1:] if status == UNREACHED else lines[:1]) or [""])[0].removeprefix(programs.TELLS))
 
 
 def failure(here, there, count, is_socket):
@@ -78,8 +81,8 @@ def exchange(state, begin, seconds, is_socket):
             is_carried = carried(ways, seconds)
             ended = [it.ended(seconds) if is_carried else None for it in (here, there)]
         if None in ended:
-            raise Failed(f"given up after {seconds} seconds without a byte{'' if ways[1].count else ' from there'}")
-        sides = [Side(status, line_in(told)) for status, told in zip(ended, (told_here, told_there))]
+            raise Failed(f"given up after {seconds} s without a byte{'' if ways[1].count else ' from there'}")
+        sides = [side_of(status, told) for status, told in zip(ended, (told_here, told_there))]
     if not all(it.is_well() for it in sides):
         raise failure(*sides, ways[1].count, is_socket)
 

@@ -13,6 +13,8 @@ VARIABLE = "FLEET_NODE"
 # Where it stands: of a package, and as the repository builds it.
 PLACES = (os.path.join(REPOSITORY, "bin", NAME), os.path.join(REPOSITORY, "crates", NAME, "out", NAME))
 
+# With what each line begins that it tells on standard error.
+TELLS = "fleet: "
 # What it refuses where another process has the file open, which leaves all as it was, and how many seconds that is waited for.
 BUSY, BUSY_SECONDS = "Z4", 5
 
@@ -76,7 +78,7 @@ def in_words(line):
 
 def told_line(told):
     """The first line of what it told on standard error; nothing where it told none."""
-    return next((it.removeprefix("fleet: ").rstrip() for it in told.splitlines() if it.strip()), "")
+    return next((it.removeprefix(TELLS).rstrip() for it in told.splitlines() if it.strip()), "")
 
 
 def refusal_of(path, status, told):
