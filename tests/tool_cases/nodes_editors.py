@@ -32,7 +32,8 @@ def edits(bench):
     """The editor gets a file of its owner's alone, which ends in the place's name and has what stands there; what it leaves is written."""
     node = Node(bench.path("a"), 1)
     node.fleet("put", PLACE, given=b"[Unit]\n")
-    around = editing(bench, f'cp "$1" "{bench.path("seen")}"\nstat -c "%a %n" "$1" "${{1%/*}}" > "{bench.path("modes")}"\nprintf "[Install]\\n" >> "$1"\n')
+    around = editing(bench, f'cp "$1" "{bench.path("seen")}"\nstat -c "%a %n" "$1" "${{1%/*}}" > "{bench.path("modes")}"\n'
+                            'printf "[Install]\\n" >> "$1"\n')
     ran = node.fleet("edit", PLACE, env=around)
     same((ran.lines(), ran.told(), node.text(PLACE)), ([f"{PLACE} 2.1 file 17"], [], b"[Unit]\n[Install]\n"))
     with open(bench.path("seen"), "rb") as file:
@@ -87,7 +88,8 @@ def kept_texts(bench):
     held = node.files()
     ran = node.fleet("edit", PLACE, env=editing(bench, "head -c 70000 /dev/zero > $1\n"), status=1)
     path = re.fullmatch("the edited text is kept: (.*)", ran.told()[0])[1]
-    same((os.stat(path).st_size, stat.S_IMODE(os.stat(path).st_mode), ran.told()[1]), (70_000, 0o600, f"edit: {PLACE}: C1 FileTooLarge: over 65,536 bytes"))
+    same((os.stat(path).st_size, stat.S_IMODE(os.stat(path).st_mode), ran.told()[1]),
+         (70_000, 0o600, f"edit: {PLACE}: C1 FileTooLarge: over 65,536 bytes"))
     os.unlink(path)
     breaking = f'echo mine > "$1"\nprintf "#!/bin/sh\\nexit 5\\n" > "{bench.path("program")}"\n'
     around = {**editing(bench, breaking), "FLEET_NODE": script_at(bench, "program", f'exec "{PROGRAM}" "$@"\n')}
@@ -98,7 +100,8 @@ def kept_texts(bench):
 
 def changed_meanwhile(bench):
     """Where the place was changed meanwhile, nothing is written and the text is kept; --force writes it; the same text on both sides is no edit."""
-    for number, (line, told) in enumerate((("put here {} theirs", "file 6 (2.1)"), ("remove here {}", "gone (2.1)"), ("link here {} x", "link x (2.1)"))):
+    changes = ("put here {} theirs", "file 6 (2.1)"), ("remove here {}", "gone (2.1)"), ("link here {} x", "link x (2.1)")
+    for number, (line, told) in enumerate(changes):
         node = Node(bench.path(str(number)), 1)
         node.script(f"put here {PLACE} text")
         around = editing(bench, f'echo "{line.format(PLACE)}" | "{PROGRAM}" run "{node.file}" > /dev/null\necho mine > $1\n')

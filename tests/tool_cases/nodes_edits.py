@@ -61,7 +61,8 @@ def objects_of_edits(bench):
 def bytes_of_files(bench):
     """A file stands there byte by byte as it was given: any bytes, without a last line feed, with carriage returns, as long as may be."""
     node = Node(bench.path("a"), 1)
-    for number, content in enumerate((bytes(range(256)), b"\r\n", b"\\n \\x41\\", b"# x\nend\n", b" ", b"x" * 65_536, bytes(65_536), b"\xff" * 65_536)):
+    contents = bytes(range(256)), b"\r\n", b"\\n \\x41\\", b"# x\nend\n", b" ", b"x" * 65_536, bytes(65_536), b"\xff" * 65_536
+    for number, content in enumerate(contents):
         place = f"{E}/{number}.service"
         node.fleet("put", place, given=content)
         same(node.text(place), content)

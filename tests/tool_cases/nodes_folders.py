@@ -88,8 +88,8 @@ def foreign_files(bench):
     os.mkfifo(f"{folder}/5-aaaaaaaa.for.{own}.piece")
     os.mkdir(f"{folder}/6-aaaaaaaa.digest")
     os.mkdir(f"{folder}/7-aaaaaaaa.for.{own}.piece")
-    odd = [f"../{own}.digest", "8-aaaaaaaa.digest\n", "8-AAAAAAAA.digest", "-8-aaaaaaaa.digest", "8-aaaaaaaa.digest.tmp", f".{other}.digest.x", "$(touch x)",
-           f"08-aaaaaaaa.for.{own}.piece", "\x1b[31m.digest", f"8-aaaaaaaa.for.{own}.piece "]
+    odd = [f"../{own}.digest", "8-aaaaaaaa.digest\n", "8-AAAAAAAA.digest", "-8-aaaaaaaa.digest", "8-aaaaaaaa.digest.tmp", f".{other}.digest.x",
+           "$(touch x)", f"08-aaaaaaaa.for.{own}.piece", "\x1b[31m.digest", f"8-aaaaaaaa.for.{own}.piece "]
     for it in odd[1:]:
         with open(f"{folder}/{it}", "wb") as file:
             file.write(b"odd")

@@ -36,7 +36,8 @@ def logs(bench):
     same(abs(time.mktime(time.strptime(told, "%Y-%m-%dT%H:%M:%SZ")) - time.timezone - begun) < 30, True)
     found = [json.loads(it) for it in node.fleet("log", b, "--json").lines()]
     same([{**it, "time": bool(STAMP.fullmatch(it["time"]))} for it in found], [
-        {"time": True, "version": "2.2", "place": b, "link": "x", "stands": False}, {"time": True, "version": "4.2", "place": b, "gone": True, "stands": True}])
+        {"time": True, "version": "2.2", "place": b, "link": "x", "stands": False},
+        {"time": True, "version": "4.2", "place": b, "gone": True, "stands": True}])
     none = node.fleet("log", f"{R}/a.service")
     same((none.out, none.told()), (b"", [f"log: {R}/a.service: the log has no edit of it"]))
 
@@ -55,8 +56,8 @@ def of_units(bench):
               f"{E}/y.service.upholds/web@1.service", f"{E}/web@1.service.wants/z.socket", f"{E}/web@.service.requires/z.socket"]
     of_dashed = [f"{E}/a-b-c.service", f"{E}/a-b-.service.d/x.conf", f"{E}/a-.service.d/x.conf", f"{E}/a-b-c.service.d/x.conf"]
     others = [f"{E}/web@2.service", f"{E}/web.service", f"{E}/web@1.socket", f"{E}/web@2.service.d/a.conf", f"{E}/socket.d/a.conf",
-              f"{E}/x.target.wants/web@2.service", f"{E}/x.target.after/web@1.service", f"{E}/web@2.service.wants/z.socket", f"{E}/b-.service.d/x.conf",
-              f"{E}/a.service.d/x.conf", f"{E}/service.wants/q.service"]
+              f"{E}/x.target.wants/web@2.service", f"{E}/x.target.after/web@1.service", f"{E}/web@2.service.wants/z.socket",
+              f"{E}/b-.service.d/x.conf", f"{E}/a.service.d/x.conf", f"{E}/service.wants/q.service"]
     node = Node(bench.path("a"), 1)
     node.script(*(f"put here {it} x" for it in [*of_web, *of_dashed, *others]))
 
@@ -99,7 +100,8 @@ def peers(bench):
     one.fleet("sync", "--ssh", "x", "--state-there", two.file, env=around)
     marks = {it.writer: program("peers", it.file).decode().split(" ")[1] for it in (one, two, three)}
     lines = one.fleet("peers").lines()
-    same((lines[0], sorted(it.rpartition(" ")[0] for it in lines)), (f"1 {marks[1]} here", [f"{number} {mark}" for number, mark in sorted(marks.items())]))
+    same((lines[0], sorted(it.rpartition(" ")[0] for it in lines)),
+         (f"1 {marks[1]} here", [f"{number} {mark}" for number, mark in sorted(marks.items())]))
     by_number = {it.split(" ")[0]: it.split(" ")[2] for it in lines}
     same((bool(STAMP.fullmatch(by_number["2"])), by_number["3"]), (True, "told"))
     found = {it["writer"]: it for it in map(json.loads, one.fleet("peers", "--json").lines())}

@@ -38,7 +38,8 @@ def wrong_roots(bench):
     node.script(f"put here {E}/a.service x")
     told = f"show: web1={node.file}: a state file, which has the places of the fleet and of its hosts: name it alone, and --host HOST asks for a host"
     same(fleet("show", f"web1={node.file}", "a", env=around, status=2).told(), [told])
-    same(fleet("import", node.file, bench.tree("tree", FLEET), status=2).told(), ["import: two trees for the whole fleet: `fleet merge` lets trees meet"])
+    same(fleet("import", node.file, bench.tree("tree", FLEET), status=2).told(),
+         ["import: two trees for the whole fleet: `fleet merge` lets trees meet"])
     with open(bench.path("other"), "wb") as file:
         file.write(b"SQLite format 3\0" + bytes(5_000))
     same(fleet("import", bench.path("other"), status=1).told()[0].startswith(f"import: {bench.path('other')}: Z"), True)

@@ -11,8 +11,8 @@ def counted(bench):
     node, other = Node(bench.path("a"), 1), Node(bench.path("b"), 7)
     root = bench.tree("root", {"/etc/hostname": "web1\n"})
     same(node.fleet("status", "--root", root).lines(), [
-        f"state {node.file}", "writer 1", f"identity {node.identity()}", "holds 0 places of the fleet, 0 of 0 hosts, 0 removals", "knows 0 peers, met none",
-        f"web1 at {root}: nothing differs"])
+        f"state {node.file}", "writer 1", f"identity {node.identity()}", "holds 0 places of the fleet, 0 of 0 hosts, 0 removals",
+        "knows 0 peers, met none", f"web1 at {root}: nothing differs"])
     node.script(f"put here {E}/a x", f"put here {E}/b x", f"put here h1:{E}/a x", f"put here h1:{E}/b x", f"put here h2:{E}/a x", f"put here {E}/c x")
     node.script(f"remove here {E}/c", f"remove here h2:{E}/a")
     node.fleet("sync", "--ssh", "x", "--state-there", other.file, env=ssh(bench))
@@ -28,12 +28,13 @@ def differing(bench):
     node = Node(bench.path("a"), 1)
     node.script(*(f"put here {E}/{it} {it}" for it in ("same", "lacking", "other", "linked", "folder", "large", "x.d/same", "own")),
                 f"link here {E}/link x", f"link here {E}/turned x", f"put here h1:{E}/own mine", f"put here h2:{E}/own theirs", f"put here {U}/lib x",
-                f"put here {E}/gone x", f"put here h1:{E}/hidden x", f"put here {E}/hidden fleet", f"put here h2:{E}/foreign x", f"put here {R}/gone x")
+                f"put here {E}/gone x", f"put here h1:{E}/hidden x", f"put here {E}/hidden fleet", f"put here h2:{E}/foreign x",
+                f"put here {R}/gone x")
     node.script(f"remove here {E}/gone", f"remove here h1:{E}/hidden", f"remove here h2:{E}/foreign", f"remove here {R}/gone")
     root = bench.tree("root", {
-        f"{E}/same": "same", f"{E}/other": "otherwise", f"{E}/linked": Link("same"), f"{E}/folder/x": "", f"{E}/large": b"x" * 70_000, f"{E}/x.d/same": "x.d/same",
-        f"{E}/own": "mine", f"{E}/link": Link("x"), f"{E}/turned": Link("y"), f"{E}/gone": "", f"{E}/hidden": "fleet", f"{E}/foreign": "", f"{R}/gone": "",
-        f"{E}/unknown": "", "/etc/hostname": "# a name\n\n h1 more\nx\n"})
+        f"{E}/same": "same", f"{E}/other": "otherwise", f"{E}/linked": Link("same"), f"{E}/folder/x": "", f"{E}/large": b"x" * 70_000,
+        f"{E}/x.d/same": "x.d/same", f"{E}/own": "mine", f"{E}/link": Link("x"), f"{E}/turned": Link("y"), f"{E}/gone": "",
+        f"{E}/hidden": "fleet", f"{E}/foreign": "", f"{R}/gone": "", f"{E}/unknown": "", "/etc/hostname": "# a name\n\n h1 more\nx\n"})
     ran = node.fleet("status", "--root", root, status=1)
     told = f"h1 at {root}: lacks 1 path, has 5 paths otherwise, still has 1 path that the state removed; 1 path of other directories left out"
     same(ran.lines()[-1], told)

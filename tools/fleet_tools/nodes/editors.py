@@ -51,19 +51,28 @@ class Draft:
     """The text of a place in a file of its own, while it is edited. The folder goes at the end, unless the text is kept."""
 
     def __init__(self, place, text):
-        self.folder = tempfile.mkdtemp(prefix="fleet-edit-")
-        self.path = os.path.join(self.folder, place.rpartition("/")[2])
-        self.before, self.is_kept = text, False
+        self.name, self.before = place.rpartition("/")[2], text
+        self.folder, self.path, self.is_kept = None, None, False
 
     def __enter__(self):
-        with open(os.open(self.path, os.O_WRONLY | os.O_CREAT | os.O_EXCL | os.O_CLOEXEC, 0o600), "wb") as file:
-            file.write(self.before)
+        try:
+            self.folder = tempfile.mkdtemp(prefix="fleet-edit-")
+            self.path = os.path.join(self.folder, self.name)
+            with open(os.open(self.path, os.O_WRONLY | os.O_CREAT | os.O_EXCL | os.O_CLOEXEC, 0o600), "wb") as file:
+                file.write(self.before)
+        except BaseException:
+            self.remove()
+            raise
         return self
 
     def __exit__(self, kind, _fault, _trace):
         if kind is not None:
             self.keep()
-        if not self.is_kept:
+        self.remove()
+
+    def remove(self):
+        """Removes it, unless it is kept."""
+        if self.folder and not self.is_kept:
             shutil.rmtree(self.folder, ignore_errors=True)
 
     def text(self):

@@ -71,7 +71,8 @@ def logged_line(row, stands):
 def logged_object(row, stands):
     """The object of an edit in the log."""
     kind, _, told = row.what.partition(" ")
-    return {"time": stamp(row.time), "version": row.version, "place": row.place, kind: int(told) if kind == "file" else told or True, "stands": stands}
+    what = {kind: int(told) if kind == "file" else told or True}
+    return {"time": stamp(row.time), "version": row.version, "place": row.place, **what, "stands": stands}
 
 
 def content_of(state, place, version):

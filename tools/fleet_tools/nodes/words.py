@@ -64,8 +64,10 @@ def add_looks(found):
     made = add(found, "log", verbs.log, [of_state()], "tell the edits that stand in the log, by time",
                "What stands now at its place has a star. A compaction leaves each place's last edit.")
     made.add_argument("of", nargs="?", type=matched(WORD, "neither a place nor a unit"), metavar="PLACE|UNIT",
-                      help="tell those of a place; or those of a unit, for the fleet and all hosts: its files, drop-ins, and links that pull it or others in")
-    add(found, "peers", verbs.peers, [of_state()], "tell the nodes that this one met or was told of", "Each with its number, its mark, and when it was met.")
+                      help="tell those of a place; or those of a unit, for the fleet and all hosts: its files, its drop-ins, and links that pull it in "
+                           "or by which it pulls others in")
+    add(found, "peers", verbs.peers, [of_state()], "tell the nodes that this one met or was told of",
+        "Each with its number, its mark, and when it was met.")
     made = add(found, "status", verbs.status, [of_state()], "tell how the state file stands, and what a machine's folder has otherwise",
                "Status 1 where something differs.")
     made.add_argument("--host", type=host, metavar="HOST", help="the host whose folder it is (the one that ROOT/etc/hostname names)")
@@ -78,7 +80,8 @@ def add_sync(found):
     """Adds the verb that exchanges with others."""
     made = add(found, "sync", verbs.sync, [of_state()], "exchange with other nodes what differs",
                "All are tried, one after another; status 1 where one failed. What came before an exchange broke off stays.")
-    made.add_argument("hosts", nargs="*", metavar="HOST[:PORT]", help=f"a machine where systemd hands connections to `fleet_node exchange FILE` ({PORT})")
+    made.add_argument("hosts", nargs="*", metavar="HOST[:PORT]",
+                      help=f"a machine where systemd hands connections to `fleet_node exchange FILE` ({PORT})")
     made.add_argument("--ssh", action="append", default=[], metavar="[USER@]HOST", help="a machine that ssh reaches; FLEET_SSH names another command")
     made.add_argument("--socket", action="append", default=[], metavar="PATH", help="a socket of this machine")
     made.add_argument("--dir", action="append", default=[], metavar="FOLDER", help="a folder that anything carries to and from others")
