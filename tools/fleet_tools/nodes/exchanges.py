@@ -76,7 +76,7 @@ def exchange(state, begin, seconds, is_socket):
     """One exchange of a state file with the side that this begins, which is given a file for what it tells."""
     with tempfile.TemporaryFile() as told_there, tempfile.TemporaryFile() as told_here, closing(begin(told_there)) as there:
         words = [programs.program(), "exchange", state.path, "--call"]
-        with closing(OfProcess(words, told_here, cwd="/", **programs.as_owner(state.path))) as here:
+        with programs.as_owner(state.path) as owner, closing(OfProcess(words, told_here, cwd="/", **owner)) as here:
             ways = ways_between(here, there)
             is_carried = carried(ways, seconds)
             ended = [it.ended(seconds) if is_carried else None for it in (here, there)]

@@ -4,6 +4,7 @@ import random
 import re
 import subprocess
 import time
+from contextlib import contextmanager, suppress
 
 from ..faults import Fault, Status, cut, printable
 from ..program import REPOSITORY
@@ -29,6 +30,9 @@ SENTENCES = {
     "Z7": "its counters are spent",
 }
 
+# The ends of the names of files that the program keeps beside a state file: what isn't yet in it, and the same of a compaction.
+BESIDE = ("", "-wal", ".compact", ".compact-wal")
+
 HOW_TO_BUILD = f"""the program of nodes isn't built. This builds it, with Rattle's `rt` on the path:
   (cd {os.path.join(REPOSITORY, "crates", NAME)} && rt run)    proves it and all below it, compiles it and runs it: an hour or more, once
 {VARIABLE}=FILE names one that stands elsewhere"""
@@ -52,16 +56,38 @@ def program():
     raise Fault(f"{VARIABLE}={printable(named)}: no file that can be run" if named else HOW_TO_BUILD)
 
 
+def is_entered(path, uid, gid):
+    """Whether this user may enter the folder of a path, and all folders above it."""
+    at = os.path.dirname(os.path.realpath(path))
+    while True:
+        found = os.stat(at)
+        bit = 0o100 if found.st_uid == uid else 0o010 if found.st_gid == gid else 0o001
+        if not found.st_mode & bit:
+            return False
+        if at == "/":
+            return True
+        at = os.path.dirname(at)
+
+
+@contextmanager
 def as_owner(path):
-    """The words with which a process is started as the user whose file this is, where root starts it: what it writes beside the file stays that
-    user's, as a service has it."""
-    if os.geteuid() != 0:
-        return {}
+    """The words with which a process is started as the user whose file this is, where root starts it. Where that user can't enter its folder, as
+    outside of a service with DynamicUser=, root runs it, and what stands beside the file is given to the user then."""
     try:
         found = os.stat(path)
     except OSError:
-        return {}
-    return {"user": found.st_uid, "group": found.st_gid, "extra_groups": []} if found.st_uid != 0 else {}
+        found = None
+    if os.geteuid() != 0 or not found or found.st_uid == 0:
+        yield {}
+    elif is_entered(path, found.st_uid, found.st_gid):
+        yield {"user": found.st_uid, "group": found.st_gid, "extra_groups": []}
+    else:
+        try:
+            yield {}
+        finally:
+            for it in BESIDE:
+                with suppress(OSError):
+                    os.chown(path + it, found.st_uid, found.st_gid, follow_symlinks=False)
 
 
 def code_of(line):
@@ -95,7 +121,8 @@ def pause():
 def ran_once(path, word, words, given):
     """What the program writes when it does something over a file, given these bytes."""
     try:
-        done = subprocess.run([program(), word, path, *words], input=given, capture_output=True, check=False, cwd="/", **as_owner(path))
+        with as_owner(path) as owner:
+            done = subprocess.run([program(), word, path, *words], input=given, capture_output=True, check=False, cwd="/", **owner)
     except OSError as fault:
         raise Fault(f"{NAME} can't be run: {fault.strerror}") from fault
     if done.returncode:
