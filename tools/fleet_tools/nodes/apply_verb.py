@@ -1,0 +1,184 @@
+"""`fleet apply`: what a host sees of a state becomes what its folders have."""
+import os
+import shutil
+import subprocess
+import sys
+from dataclasses import dataclass
+
+from ..faults import Fault, Status, cut, printable
+from ..places import DIRECTORIES, HOST, HOST_RULE
+from ..profiles import Profile
+from ..program import program_of
+from ..reports import say, say_objects, shown_host, tell
+from ..trees import Grade, Tree, read_tree
+from . import objections
+from .applying import BY_NOW, Do, Step, is_staged, tree_after, work_of
+from .effects import effects_of
+from .verbs import state_of
+from .writing import Disk, NotWritten, carry_out, manifest_after
+
+HOSTNAME = "/etc/hostname"
+MOST_HOSTNAME_BYTES = 4_096
+MANAGER, MOST_SECONDS = "systemctl", 600
+LEFT = "left by a run that was killed"
+
+
+@dataclass(frozen=True)
+class Head:
+    """What a run is about: the host and by what it is known, how many places it sees, and how many of these are in directories left out."""
+
+    host: str
+    by: str
+    count: int
+    left_out: int
+
+    def line(self):
+        """The line at the head."""
+        left_out = f"; {self.left_out:,} of them in directories that are left out (--all-directories)" if self.left_out else ""
+        return f"# {shown_host(self.host)} ({self.by}): {self.count:,} {'file or link' if self.count == 1 else 'files and links'}{left_out}"
+
+
+class Report:
+    """What is told on standard output: lines, or with --json objects."""
+
+    def __init__(self, is_json):
+        self.is_json = is_json
+
+    def put(self, lines, objects):
+        """Tells this, now."""
+        if self.is_json:
+            say_objects(objects)
+        else:
+            say(lines)
+        sys.stdout.flush()
+
+    def head(self, head):
+        """Tells what the run is about."""
+        self.put([head.line()], [{"host": head.host, "by": head.by, "places": head.count, "left_out": head.left_out}])
+
+    def work(self, work, leftovers):
+        """Tells the steps."""
+        lines = [f"{Do.REMOVE.value} {printable(it)}: {LEFT}" for it in leftovers]
+        objects = [{"do": Do.REMOVE.value, "path": it, "why": LEFT} for it in leftovers]
+        self.put([*lines, *work.lines()], [*objects, *work.objects()])
+
+    def effects(self, effects, host):
+        """Tells what changes for units, and what is to be done then."""
+        changes, deeds = effects.changes, {it: those for it, those in effects.deeds.items() if those}
+        lines = [line for at, those in changes.items() for line in (at, *(line for it in those for line in it.lines()))]
+        lines += [f"{it}: {' '.join(those)}" for it, those in deeds.items()]
+        self.put([Profile.MANAGER.head(), *lines] if lines else [],
+                 [*(it.object([host]) for those in changes.values() for it in those), *({"do": it, "units": those} for it, those in deeds.items())])
+
+    def left(self, steps):
+        """Tells the steps that weren't taken after all."""
+        kept = [Step(Do.KEEP, it.place, BY_NOW) for it in steps]
+        self.put([it.line() for it in kept], [it.object() for it in kept])
+
+    def counts(self, work, left, is_done):
+        """Tells how many places were written, removed and kept, or would be."""
+        written, removed = (sum(it.do is do and it not in left for it in work.steps) for do in (Do.WRITE, Do.REMOVE))
+        kept = len(work.done(Do.KEEP)) + len(left)
+        words = f"{written:,} written, {removed:,} removed" if is_done else f"nothing is written; {written:,} to write, {removed:,} to remove"
+        self.put([f"{words}, {kept:,} kept"], [{"written": written, "removed": removed, "kept": kept, "is_done": is_done}])
+
+
+def host_of(named, disk):
+    """The host for which a root is written, and by what it is known: the fleet where nothing names one."""
+    if named:
+        return named, "--host"
+    text = disk.text(HOSTNAME, MOST_HOSTNAME_BYTES)
+    rows = [it.split() for it in (text or b"").decode("utf-8", "surrogateescape").split("\n")]
+    words = [it[0] for it in rows if it and not it[0].startswith("#")]
+    found, by = (words[0], HOSTNAME) if words else (os.uname().nodename, "this machine's name") if disk.root == "/" else ("", "no host is named")
+    if found and not HOST.fullmatch(found):
+        raise Fault(f"{by}: {cut(found)}: no host's name: {HOST_RULE}; --host names one")
+    return found, by
+
+
+def tree_of(disk, progress):
+    """The tree below a root, without what runs left that were killed; an empty one where none of its directories is there."""
+    is_there = any(os.path.lexists(disk.root.rstrip("/") + it) for it in DIRECTORIES)
+    tree = read_tree(disk.root, "", progress) if is_there else Tree(disk.root)
+    tree.entries = {it: content for it, content in tree.entries.items() if not is_staged(it.name)}
+    progress.end()
+    for it in tree.told:
+        if it.grade is Grade.UNREAD:
+            tell(f"{it}: it isn't known what it does")
+    return tree
+
+
+def apply(asked, progress):
+    """`fleet apply`: writes what a host sees of a state into its folders."""
+    disk, node, report = Disk(asked.root), state_of(asked), Report(asked.json)
+    if asked.reload and disk.root != "/":
+        raise Fault("--reload is of the machine itself: it goes with no other --root")
+    if not asked.dry_run:
+        disk.lock(False)
+    host, by = host_of(asked.host, disk)
+    seen = node.tree(host)
+    ranks = range(len(DIRECTORIES) if asked.all_directories else 1)
+    wanted = {it: content for it, content in seen[0].items() if it.rank in ranks}
+    report.head(Head(host, by, len(seen[0]), len(seen[0]) - len(wanted)))
+    manifest, known = disk.manifest()
+    work, leftovers = work_of(wanted, disk.ground(wanted, manifest, ranks), manifest, ranks, asked.adopt), disk.leftovers(ranks)
+    report.work(work, leftovers)
+    against = told_before(asked, progress, report, work, (node, host, seen), tree_of(disk, progress) if work.changes() else None)
+    if asked.dry_run or against and not asked.force:
+        report.counts(work, [], False)
+        return Status.WRONG if against or work.done(Do.KEEP) else Status.WELL
+    return carried_out(asked, disk, report, work, known, leftovers)
+
+
+def told_before(asked, progress, report, work, state, tree):
+    """Tells what a work comes to, and why it is better not done. Whether it is."""
+    node, host, seen = state
+    program, against = program_of(False), []
+    if tree:
+        trees = tree, tree_after(tree, work)
+        effects = effects_of(program, progress, trees, asked.target)
+        report.effects(effects, host)
+        against += objections.of_plan(effects)
+    against += objections.of_crossed(node, host, seen, program, progress)
+    if tree and asked.verify:
+        against += objections.of_analyze(trees)
+    progress.end()
+    for it in against:
+        tell(f"apply: {it}")
+    if against:
+        tell("apply: --force: it is written all the same" if asked.force else "apply: nothing is written: --force writes all the same")
+    return bool(against)
+
+
+def carried_out(asked, disk, report, work, known, leftovers):
+    """Takes the steps of a work. The status."""
+    if not (work.is_needed() or leftovers):
+        report.counts(work, [], True)
+        return Status.WRONG if work.done(Do.KEEP) else Status.WELL
+    try:
+        left = carry_out(disk, work, known, leftovers)
+        report.left(left)
+        fault = reload_fault() if asked.reload else ""
+        if not fault:
+            disk.write_manifest(manifest_after(work, left))
+    except NotWritten as fault:
+        count = len(work.changes())
+        raise Fault(f"{fault}; {disk.taken:,} of {count:,} {'step is' if count == 1 else 'steps are'} done: apply again to do the rest") from fault
+    report.counts(work, left, True)
+    if fault:
+        tell(f"apply: {fault}; the next apply with --reload tries it again")
+    return Status.WRONG if fault or left or work.done(Do.KEEP) else Status.WELL
+
+
+def reload_fault():
+    """Lets the machine's manager read its units anew; why it didn't, or nothing."""
+    program = shutil.which(MANAGER)
+    if not program:
+        return f"{MANAGER} isn't on this machine"
+    try:
+        ran = subprocess.run([program, "daemon-reload"], stdin=subprocess.DEVNULL, stdout=subprocess.PIPE, stderr=subprocess.STDOUT, check=False,
+                             timeout=MOST_SECONDS)
+    except (OSError, subprocess.TimeoutExpired) as fault:
+        return f"{MANAGER} daemon-reload: {cut(str(fault))}"
+    told = ran.stdout.decode("utf-8", "surrogateescape").strip()
+    return f"{MANAGER} daemon-reload ended with status {ran.returncode}{f': {cut(told)}' if told else ''}" if ran.returncode else ""
