@@ -25,17 +25,21 @@ LEFT = "left by a run that was killed"
 
 @dataclass(frozen=True)
 class Head:
-    """What a run is about: the host and by what it is known, how many places it sees, and how many of these are in directories left out."""
+    """What a run is about: the host and by what it is known, how many places it sees, how many of these are in directories left out, and whether
+    it completes a run that was interrupted."""
 
     host: str
     by: str
     count: int
     left_out: int
+    is_begun: bool
 
-    def line(self):
-        """The line at the head."""
+    def lines(self):
+        """The lines at the head."""
         left_out = f"; {self.left_out:,} of them in directories that are left out (--all-directories)" if self.left_out else ""
-        return f"# {shown_host(self.host)} ({self.by}): {self.count:,} {'file or link' if self.count == 1 else 'files and links'}{left_out}"
+        yield f"# {shown_host(self.host)} ({self.by}): {self.count:,} {'file or link' if self.count == 1 else 'files and links'}{left_out}"
+        if self.is_begun:
+            yield "# an apply before this one was begun and not done"
 
 
 class Report:
@@ -54,7 +58,7 @@ class Report:
 
     def head(self, head):
         """Tells what the run is about."""
-        self.put([head.line()], [{"host": head.host, "by": head.by, "places": head.count, "left_out": head.left_out}])
+        self.put(head.lines(), [{"host": head.host, "by": head.by, "places": head.count, "left_out": head.left_out, "is_begun": head.is_begun}])
 
     def work(self, work, leftovers):
         """Tells the steps."""
@@ -69,6 +73,12 @@ class Report:
         lines += [f"{it}: {' '.join(those)}" for it, those in deeds.items()]
         self.put([Profile.MANAGER.head(), *lines] if lines else [],
                  [*(it.object([host]) for those in changes.values() for it in those), *({"do": it, "units": those} for it, those in deeds.items())])
+
+    def against(self, lines, words):
+        """Tells why the work is better not done, and what is done then."""
+        self.put([], [{"against": it} for it in lines])
+        for it in [*lines, *([words] if lines and words else [])]:
+            tell(f"apply: {it}")
 
     def left(self, steps):
         """Tells the steps that weren't taken after all."""
@@ -119,21 +129,21 @@ def apply(asked, progress):
     seen = node.tree(host)
     ranks = range(len(DIRECTORIES) if asked.all_directories else 1)
     wanted = {it: content for it, content in seen[0].items() if it.rank in ranks}
-    report.head(Head(host, by, len(seen[0]), len(seen[0]) - len(wanted)))
     manifest, known = disk.manifest()
+    report.head(Head(host, by, len(seen[0]), len(seen[0]) - len(wanted), manifest.is_begun))
     work, leftovers = work_of(wanted, disk.ground(wanted, manifest, ranks), manifest, ranks, asked.adopt), disk.leftovers(ranks)
     report.work(work, leftovers)
-    against = told_before(asked, progress, report, work, (node, host, seen), tree_of(disk, progress) if work.changes() else None)
+    against = told_before(asked, progress, report, (work, wanted), (node, host, seen), tree_of(disk, progress) if work.changes() else None)
     if asked.dry_run or against and not asked.force:
         report.counts(work, [], False)
         return Status.WRONG if against or work.done(Do.KEEP) else Status.WELL
     return carried_out(asked, disk, report, work, known, leftovers)
 
 
-def told_before(asked, progress, report, work, state, tree):
+def told_before(asked, progress, report, aim, state, tree):
     """Tells what a work comes to, and why it is better not done. Whether it is."""
-    node, host, seen = state
-    program, against = program_of(False), []
+    (work, wanted), (node, host, seen), program = aim, state, program_of(False)
+    against = objections.of_work(work, wanted)
     if tree:
         trees = tree, tree_after(tree, work)
         effects = effects_of(program, progress, trees, asked.target)
@@ -143,10 +153,8 @@ def told_before(asked, progress, report, work, state, tree):
     if tree and asked.verify:
         against += objections.of_analyze(trees)
     progress.end()
-    for it in against:
-        tell(f"apply: {it}")
-    if against:
-        tell("apply: --force: it is written all the same" if asked.force else "apply: nothing is written: --force writes all the same")
+    instead = "--force: it is written all the same" if asked.force else "nothing is written: --force writes all the same"
+    report.against(against, instead if work.is_needed() else "")
     return bool(against)
 
 

@@ -1,32 +1,42 @@
 """Why a work is better not done: a plan that is refused, units that a manager reads otherwise than the fleet's store, and what systemd-analyze says."""
-import os
 import shutil
 import tempfile
 
 from .. import verifying
 from ..answers import Answers, odd_sections
-from ..asking import NODE, Store, needed
+from ..asking import Store, needed
+from ..checks import numbered
 from ..exports import Writer
-from ..faults import Fault, cut
+from ..faults import Fault
 from ..places import Link, is_unit_name
 from ..profiles import Profile
 from ..refusals import Refusal
 from ..scripts import script_of
 from ..trees import Tree
 from ..visible import visible
+from .applying import Do
 from .files import HERE
 
 PULLING = ("Wants", "Requires", "Upholds")
 
 
+def of_work(work, wanted):
+    """That all is removed that the fleet wrote, if so: the state may be another one, or of other hosts."""
+    count = len(work.done(Do.REMOVE))
+    return [f"the state has nothing for this host, and all that the fleet wrote is to be removed: {numbered(count, 'place')}"] \
+        if count and not wanted else []
+
+
 def of_plan(effects):
     """That the target has no plan afterwards, if so."""
+    before = effects.before
     if not isinstance(effects.after, Refusal):
         return []
-    if effects.before == effects.after:
+    if before == effects.after:
         was = "it was so before"
-    elif isinstance(effects.before, Refusal):
-        was = f"before it was refused otherwise: {effects.before}"
+    elif isinstance(before, Refusal):
+        is_new = (before.code, before.told) == ("P2", (effects.target,))
+        was = f"{effects.target} is new" if is_new else f"before it was refused otherwise: {before}"
     else:
         was = "before there was one"
     return [f"no plan of {effects.target} {Profile.MANAGER.clause()}: {effects.after.reason(Profile.MANAGER)}; {was}"]
