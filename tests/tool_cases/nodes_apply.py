@@ -2,6 +2,10 @@
 import os
 import shutil
 import stat
+from contextlib import suppress
+
+from fleet_tools.nodes import applying, writing
+from fleet_tools.nodes.files import NodeFile
 
 from .bench import E, L, Link, R, U, same
 from .nodes_apply_bench import BOOT, MANIFEST, OWN, SERVICE, Applying, all_below, row, times_below
@@ -44,7 +48,7 @@ def all_directories(bench):
     """All four directories are written where that is asked for; a later run for etc alone leaves the others as they are, listed too."""
     it = Applying(bench)
     it.edit(*(f"put {at}/{name}.service {SERVICE}" for at, name in zip((E, R, L, U), "abcd")), f"put {U}/d.service.d/x.conf [Unit]\\n")
-    same(it.run("--all-directories").lines()[0], "# web1 (/etc/hostname): 5 files and links")
+    same(it.run("--all-directories").lines()[0], "# web1 (/etc/hostname), of which the state has nothing of its own: 5 files and links")
     rows = [row(f"{at}/{name}.service", TRUE) for at, name in zip((E, R, L, U), "abcd")] + [row(f"{U}/d.service.d/x.conf", "[Unit]\n")]
     same(it.manifest(), ["fleet-apply 1", *rows, f"folder {U}/d.service.d"])
     it.edit(f"remove {E}/a.service", f"remove {U}/d.service.d/x.conf", f"put {E}/z.service {SERVICE}")
@@ -55,16 +59,23 @@ def all_directories(bench):
 
 
 def which_host(bench):
-    """The host is the one that is named, else the first word of etc/hostname, else the fleet; a name that is none is told."""
+    """The host is the one that is named, else the first word of etc/hostname, else the fleet; of / it is this machine. That the state has nothing of
+    the host's own is told, and so is a name that is none."""
     it = Applying(bench)
+    machine = it.run("--root", "/", "--dry-run").lines()[0]
+    with suppress(FileNotFoundError), open("/etc/hostname", encoding="ascii") as file:
+        same(machine, f"# {file.read().split()[0]} (/etc/hostname), of which the state has nothing of its own: 0 files and links")
     it.edit(f"put {E}/a.service {SERVICE}", f"put web1:{E}/b.service {SERVICE}")
-    heads = [("--host", "web2", None, "web2 (--host): 1 file or link"), (None, None, b"# this machine\n\n  web1 more\n", "web1 (/etc/hostname): 2 files and links"),
-             (None, None, b"\n", "the fleet (no host is named): 1 file or link"), (None, None, None, "the fleet (no host is named): 1 file or link")]
-    for word, host, text, head in heads:
-        os.unlink(f"{it.root}/etc/hostname") if os.path.exists(f"{it.root}/etc/hostname") else None
-        if text is not None:
-            bench.tree("root", {"/etc/hostname": text})
-        same(it.run("--dry-run", *([word, host] if word else [])).lines()[0], f"# {head}")
+    nothing = ", of which the state has nothing of its own"
+    heads = [(["--host", "web2"], None, f"web2 (--host){nothing}: 1 file or link"), ([], "# this machine\n\n  web1 more\n", "web1 (/etc/hostname): 2 files and links"),
+             ([], "web\n", f"web (/etc/hostname){nothing}: 1 file or link"), ([], "\n", "the fleet (no host is named): 1 file or link"),
+             ([], "# web1\n", "the fleet (no host is named): 1 file or link")]
+    for words, text, head in heads:
+        os.unlink(f"{it.root}/etc/hostname")
+        bench.tree("root", {"/etc/hostname": text or ""})
+        same(it.run("--dry-run", *words).lines()[0], f"# {head}")
+    os.unlink(f"{it.root}/etc/hostname")
+    same(it.run("--dry-run").lines()[0], "# the fleet (no host is named): 1 file or link")
     bench.tree("root", {"/etc/hostname": "\xfc:x\n"})
     same(it.run(status=2).told(), ["apply: /etc/hostname: \\xc3\\xbc:x: no host's name: 1 to 64 ASCII letters, digits, dashes and dots; --host names one"])
 
@@ -222,7 +233,7 @@ def as_objects(bench):
     bench.tree("root", {f"{E}/.fleet-apply-0123456789abcdef": ""})
     lines = it.run("--json", status=1).lines()
     same(lines, [
-        '{"host": "web1", "by": "/etc/hostname", "places": 2, "left_out": 0, "is_begun": false}',
+        '{"host": "web1", "by": "/etc/hostname", "has_own": false, "places": 2, "left_out": 0, "is_begun": false}',
         f'{{"do": "remove", "path": "{E}/.fleet-apply-0123456789abcdef", "why": "left by a run that was killed"}}',
         f'{{"do": "write", "path": "{E}/a.service", "why": "changed"}}', f'{{"do": "remove", "path": "{E}/a.service.d/x.conf", "why": "the fleet has it no more"}}',
         f'{{"do": "remove", "path": "{E}/a.service.d/", "why": "empty"}}', f'{{"do": "keep", "path": "{E}/own.service", "why": "the fleet didn\'t write it"}}',
@@ -231,5 +242,34 @@ def as_objects(bench):
         '{"do": "reload", "units": ["a.service"]}', '{"do": "restart", "units": ["a.service"]}', '{"written": 1, "removed": 1, "kept": 1, "is_done": true}'])
 
 
+def what_differs(bench):
+    """What a root lacks of a host's tree, has otherwise, or has though the state removed it for the host, as `status` tells it."""
+    it = Applying(bench, {f"{E}/same": "S", f"{E}/other": "O", f"{E}/removed": "R", f"{E}/own": "O", f"{E}/folder/x": "X", f"{E}/gone/x": "X",
+                          f"{E}/theirs": "T", f"{E}/l": Link("a"), f"{E}/m": Link("b")})
+    it.edit(*(f"put {E}/{name} S" for name in ("same", "other", "lacks", "removed", "folder", "gone", "theirs")), f"link {E}/l a", f"link {E}/m a",
+            f"put {E}/was S", *(f"remove {E}/{name}" for name in ("removed", "gone", "was")), f"put web2:{E}/theirs X", f"remove web2:{E}/theirs",
+            f"put web1:{E}/mine X", f"remove web1:{E}/mine", f"put {E}/mine X", f"remove {E}/mine")
+    node = NodeFile(it.state)
+    wanted, removed = node.tree("web1")[0], applying.removed_places(node.held(), "web1")
+    same(sorted(str(place) for place in removed), [f"{E}/{name}" for name in ("gone", "mine", "removed", "was")])
+    found = writing.found_below(it.root, [*wanted, *removed])
+    same([(str(place), how) for place, how in applying.differing(wanted, removed, found)], [
+        (f"{E}/folder", "otherwise"), (f"{E}/lacks", "lacks"), (f"{E}/m", "otherwise"), (f"{E}/other", "otherwise"), (f"{E}/removed", "removed"),
+        (f"{E}/theirs", "otherwise")])
+
+
+def where_nobody_reads(bench):
+    """Where what is to be done can't be told, nothing is done."""
+    it = Applying(bench)
+    it.edit(f"put {E}/a.service {SERVICE}")
+    before = times_below(it.root)
+    ends = os.pipe()
+    os.close(ends[0])
+    with open("/dev/full", "wb") as full:
+        for at, status, told in ((ends[1], 1, []), (full, 2, ["apply: input or output: No space left on device"])):
+            same(bench.fleet(*it.words(), stdout=at, status=status).told(), told)
+            same(times_below(it.root), before)
+
+
 CASES = [written_for_a_host, all_directories, which_host, changed_and_removed, not_the_fleets, changed_since, in_the_way, what_is_told_is_what_is_done,
-         when_it_takes_effect, as_objects]
+         when_it_takes_effect, as_objects, what_differs, where_nobody_reads]

@@ -2,12 +2,12 @@
 import hashlib
 import io
 import os
-import signal
 import stat
 import subprocess
 import sys
 import tempfile
 import traceback
+from contextlib import suppress
 
 from fleet_tools import command_line, stops
 from fleet_tools.nodes.programs import program
@@ -23,30 +23,38 @@ OWN = "/var/lib/fleet-apply"
 MANIFEST = f"{OWN}/manifest"
 
 
-def forked(work, given=None):
-    """Does something in a process of its own, in which `given` was done before. How that ended, as a status or less than nothing for a signal."""
+def begun(work, given=None):
+    """Begins something in a process of its own, in a group of its own, in which `given` was done before: the process, and files with what it writes."""
     out, err = tempfile.TemporaryFile(), tempfile.TemporaryFile()
     sys.stdout.flush()
     at = os.fork()
-    if at == 0:
-        status = 70
-        try:
-            os.dup2(out.fileno(), 1)
-            os.dup2(err.fileno(), 2)
-            sys.stdout, sys.stderr = (io.TextIOWrapper(os.fdopen(it, "wb", closefd=False), "utf-8", "surrogateescape") for it in (1, 2))
-            if given:
-                given()
-            status = work()
-        except BaseException:
-            traceback.print_exc()
-        finally:
-            sys.stdout.flush()
-            sys.stderr.flush()
-            os._exit(status)
-    _, ended = os.waitpid(at, 0)
-    for it in (out, err):
+    if at:
+        with suppress(OSError):
+            os.setpgid(at, at)  # whoever of both comes first
+        return at, out, err
+    status = 70
+    try:
+        os.setpgid(0, 0)
+        os.dup2(out.fileno(), 1)
+        os.dup2(err.fileno(), 2)
+        sys.stdout, sys.stderr = (io.TextIOWrapper(os.fdopen(it, "wb", closefd=False), "utf-8", "surrogateescape") for it in (1, 2))
+        if given:
+            given()
+        status = work()
+    except BaseException:
+        traceback.print_exc()
+    finally:
+        sys.stdout.flush()
+        sys.stderr.flush()
+        os._exit(status)
+
+
+def ended(at, *written):
+    """How a process ended, as a status or less than nothing for a signal, with what it wrote."""
+    _, status = os.waitpid(at, 0)
+    for it in written:
         it.seek(0)
-    return Ran(os.waitstatus_to_exitcode(ended), out.read(), err.read())
+    return Ran(os.waitstatus_to_exitcode(status), *(it.read() for it in written))
 
 
 class Applying:
@@ -68,8 +76,8 @@ class Applying:
         """The words of a call."""
         return ["apply", "--state", self.state, "--root", self.root, *words]
 
-    def run(self, *words, status=0, given=None):
-        """Applies the state to the root."""
+    def begin(self, *words, given=None):
+        """Begins to apply the state to the root."""
 
         def work():
             os.environ["FLEET_SHELL"] = self.bench.program
@@ -79,7 +87,11 @@ class Applying:
                 except stops.Stopped as stop:
                     return stops.ended_by(stop.number)
 
-        found = forked(work, given)
+        return begun(work, given)
+
+    def run(self, *words, status=0, given=None):
+        """Applies the state to the root."""
+        found = ended(*self.begin(*words, given=given))
         if status is not None:
             same(found.status, status, f"status of {words}: {found}")
         return found

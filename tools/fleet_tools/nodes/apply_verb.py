@@ -4,9 +4,10 @@ import shutil
 import subprocess
 import sys
 from dataclasses import dataclass
+from typing import Dict, List
 
 from ..faults import Fault, Status, cut, printable
-from ..places import DIRECTORIES, HOST, HOST_RULE
+from ..places import DIRECTORIES, HOST, HOST_RULE, Content, Place
 from ..profiles import Profile
 from ..program import program_of
 from ..reports import say, say_objects, shown_host, tell
@@ -14,6 +15,7 @@ from ..trees import Grade, Tree, read_tree
 from . import objections
 from .applying import BY_NOW, Do, Step, is_staged, tree_after, work_of
 from .effects import effects_of
+from .files import NodeFile
 from .verbs import state_of
 from .writing import Disk, NotWritten, carry_out, manifest_after
 
@@ -21,25 +23,38 @@ HOSTNAME = "/etc/hostname"
 MOST_HOSTNAME_BYTES = 4_096
 MANAGER, MOST_SECONDS = "systemctl", 600
 LEFT = "left by a run that was killed"
+BEGUN = "# an apply before this one was begun and not done"
 
 
 @dataclass(frozen=True)
-class Head:
-    """What a run is about: the host and by what it is known, how many places it sees, how many of these are in directories left out, and whether
-    it completes a run that was interrupted."""
+class Aim:
+    """What a run is about: the state, the host and by what it is known, whether the state has anything of its own for it, what it sees, with crossed
+    units, and of that what is to be written, in the directories of these ranks."""
 
+    node: NodeFile
     host: str
     by: str
-    count: int
-    left_out: int
-    is_begun: bool
+    has_own: bool
+    entries: Dict[Place, Content]
+    crossed: List[str]
+    ranks: range
 
-    def lines(self):
-        """The lines at the head."""
-        left_out = f"; {self.left_out:,} of them in directories that are left out (--all-directories)" if self.left_out else ""
-        yield f"# {shown_host(self.host)} ({self.by}): {self.count:,} {'file or link' if self.count == 1 else 'files and links'}{left_out}"
-        if self.is_begun:
-            yield "# an apply before this one was begun and not done"
+    def wanted(self):
+        """What is to be written, by place."""
+        return {it: content for it, content in self.entries.items() if it.rank in self.ranks}
+
+    def head(self):
+        """The line at the head."""
+        count, left_out = len(self.entries), len(self.entries) - len(self.wanted())
+        words = [f"# {shown_host(self.host)} ({self.by})", ", of which the state has nothing of its own" if self.host and not self.has_own else "",
+                 f": {count:,} {'file or link' if count == 1 else 'files and links'}",
+                 f"; {left_out:,} of them in directories that are left out (--all-directories)" if left_out else ""]
+        return "".join(words)
+
+    def object(self):
+        """The object of the same."""
+        count = len(self.entries)
+        return {"host": self.host, "by": self.by, "has_own": self.has_own, "places": count, "left_out": count - len(self.wanted())}
 
 
 class Report:
@@ -56,9 +71,9 @@ class Report:
             say(lines)
         sys.stdout.flush()
 
-    def head(self, head):
-        """Tells what the run is about."""
-        self.put(head.lines(), [{"host": head.host, "by": head.by, "places": head.count, "left_out": head.left_out, "is_begun": head.is_begun}])
+    def head(self, aim, manifest):
+        """Tells what the run is about, and whether one before it wasn't done."""
+        self.put([aim.head(), *([BEGUN] if manifest.is_begun else [])], [{**aim.object(), "is_begun": manifest.is_begun}])
 
     def work(self, work, leftovers):
         """Tells the steps."""
@@ -118,38 +133,42 @@ def tree_of(disk, progress):
     return tree
 
 
+def aim_of(asked, disk):
+    """What a run is about."""
+    node, (host, by) = state_of(asked), host_of(asked.host, disk)
+    entries, crossed = node.tree(host)
+    has_own = any(it.place.startswith(f"{host}:") for it in node.held()) if host else False
+    return Aim(node, host, by, has_own, entries, crossed, range(len(DIRECTORIES) if asked.all_directories else 1))
+
+
 def apply(asked, progress):
     """`fleet apply`: writes what a host sees of a state into its folders."""
-    disk, node, report = Disk(asked.root), state_of(asked), Report(asked.json)
+    disk, report = Disk(asked.root), Report(asked.json)
     if asked.reload and disk.root != "/":
         raise Fault("--reload is of the machine itself: it goes with no other --root")
     if not asked.dry_run:
         disk.lock(False)
-    host, by = host_of(asked.host, disk)
-    seen = node.tree(host)
-    ranks = range(len(DIRECTORIES) if asked.all_directories else 1)
-    wanted = {it: content for it, content in seen[0].items() if it.rank in ranks}
-    manifest, known = disk.manifest()
-    report.head(Head(host, by, len(seen[0]), len(seen[0]) - len(wanted), manifest.is_begun))
-    work, leftovers = work_of(wanted, disk.ground(wanted, manifest, ranks), manifest, ranks, asked.adopt), disk.leftovers(ranks)
+    aim, (manifest, known) = aim_of(asked, disk), disk.manifest()
+    report.head(aim, manifest)
+    ground, leftovers = disk.ground(aim.wanted(), manifest, aim.ranks), disk.leftovers(aim.ranks)
+    work = work_of(aim.wanted(), ground, manifest, aim.ranks, asked.adopt)
     report.work(work, leftovers)
-    against = told_before(asked, progress, report, (work, wanted), (node, host, seen), tree_of(disk, progress) if work.changes() else None)
-    if asked.dry_run or against and not asked.force:
+    is_against = told_before(asked, progress, report, aim, work, tree_of(disk, progress) if work.changes() else None)
+    if asked.dry_run or is_against and not asked.force:
         report.counts(work, [], False)
-        return Status.WRONG if against or work.done(Do.KEEP) else Status.WELL
+        return Status.WRONG if is_against and not asked.force or work.done(Do.KEEP) else Status.WELL
     return carried_out(asked, disk, report, work, known, leftovers)
 
 
-def told_before(asked, progress, report, aim, state, tree):
-    """Tells what a work comes to, and why it is better not done. Whether it is."""
-    (work, wanted), (node, host, seen), program = aim, state, program_of(False)
-    against = objections.of_work(work, wanted)
+def told_before(asked, progress, report, aim, work, tree):
+    """Tells what a work comes to, of a tree that it changes, and why it is better not done. Whether it is."""
+    program, against = program_of(False), objections.of_work(work, aim.wanted())
     if tree:
         trees = tree, tree_after(tree, work)
         effects = effects_of(program, progress, trees, asked.target)
-        report.effects(effects, host)
+        report.effects(effects, aim.host)
         against += objections.of_plan(effects)
-    against += objections.of_crossed(node, host, seen, program, progress)
+    against += objections.of_crossed(aim, program, progress)
     if tree and asked.verify:
         against += objections.of_analyze(trees)
     progress.end()
@@ -160,18 +179,17 @@ def told_before(asked, progress, report, aim, state, tree):
 
 def carried_out(asked, disk, report, work, known, leftovers):
     """Takes the steps of a work. The status."""
-    if not (work.is_needed() or leftovers):
-        report.counts(work, [], True)
-        return Status.WRONG if work.done(Do.KEEP) else Status.WELL
-    try:
-        left = carry_out(disk, work, known, leftovers)
-        report.left(left)
-        fault = reload_fault() if asked.reload else ""
-        if not fault:
-            disk.write_manifest(manifest_after(work, left))
-    except NotWritten as fault:
-        count = len(work.changes())
-        raise Fault(f"{fault}; {disk.taken:,} of {count:,} {'step is' if count == 1 else 'steps are'} done: apply again to do the rest") from fault
+    left, fault = [], ""
+    if work.is_needed() or leftovers:
+        try:
+            left = carry_out(disk, work, known, leftovers)
+            fault = reload_fault() if asked.reload else ""
+            if not fault:
+                disk.write_manifest(manifest_after(work, left))
+        except NotWritten as why:
+            count = len(work.changes())
+            raise Fault(f"{why}; {disk.taken:,} of {count:,} {'step is' if count == 1 else 'steps are'} done: apply again to do the rest") from why
+    report.left(left)
     report.counts(work, left, True)
     if fault:
         tell(f"apply: {fault}; the next apply with --reload tries it again")

@@ -1,6 +1,8 @@
 """Why a work is better not done: a plan that is refused, units that a manager reads otherwise than the fleet's store, and what systemd-analyze says."""
+import re
 import shutil
 import tempfile
+from collections import Counter
 
 from .. import verifying
 from ..answers import Answers, odd_sections
@@ -17,6 +19,7 @@ from ..visible import visible
 from .applying import Do
 from .files import HERE
 
+LINE = re.compile(":[0-9]+:")
 PULLING = ("Wants", "Requires", "Upholds")
 
 
@@ -42,14 +45,14 @@ def of_plan(effects):
     return [f"no plan of {effects.target} {Profile.MANAGER.clause()}: {effects.after.reason(Profile.MANAGER)}; {was}"]
 
 
-def of_crossed(node, host, seen, program, progress):
+def of_crossed(aim, program, progress):
     """The units that a manager reads of a host's tree otherwise than the fleet's store does for the host, with the places of both."""
-    entries, crossed = seen
+    node, entries, crossed = aim.node, aim.entries, aim.crossed
     if not crossed:
         return []
     alone = Store(program, progress, [Tree("", "", entries)], [""], None, Profile.FILES).shown("", crossed)
     known = {it.place for it in node.held()}
-    written = node.run("run", given=script_of([f"show {HERE}@{host} {it}".encode("ascii") for it in crossed]))
+    written = node.run("run", given=script_of([f"show {HERE}@{aim.host} {it}".encode("ascii") for it in crossed]))
     answers = Answers(written, known, odd_sections(it for it in entries.values() if not isinstance(it, Link)))
     stored = {it: needed(answers.unit(), it) for it in crossed}
     answers.ended()
@@ -71,12 +74,17 @@ def others(stored, alone):
 
 
 def of_analyze(trees):
-    """What systemd-analyze says of the second tree that it doesn't say of the first."""
+    """What systemd-analyze says of the second tree that it doesn't say of the first, on whatever line of a file."""
     program = shutil.which(verifying.ASKED)
     if not program:
         raise Fault(f"--verify: {verifying.ASKED} isn't on this machine")
     before, after = (said(program, it) for it in trees)
-    return [f"{verifying.ASKED}: {it}" for it in after if it not in before]
+    known, found = Counter(LINE.sub(":", it) for it in before), []
+    for it in after:
+        key = LINE.sub(":", it)
+        found += [] if known[key] else [f"{verifying.ASKED}: {it}"]
+        known[key] -= 1 if known[key] else 0
+    return found
 
 
 def said(program, tree):
