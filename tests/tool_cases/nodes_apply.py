@@ -67,7 +67,8 @@ def which_host(bench):
         same(machine, f"# {file.read().split()[0]} (/etc/hostname), of which the state has nothing of its own: 0 files and links")
     it.edit(f"put {E}/a.service {SERVICE}", f"put web1:{E}/b.service {SERVICE}")
     nothing = ", of which the state has nothing of its own"
-    heads = [(["--host", "web2"], None, f"web2 (--host){nothing}: 1 file or link"), ([], "# this machine\n\n  web1 more\n", "web1 (/etc/hostname): 2 files and links"),
+    heads = [(["--host", "web2"], None, f"web2 (--host){nothing}: 1 file or link"), ([], "# this machine\n\n  web1 more\n",
+        "web1 (/etc/hostname): 2 files and links"),
              ([], "web\n", f"web (/etc/hostname){nothing}: 1 file or link"), ([], "\n", "the fleet (no host is named): 1 file or link"),
              ([], "# web1\n", "the fleet (no host is named): 1 file or link")]
     for words, text, head in heads:
@@ -77,25 +78,29 @@ def which_host(bench):
     os.unlink(f"{it.root}/etc/hostname")
     same(it.run("--dry-run").lines()[0], "# the fleet (no host is named): 1 file or link")
     bench.tree("root", {"/etc/hostname": "\xfc:x\n"})
-    same(it.run(status=2).told(), ["apply: /etc/hostname: \\xc3\\xbc:x: no host's name: 1 to 64 ASCII letters, digits, dashes and dots; --host names one"])
+    same(it.run(status=2).told(),
+         ["apply: /etc/hostname: \\xc3\\xbc:x: no host's name: 1 to 64 ASCII letters, digits, dashes and dots; --host names one"])
 
 
 def changed_and_removed(bench):
     """What the fleet changed is changed and what it removed is removed, with folders that it made and that are empty then; folders that were
     there before stay, and so do those in which something of others is, until that is gone."""
     it = Applying(bench, {f"{E}/old.service.d": None})
-    it.edit(*(f"put {E}/{name} [Unit]\\n" for name in ("a.service", "b.service", "old.service.d/x.conf", "new.service.d/x.conf", "full.service.d/x.conf")),
+    it.edit(*(f"put {E}/{name} [Unit]\\n" for name in ("a.service", "b.service", "old.service.d/x.conf", "new.service.d/x.conf",
+                                                       "full.service.d/x.conf")),
             f"link {E}/a.service.wants/l.service ../l.service", f"link {E}/l.service a.service")
     it.run()
     bench.tree("root", {f"{E}/full.service.d/own.conf": "[Unit]\n"})
     it.edit(f"put {E}/a.service {SERVICE}", f"link {E}/l.service b.service", *(f"remove {E}/{name}" for name in (
         "b.service", "old.service.d/x.conf", "new.service.d/x.conf", "full.service.d/x.conf", "a.service.wants/l.service")))
     lines = it.run().lines()
-    same(lines[1:10], [f"write {E}/a.service: changed", f"write {E}/l.service: changed", *(f"remove {E}/{name}: the fleet has it no more" for name in (
+    same(lines[1:10],
+         [f"write {E}/a.service: changed", f"write {E}/l.service: changed", *(f"remove {E}/{name}: the fleet has it no more" for name in (
         "b.service", "a.service.wants/l.service", "full.service.d/x.conf", "new.service.d/x.conf", "old.service.d/x.conf")),
         f"remove {E}/a.service.wants/: empty", f"remove {E}/new.service.d/: empty"])
     same(lines[-1], "2 written, 5 removed, 0 kept")
-    same(sorted(path for path in all_below(it.root + E)), ["/a.service", "/full.service.d", "/full.service.d/own.conf", "/l.service", "/old.service.d"])
+    same(sorted(path for path in all_below(it.root + E)), ["/a.service", "/full.service.d", "/full.service.d/own.conf", "/l.service",
+                                                           "/old.service.d"])
     same(it.manifest()[1:], [row(f"{E}/a.service", TRUE), row(f"{E}/l.service", Link("b.service")), f"folder {E}/full.service.d"])
     os.unlink(f"{it.root}{E}/full.service.d/own.conf")
     same(it.run().lines()[1:], [f"remove {E}/full.service.d/: empty", "0 written, 0 removed, 0 kept"])
@@ -119,7 +124,8 @@ def not_the_fleets(bench):
     it.edit(f"put {E}/same.service {SERVICE}")
     same([line for line in it.run("--adopt").lines() if line.startswith(("write", "keep", "5", "4"))],
          [*(f"write {path}: taken over" for path in names), "4 written, 0 removed, 0 kept"])
-    same(it.manifest()[1:], [row(path, Link("same.service") if "samelink" in path else TRUE) for path in sorted([*names, f"{E}/same.service", f"{E}/samelink.service"])])
+    same(it.manifest()[1:], [row(path, Link("same.service") if "samelink" in path else TRUE) for path in sorted([*names, f"{E}/same.service",
+        f"{E}/samelink.service"])])
     it.edit(f"remove {E}/same.service", f"remove {E}/file.service")
     it.run()
     same([os.path.lexists(f"{it.root}{E}/{name}.service") for name in ("same", "file", "own", "masked")], [False, False, True, True])
@@ -159,11 +165,13 @@ def in_the_way(bench):
     something else that is wanted isn't written."""
     it = Applying(bench, {f"{E}/folder.service/x": "X", f"{E}/file.service.d": "F"})
     os.mkfifo(f"{it.root}{E}/pipe.service")
-    it.edit(f"put {E}/folder.service {SERVICE}", f"put {E}/pipe.service {SERVICE}", f"put {E}/file.service.d/x.conf {SERVICE}", f"put {E}/two {SERVICE}",
+    it.edit(f"put {E}/folder.service {SERVICE}", f"put {E}/pipe.service {SERVICE}", f"put {E}/file.service.d/x.conf {SERVICE}",
+            f"put {E}/two {SERVICE}",
             f"put {E}/two/x {SERVICE}", f"put {E}/.fleet-apply-0123456789abcdef X", f"put {E}/.fleet-apply-x X")
     kept = [f"keep {E}/.fleet-apply-0123456789abcdef: apply has names of this kind for what isn't in its place yet",
             f"keep {E}/folder.service: a folder stands there", f"keep {E}/pipe.service: neither a file nor a link stands there",
-            f"keep {E}/file.service.d/x.conf: {E}/file.service.d is no folder", f"keep {E}/two/x: a file, a link or a folder can't have the name of another"]
+            f"keep {E}/file.service.d/x.conf: {E}/file.service.d is no folder",
+            f"keep {E}/two/x: a file, a link or a folder can't have the name of another"]
     before = all_below(it.root)
     for words in ([], ["--adopt"], ["--adopt", "--force"]):
         lines = it.run(*words, status=1).lines()
@@ -173,7 +181,8 @@ def in_the_way(bench):
          {f"{E}/two": (0o644, TRUE.encode()), f"{E}/.fleet-apply-x": (0o644, b"X")})
     # a file becomes a folder, and a folder a file, in two runs
     it = Applying(bench, name="other")
-    it.edit(*(f"remove {E}/{name}" for name in ("folder.service", "pipe.service", "file.service.d/x.conf", "two", "two/x", ".fleet-apply-0123456789abcdef")),
+    it.edit(*(f"remove {E}/{name}" for name in ("folder.service", "pipe.service", "file.service.d/x.conf", "two", "two/x",
+                                                ".fleet-apply-0123456789abcdef")),
             f"put {E}/a A", f"put {E}/b/x X")
     it.run()
     it.edit(f"remove {E}/a", f"remove {E}/b/x", f"put {E}/a/x X", f"put {E}/b B")
@@ -185,12 +194,15 @@ def in_the_way(bench):
 
 def what_is_told_is_what_is_done(bench):
     """The differences that are told before are those that `fleet diff` finds afterwards; a dry run tells the same and writes nothing."""
-    it = Applying(bench, {**BOOT, f"{E}/foreign.service": TRUE, f"{E}/foreign.service.d/x.conf": "[Unit]\nDescription=Y\n", f"{E}/left.service.d": None})
-    it.edit(*FLEETS, f"put {E}/foreign.service [Unit]\\n", f"put {E}/default.target [Unit]\\nWants=a.service t.timer\\n", f"put {E}/t.timer [Timer]\\nOnBootSec=1\\n",
+    it = Applying(bench, {**BOOT, f"{E}/foreign.service": TRUE, f"{E}/foreign.service.d/x.conf": "[Unit]\nDescription=Y\n",
+                          f"{E}/left.service.d": None})
+    it.edit(*FLEETS, f"put {E}/foreign.service [Unit]\\n", f"put {E}/default.target [Unit]\\nWants=a.service t.timer\\n",
+            f"put {E}/t.timer [Timer]\\nOnBootSec=1\\n",
             f"put {E}/t.service {SERVICE}", f"put {E}/t@.service {SERVICE}", f"link {E}/left.service.d/y.conf /dev/null")
     it.run(status=1)
     it.edit(f"put {E}/a.service [Unit]\\nAfter=foreign.service\\n[Service]\\nExecStart=/bin/false\\n", f"put {E}/t.timer [Timer]\\nOnBootSec=2\\n",
-            f"remove {E}/alias.service", f"put {E}/t@.service [Unit]\\n", f"put {E}/new.service {SERVICE}", f"link {E}/default.target.wants/new.service ../new.service",
+            f"remove {E}/alias.service", f"put {E}/t@.service [Unit]\\n", f"put {E}/new.service {SERVICE}",
+            f"link {E}/default.target.wants/new.service ../new.service",
             f"remove web1:{E}/b.service", f"put web1:{E}/a.service.d/x.conf [Unit]\\nDescription=Z\\n", f"remove {E}/t.service")
     for words, steps in (((), 9), (("--adopt",), 1)):
         copy = bench.path(f"copy{steps}")
@@ -201,22 +213,27 @@ def what_is_told_is_what_is_done(bench):
         ran = it.run(*words, status=0 if words else 1)
         same(ran.lines()[:-1], dry.lines()[:-1])
         count = len([line for line in ran.lines() if line.startswith(("write ", "remove "))])
-        same((count, dry.lines()[-1]), (steps, f"nothing is written; {ran.lines()[-1].replace('written', 'to write').replace('removed', 'to remove')}"))
+        same((count, dry.lines()[-1]),
+             (steps, f"nothing is written; {ran.lines()[-1].replace('written', 'to write').replace('removed', 'to remove')}"))
         told = [line for line in ran.lines()[1:-1] if line.split(" ")[0] not in ("write", "remove", "keep", "reload:", "restart:", "stop:", "start:")]
         same(told, bench.fleet("diff", copy, it.root, status=1).lines())
 
 
 def when_it_takes_effect(bench):
-    """Units whose files change are to be reloaded, those whose own section changes restarted, those that the target starts anew started, and those that
-    are gone or started no more stopped."""
+    """Units whose files change are to be reloaded, those whose own section changes restarted, those that the target starts anew started, and those
+    that are gone or started no more stopped."""
     it = Applying(bench, BOOT)
     it.edit(*(f"put {E}/{name}.service {SERVICE}" for name in ("edited", "described", "gone", "masked", "dropped", "ordered", "same")),
-            f"put {E}/x.socket [Socket]\\nListenStream=1\\n", f"put {E}/y.slice [Slice]\\nMemoryMax=1\\n", f"link {E}/multi-user.target.wants/gone.service ../gone.service",
-            f"link {E}/multi-user.target.wants/dropped.service ../dropped.service", f"link {E}/multi-user.target.wants/edited.service ../edited.service")
+            f"put {E}/x.socket [Socket]\\nListenStream=1\\n", f"put {E}/y.slice [Slice]\\nMemoryMax=1\\n",
+            f"link {E}/multi-user.target.wants/gone.service ../gone.service",
+            f"link {E}/multi-user.target.wants/dropped.service ../dropped.service",
+            f"link {E}/multi-user.target.wants/edited.service ../edited.service")
     it.run()
-    it.edit(f"put {E}/edited.service [Service]\\nExecStart=/bin/false\\n", f"put {E}/described.service [Unit]\\nDescription=D\\n{SERVICE}", f"remove {E}/gone.service",
+    it.edit(f"put {E}/edited.service [Service]\\nExecStart=/bin/false\\n", f"put {E}/described.service [Unit]\\nDescription=D\\n{SERVICE}",
+            f"remove {E}/gone.service",
             f"put {E}/masked.service", f"remove {E}/multi-user.target.wants/dropped.service", f"put {E}/x.socket [Socket]\\nListenStream=2\\n",
-            f"put {E}/y.slice [Slice]\\nMemoryMax=2\\n", f"put {E}/ordered.service [Unit]\\nAfter=same.service\\n{SERVICE}", f"put {E}/new.service {SERVICE}",
+            f"put {E}/y.slice [Slice]\\nMemoryMax=2\\n", f"put {E}/ordered.service [Unit]\\nAfter=same.service\\n{SERVICE}",
+            f"put {E}/new.service {SERVICE}",
             f"link {E}/multi-user.target.wants/new.service ../new.service")
     lines = it.run().lines()
     same([line for line in lines if line.partition(":")[0] in ("reload", "restart", "stop", "start")], [
@@ -235,11 +252,14 @@ def as_objects(bench):
     same(lines, [
         '{"host": "web1", "by": "/etc/hostname", "has_own": false, "places": 2, "left_out": 0, "is_begun": false}',
         f'{{"do": "remove", "path": "{E}/.fleet-apply-0123456789abcdef", "why": "left by a run that was killed"}}',
-        f'{{"do": "write", "path": "{E}/a.service", "why": "changed"}}', f'{{"do": "remove", "path": "{E}/a.service.d/x.conf", "why": "the fleet has it no more"}}',
-        f'{{"do": "remove", "path": "{E}/a.service.d/", "why": "empty"}}', f'{{"do": "keep", "path": "{E}/own.service", "why": "the fleet didn\'t write it"}}',
+        f'{{"do": "write", "path": "{E}/a.service", "why": "changed"}}',
+        f'{{"do": "remove", "path": "{E}/a.service.d/x.conf", "why": "the fleet has it no more"}}',
+        f'{{"do": "remove", "path": "{E}/a.service.d/", "why": "empty"}}',
+        f'{{"do": "keep", "path": "{E}/own.service", "why": "the fleet didn\'t write it"}}',
         f'{{"at": "a.service", "field": "drop-ins", "before": ["{E}/a.service.d/x.conf"], "after": [], "hosts": ["web1"]}}',
         '{"at": "a.service", "field": "Service.ExecStart", "before": ["/bin/true"], "after": ["/bin/false"], "hosts": ["web1"]}',
-        '{"do": "reload", "units": ["a.service"]}', '{"do": "restart", "units": ["a.service"]}', '{"written": 1, "removed": 1, "kept": 1, "is_done": true}'])
+        '{"do": "reload", "units": ["a.service"]}', '{"do": "restart", "units": ["a.service"]}',
+        '{"written": 1, "removed": 1, "kept": 1, "is_done": true}'])
 
 
 def what_differs(bench):
@@ -267,9 +287,10 @@ def where_nobody_reads(bench):
     os.close(ends[0])
     with open("/dev/full", "wb") as full:
         for at, status, told in ((ends[1], 1, []), (full, 2, ["apply: input or output: No space left on device"])):
-            same(bench.fleet(*it.words(), stdout=at, status=status).told(), told)
+            same(bench.fleet(*it.words(), stdout=at, status=status, env={"PYTHONUNBUFFERED": ""}).told(), told)
             same(times_below(it.root), before)
 
 
-CASES = [written_for_a_host, all_directories, which_host, changed_and_removed, not_the_fleets, changed_since, in_the_way, what_is_told_is_what_is_done,
+CASES = [written_for_a_host, all_directories, which_host, changed_and_removed, not_the_fleets, changed_since, in_the_way,
+         what_is_told_is_what_is_done,
          when_it_takes_effect, as_objects, what_differs, where_nobody_reads]

@@ -24,7 +24,8 @@ MANIFEST = f"{OWN}/manifest"
 
 
 def begun(work, given=None):
-    """Begins something in a process of its own, in a group of its own, in which `given` was done before: the process, and files with what it writes."""
+    """Begins something in a process of its own and in a group of its own, in which `given` was done before: the process, and files with what it
+    writes."""
     out, err = tempfile.TemporaryFile(), tempfile.TemporaryFile()
     sys.stdout.flush()
     at = os.fork()

@@ -25,7 +25,8 @@ def refused_plans(bench):
     same(it.run().told(), [])
     it.edit(f"put {E}/a.service [Unit]\\nAfter=b.service\\nRequires=b.service\\n[Service]\\nExecStart=/bin/true\\n",
             f"put {E}/b.service [Unit]\\nAfter=a.service\\n{SERVICE}")
-    before, cycle = times_below(it.root), "P8 Cycle a.service b.service: they wait for each other: a.service before b.service, b.service before a.service"
+    before, cycle = times_below(it.root),
+    "P8 Cycle a.service b.service: they wait for each other: a.service before b.service, b.service before a.service"
     why = "apply: no plan of default.target (profile manager): "
     ran = it.run(status=1)
     same((ran.told(), ran.lines()[-1]), ([f"{why}{cycle}; before there was one", INSTEAD], "nothing is written; 2 to write, 0 to remove, 0 kept"))
@@ -37,7 +38,8 @@ def refused_plans(bench):
     it.edit(f"remove {E}/a.service")
     same(it.run(status=1).told(), [f"{why}P2 NotFound a.service: it has no file; before it was refused otherwise: {cycle}", INSTEAD])
     it.edit(f"remove {E}/default.target", f"put {E}/multi-user.target [Unit]\\nRequires=a.service\\n")
-    same(it.run(status=1).told(), ["apply: no plan of multi-user.target (profile manager): P2 NotFound a.service: it has no file; before there was one", INSTEAD])
+    same(it.run(status=1).told(),
+         ["apply: no plan of multi-user.target (profile manager): P2 NotFound a.service: it has no file; before there was one", INSTEAD])
 
 
 def crossed_units(bench):
@@ -52,7 +54,8 @@ def crossed_units(bench):
     same(it.run("--host", "web2", "--dry-run").told(), [])
     same(it.run("--force").told(), [why, "apply: --force: it is written all the same"])
     same(it.run(status=1).told(), [why])
-    it.edit(f"remove web1:{E}/b.service.d/x.conf", f"link {E}/a.service.wants/c.service ../c.service", f"link web1:{E}/b.service.wants/c.service /dev/null")
+    it.edit(f"remove web1:{E}/b.service.d/x.conf", f"link {E}/a.service.wants/c.service ../c.service",
+            f"link web1:{E}/b.service.wants/c.service /dev/null")
     same(it.run(status=1).told(), ["apply: a.service: crossed: Wants=c.service by the written tree alone", INSTEAD])
 
 
@@ -78,7 +81,8 @@ def systemd_analyze(bench):
     it = Applying(bench, {**BOOT, f"{E}/old.service": "[Service]\nExecStart=./old\n"})
     it.edit(f"put {E}/a.service {SERVICE}", f"put {E}/a.service.d/x.conf [Service]\\nUser=x\\n", f"link {E}/b.service a.service")
     same(it.run("--verify").told(), [])
-    ran = subprocess.run(["systemd-analyze", "verify", "--man=no", f"--root={os.path.realpath(it.root)}", "a.service"], capture_output=True, check=False)
+    ran = subprocess.run(["systemd-analyze", "verify", "--man=no", f"--root={os.path.realpath(it.root)}", "a.service"], capture_output=True,
+                         check=False)
     said = [line for line in (ran.stdout + ran.stderr).decode().split("\n") if line and "is not executable" not in line]
     same([line for line in said if "a.service" in line], [])
     it.edit(f"put {E}/a.service [Service]\\nExecStart=./new\\n")
@@ -95,7 +99,8 @@ def systemd_analyze(bench):
 def links_that_lead_away(bench):
     """Nothing is written, removed or made through a link of the root: not through a directory, one above it or a folder that is one, nor through one
     at a place of its own; nothing outside is changed."""
-    outside = bench.tree("outside", {"/system/x.d/k.conf": "K", "/system/a.service": "OUT", "/file": "F", f"{OWN}/manifest": "fleet-apply 1\n", "/d/none": ""})
+    outside = bench.tree("outside", {"/system/x.d/k.conf": "K", "/system/a.service": "OUT", "/file": "F", f"{OWN}/manifest": "fleet-apply 1\n",
+                                     "/d/none": ""})
     edits = (f"put {E}/a.service {SERVICE}", f"put {E}/x.d/y.conf Y", f"put {E}/w.service {SERVICE}")
     before = all_below(outside)
     away = {"etc": ({"/etc": Link(outside)}, "/etc is a link"), "systemd": ({"/etc/systemd": Link(outside)}, "/etc/systemd is a link"),
@@ -110,16 +115,20 @@ def links_that_lead_away(bench):
         for words in ([], ["--adopt", "--force"]):
             lines = it.run("--host", "web1", *words, status=1).lines()
             same([line for line in lines if not line.startswith("#")], [
-                *(f"keep {E}/{place}: {why}, through which nothing is written" for place in ("a.service", "w.service", "x.d/y.conf")), "0 written, 0 removed, 3 kept"])
+                *(f"keep {E}/{place}: {why}, through which nothing is written" for place in ("a.service", "w.service", "x.d/y.conf")),
+                "0 written, 0 removed, 3 kept"])
         same(all_below(outside), before)
-    it = Applying(bench, {f"{E}/x.d": Link(f"{outside}/system/x.d"), f"{E}/a.service": Link(f"{outside}/file"), f"{E}/dangling.service": Link(f"{outside}/new"),
-                          f"{E}/.fleet-apply-0123456789abcdef": Link(f"{outside}/d"), f"{E}/z.d/.fleet-apply-0123456789abcdee": Link(f"{outside}/file")}, "folder")
+    it = Applying(bench, {f"{E}/x.d": Link(f"{outside}/system/x.d"), f"{E}/a.service": Link(f"{outside}/file"),
+                          f"{E}/dangling.service": Link(f"{outside}/new"),
+                          f"{E}/.fleet-apply-0123456789abcdef": Link(f"{outside}/d"),
+                          f"{E}/z.d/.fleet-apply-0123456789abcdee": Link(f"{outside}/file")}, "folder")
     it.edit(f"put {E}/dangling.service {SERVICE}")
     same([line for line in it.run(status=1).lines() if line.startswith("keep")],
          [f"keep {E}/a.service: the fleet didn't write it", f"keep {E}/dangling.service: the fleet didn't write it",
           f"keep {E}/x.d/y.conf: {E}/x.d is a link, through which nothing is written"])
     same([line for line in it.run("--adopt", status=1).lines() if line.startswith(("write", "remove", "keep"))],
-         [f"write {E}/a.service: taken over", f"write {E}/dangling.service: taken over", f"keep {E}/x.d/y.conf: {E}/x.d is a link, through which nothing is written"])
+         [f"write {E}/a.service: taken over", f"write {E}/dangling.service: taken over",
+          f"keep {E}/x.d/y.conf: {E}/x.d is a link, through which nothing is written"])
     same((all_below(outside), os.path.islink(f"{it.root}{E}/a.service"), os.listdir(f"{it.root}{E}/z.d")), (before, False, []))
     for path, target in ((OWN, outside + OWN), ("/var/lib", outside), (MANIFEST, f"{outside}/file"), (f"{OWN}/lock", f"{outside}/new")):
         it = Applying(bench, {path: Link(target)}, path.replace("/", "-"))
@@ -133,18 +142,23 @@ def manifests_of_others(bench):
     print_, head = f"file {'0' * 64}", "fleet-apply 1\n"
     it = Applying(bench, {"/etc/passwd": "P", f"{E}/own.service": "O"})
     it.edit(f"put {E}/a.service {SERVICE}")
-    for text, why in (("", "its first line is ``, and is to be `fleet-apply 1`"), ("fleet-apply 2\n", "its first line is `fleet-apply 2`, and is to be `fleet-apply 1`"),
+    for text, why in (("", "its first line is ``, and is to be `fleet-apply 1`"), ("fleet-apply 2\n",
+        "its first line is `fleet-apply 2`, and is to be `fleet-apply 1`"),
                       (f"{head}{print_} {E}/a", "its last line has no end")):
         bench.tree("root", {MANIFEST: text})
         same(it.run(status=2).told(), [f"apply: {it.root}{MANIFEST}: {why}"])
-    for bad in (f"{print_} /etc/passwd", f"{print_} {E}/../../passwd", f"{print_} {E}/..", f"{print_} {E}/a/b/c", f"{print_} {E}//a", f"{print_} {E}/", "folder /etc",
-                f"folder {E}", f"folder {E}/a/b", f"folder {E}/..", f"file 0 {E}/a", f"link {E}/a", f"link  {E}/a", f"{print_} {E}/a b", f"{print_} {E}/\xe9", "", "x"):
+    for bad in (f"{print_} /etc/passwd", f"{print_} {E}/../../passwd", f"{print_} {E}/..", f"{print_} {E}/a/b/c", f"{print_} {E}//a",
+                f"{print_} {E}/", "folder /etc",
+                f"folder {E}", f"folder {E}/a/b", f"folder {E}/..", f"file 0 {E}/a", f"link {E}/a", f"link  {E}/a", f"{print_} {E}/a b",
+                f"{print_} {E}/\xe9", "", "x"):
         bench.tree("root", {MANIFEST: f"{head}{print_} {E}/a\n{bad}\n".encode("latin-1")})
         told = it.run(status=2).told()
         same((told[0].startswith(f"apply: {it.root}{MANIFEST}: line 3 is no row of a file, a link or a folder: "), len(told)), (True, 1), told)
     bench.tree("root", {MANIFEST: f"{head}{print_} {E}/own.service\nlink x {E}/own.service\nfolder {E}/own.service\nfolder {E}/gone.d\n"})
-    same([line for line in it.run(status=1).lines() if line.startswith(("keep", "remove"))], [f"keep {E}/own.service: it was changed since the fleet wrote it"])
-    same(it.manifest(), [head.strip(), row(f"{E}/a.service", "[Service]\nExecStart=/bin/true\n"), f"{print_} {E}/own.service", f"link x {E}/own.service"])
+    same([line for line in it.run(status=1).lines() if line.startswith(("keep", "remove"))],
+         [f"keep {E}/own.service: it was changed since the fleet wrote it"])
+    same(it.manifest(), [head.strip(), row(f"{E}/a.service", "[Service]\nExecStart=/bin/true\n"), f"{print_} {E}/own.service",
+                         f"link x {E}/own.service"])
 
 
 def one_at_a_time(bench):
@@ -155,7 +169,7 @@ def one_at_a_time(bench):
     it.run()
     it.edit(f"put {E}/b.service {SERVICE}")
     with open(f"{it.root}{OWN}/lock", "rb") as file:
-        fcntl.flock(file, fcntl.LOCK_EX)
+        fcntl.flock(file, fcntl.LOCK_SH)
         same(it.run(status=1).told(), [f"apply: {it.root}{OWN}/lock: another apply writes below this root"])
         it.run("--dry-run")
 
@@ -199,7 +213,8 @@ def reloads(bench):
     it = Applying(bench)
     it.edit(f"put {E}/fleet-test-a.service {SERVICE}")
     same(it.run("--reload", status=2).told(), ["apply: --reload is of the machine itself: it goes with no other --root"])
-    bench.tree("root", {"/bin/systemctl": f'#!/bin/sh\necho "$@" >> {bench.path("told")}\n[ -e {bench.path("fails")} ] && echo no manager && exit 1\nexit 0\n'})
+    bench.tree("root",
+               {"/bin/systemctl": f'#!/bin/sh\necho "$@" >> {bench.path("told")}\n[ -e {bench.path("fails")} ] && echo no manager && exit 1\nexit 0\n'})
     os.chmod(f"{it.root}/bin/systemctl", 0o755)
     for path in (E, U, "/var"):
         os.makedirs(it.root + path)
