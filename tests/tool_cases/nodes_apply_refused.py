@@ -25,8 +25,8 @@ def refused_plans(bench):
     same(it.run().told(), [])
     it.edit(f"put {E}/a.service [Unit]\\nAfter=b.service\\nRequires=b.service\\n[Service]\\nExecStart=/bin/true\\n",
             f"put {E}/b.service [Unit]\\nAfter=a.service\\n{SERVICE}")
-    before, cycle = times_below(it.root),
-    "P8 Cycle a.service b.service: they wait for each other: a.service before b.service, b.service before a.service"
+    before = times_below(it.root)
+    cycle = "P8 Cycle a.service b.service: they wait for each other: a.service before b.service, b.service before a.service"
     why = "apply: no plan of default.target (profile manager): "
     ran = it.run(status=1)
     same((ran.told(), ran.lines()[-1]), ([f"{why}{cycle}; before there was one", INSTEAD], "nothing is written; 2 to write, 0 to remove, 0 kept"))
@@ -137,8 +137,8 @@ def links_that_lead_away(bench):
 
 
 def manifests_of_others(bench):
-    """A manifest that is none, or that names anything but places, is told by its line, and nothing is done; one that lists what the fleet didn't write
-    as it stands there takes nothing away."""
+    """A manifest that is none, or that names anything but places, is told by its line, and nothing is done; one that lists what the fleet didn't
+    write as it stands there takes nothing away."""
     print_, head = f"file {'0' * 64}", "fleet-apply 1\n"
     it = Applying(bench, {"/etc/passwd": "P", f"{E}/own.service": "O"})
     it.edit(f"put {E}/a.service {SERVICE}")
@@ -214,7 +214,7 @@ def reloads(bench):
     it.edit(f"put {E}/fleet-test-a.service {SERVICE}")
     same(it.run("--reload", status=2).told(), ["apply: --reload is of the machine itself: it goes with no other --root"])
     bench.tree("root",
-               {"/bin/systemctl": f'#!/bin/sh\necho "$@" >> {bench.path("told")}\n[ -e {bench.path("fails")} ] && echo no manager && exit 1\nexit 0\n'})
+               {"/bin/systemctl": f'#!/bin/sh\necho "$@" >> {bench.path("told")}\n[ ! -e {bench.path("fails")} ] || {{ echo no manager; exit 1; }}\n'})
     os.chmod(f"{it.root}/bin/systemctl", 0o755)
     for path in (E, U, "/var"):
         os.makedirs(it.root + path)

@@ -153,13 +153,13 @@ def refused_at_each_call(bench):
 
 
 def killed_at_random(bench):
-    """Killed at any moment, each file is whole, nothing of others is lost, and the next run comes to the same; so does one of many runs that were killed
-    one after the other."""
+    """Killed at any moment, each file is whole, nothing of others is lost, and the next run comes to the same; so does one behind several that were
+    killed one after the other."""
     it = Applying(bench, {f"{E}/own{number}.service": "OWN" for number in range(5)})
     it.edit(*(f"put {E}/u{number}.service.d/x.conf {number}" for number in range(16)),
             *(f"put {E}/v{number}.service {SERVICE}" for number in range(12)))
     it.run()
-    by_chance, first, whole = random.Random(7), it.root, []
+    by_chance, first, whole, killed = random.Random(7), it.root, [], 0
     it.edit(*(f"remove {E}/u{number}.service.d/x.conf" for number in range(8)), *(f"put {E}/v{number}.service {'x' * 9_000}" for number in range(8)),
             *(f"put {E}/w{number}.service.d/x.conf {number}" for number in range(8)))
     before, given = all_below(first), unasked(NodeFile(it.state).tree("web1"))
@@ -167,17 +167,18 @@ def killed_at_random(bench):
         it.root = f"{first}.{number}"
         shutil.copytree(first, it.root, symlinks=True)
         for _ in range(0 if not number else 1 + number % 3):
-            killed_while_writing(it, by_chance.random() ** 2 * 0.06, given)
+            killed += killed_while_writing(it, by_chance.random() ** 2 * 0.06, given)
             found = {path: content for path, content in all_below(it.root).items() if STAGED not in path and path != MANIFEST}
             odd = [path for path, content in found.items() if content not in (before.get(path), whole[0].get(path))]
             same((odd, [path for path in before if path not in found and path in whole[0] and path != MANIFEST]), ([], []))
         it.run(given=given)
         whole.append(all_below(it.root))
         same(whole[-1], whole[0])
+    same(killed >= ROUNDS, True, killed)
 
 
 def killed_while_writing(it, seconds, given):
-    """Kills a run some time after its first write, if it takes so long."""
+    """Kills a run some time after its first write; whether it took so long."""
     run, until = it.begin(given=given), time.monotonic() + 60
     while time.monotonic() < until and not os.waitid(os.P_PID, run[0], os.WEXITED | os.WNOHANG | os.WNOWAIT):
         with open(it.root + MANIFEST, "rb") as file:
@@ -186,7 +187,7 @@ def killed_while_writing(it, seconds, given):
                 os.killpg(run[0], signal.SIGKILL)
                 break
         time.sleep(0.0005)
-    ended(*run)
+    return ended(*run).status == -signal.SIGKILL
 
 
 def a_file_too_large(bench):
@@ -214,7 +215,8 @@ def disks(bench):
     it.edit(*(f"put {E}/{name} {name * 60_000}" for name in "abcd"))
     call = f"{FLEET} apply --state {it.state} --root {it.root}"
     full = f"""mount -t tmpfs -o size=400k none {it.root}/etc && mkdir -p {it.root}{E} && echo web1 > {it.root}/etc/hostname &&
-        head -c 250000 /dev/zero > {it.root}/etc/full && {{ {call} > /dev/null; echo $? >&2; ls -A {it.root}{E} > {bench.path('some')}; rm {it.root}/etc/full
+        head -c 250000 /dev/zero > {it.root}/etc/full && {{ {call} > /dev/null; echo $? >&2; ls -A {it.root}{E} > {bench.path('some')}
+        rm {it.root}/etc/full
         {call} > /dev/null; echo $? >&2; ls -A {it.root}{E} > {bench.path('all')}; cat {it.root}{E}/*; }}"""
     only = f"mount --bind {it.root} {it.root} && mount -o remount,ro,bind {it.root} && {{ {call} > /dev/null; echo $? >&2; }}"
     around = {**os.environ, "FLEET_SHELL": bench.program}

@@ -1,4 +1,4 @@
-"""Why a work is better not done: a plan that is refused, units that a manager reads otherwise than the fleet's store, and what systemd-analyze says."""
+"""Why a work is better not done: a plan that is refused, units that a manager reads otherwise than the fleet's store, what systemd-analyze says."""
 import re
 import shutil
 import tempfile
