@@ -205,7 +205,7 @@ def a_file_too_large(bench):
     same(ran.told(), [f"apply: {it.root}{E}/b: not written: File too large; 1 of 3 steps are done: apply again to do the rest"])
     same(all_below(it.root + E), {"/a": (0o644, b"A"), "/b": (0o644, b"b"), "/c": (0o644, b"c")})
     ran = it.run()
-    same((ran.lines()[1], ran.lines()[-1]), ("# an apply before this one was begun and not done", "2 written, 0 removed, 0 kept"))
+    same((ran.lines()[1], ran.lines()[-1]), ("# an apply before this one was begun and not done: what it told to reload and restart counts too", "2 written, 0 removed, 0 kept"))
     same(all_below(it.root + E), {"/a": (0o644, b"A"), "/b": (0o644, b"b" * 60_000), "/c": (0o644, b"C")})
 
 

@@ -23,7 +23,7 @@ HOSTNAME = "/etc/hostname"
 MOST_HOSTNAME_BYTES = 4_096
 MANAGER, MOST_SECONDS = "systemctl", 600
 LEFT = "left by a run that was killed"
-BEGUN = "# an apply before this one was begun and not done"
+BEGUN = "# an apply before this one was begun and not done: what it told to reload and restart counts too"
 
 
 @dataclass(frozen=True)
