@@ -4,6 +4,7 @@ import argparse
 from ..places import WORD
 from ..words import add, host, matched, printing, unit, writer
 from . import verbs
+from .apply_words import add_apply
 from .files import FIRST, VARIABLE
 from .syncing import PORT
 
@@ -37,6 +38,7 @@ def add_verbs_of_nodes(found):
     add_edits(found)
     add_looks(found)
     add_sync(found)
+    add_apply(found, [of_state()])
 
 
 def add_edits(found):
