@@ -38,42 +38,43 @@ def differing(bench):
     ran = node.fleet("status", "--root", root, status=1)
     told = f"h1 at {root}: lacks 1 path, has 5 paths otherwise, still has 1 path that the state removed; 1 path of other directories left out"
     same(ran.lines()[-1], told)
-    each = [f"otherwise: {E}/{it}" for it in ("folder", "large", "linked", "other", "turned")]
+    each = [f"otherwise: {E}/folder: a folder stands there", *(f"otherwise: {E}/{it}" for it in ("large", "linked", "other", "turned"))]
     lines = node.fleet("status", "--root", root, "--all", status=1).lines()
-    same((lines[5], sorted(lines[6:])), (told, sorted([f"lacking: {E}/lacking", *each, f"removed: {E}/gone"])))
+    same((lines[5], sorted(lines[6:])), (told, sorted([f"lacks: {E}/lacking", *each, f"removed: {E}/gone"])))
     lines = node.fleet("status", "--root", root, "--all", "--all-directories", status=1).lines()
-    same(sorted(lines[6:]), sorted([f"lacking: {E}/lacking", f"lacking: {U}/lib", *each, f"removed: {E}/gone", f"removed: {R}/gone"]))
+    same(sorted(lines[6:]), sorted([f"lacks: {E}/lacking", f"lacks: {U}/lib", *each, f"removed: {E}/gone", f"removed: {R}/gone"]))
     lines = node.fleet("status", "--root", root, "--host", "h2", "--all", status=1).lines()
-    same(sorted(lines[6:]), sorted([f"lacking: {E}/lacking", f"otherwise: {E}/own", *each, f"removed: {E}/gone", f"removed: {E}/foreign"]))
+    same(sorted(lines[6:]), sorted([f"lacks: {E}/lacking", f"otherwise: {E}/own", *each, f"removed: {E}/gone", f"removed: {E}/foreign"]))
     lines = node.fleet("status", "--root", root, "--host", "unknown", "--all", status=1).lines()
-    same(sorted(lines[6:]), sorted([f"lacking: {E}/lacking", f"otherwise: {E}/own", *each, f"removed: {E}/gone"]))
+    same(sorted(lines[6:]), sorted([f"lacks: {E}/lacking", f"otherwise: {E}/own", *each, f"removed: {E}/gone"]))
     head, *rows = [json.loads(it) for it in node.fleet("status", "--root", root, "--json", "--all", status=1).lines()]
-    same([head[it] for it in ("places", "host_places", "hosts", "removals", "lacking", "otherwise", "removed", "unread", "left_out", "host", "met")],
-         [12, 2, 2, 4, 1, 5, 1, 0, 1, "h1", None])
+    same([head[it] for it in ("places", "host_places", "hosts", "removals", "lacks", "otherwise", "removed", "left_out", "host", "met")],
+         [12, 2, 2, 4, 1, 5, 1, 1, "h1", None])
     same((len(rows), rows[0]["path"].startswith(E)), (7, True))
 
 
 def through_links(bench):
-    """Links in the way of a path are the root's own: none leads out of it."""
+    """A folder that is a link is one through which `apply` writes nothing, so what it holds isn't looked at."""
     node = Node(bench.path("a"), 1)
     node.script(f"put here {E}/a x", f"put here {E}/out.d/a x")
     outside = bench.tree("outside", {"/a": "x", "/out/a": "x"})
-    root = bench.tree("root", {"/etc/systemd/system": Link("/store"), "/store/a": "x", "/store/out.d": Link(f"{outside}/out")})
-    same(node.fleet("status", "--root", root, "--host", "h", "--all", status=1).lines()[5:], [f"h at {root}: lacks 1 path", f"lacking: {E}/out.d/a"])
+    root = bench.tree("root", {f"{E}/a": "x", f"{E}/out.d": Link(f"{outside}/out")})
+    same(node.fleet("status", "--root", root, "--host", "h", "--all", status=1).lines()[5:], [
+        f"h at {root}: has 1 path otherwise", f"otherwise: {E}/out.d/a: {E}/out.d is a link, through which nothing is written"])
     root = bench.tree("loop", {"/etc/systemd/system": Link("/loop"), "/loop": Link("/loop")})
     same(node.fleet("status", "--root", root, "--host", "h", "--all", status=1).lines()[5:], [
-        f"h at {root}: 2 paths can't be read", *(f"unread: {E}/{it}: Too many levels of symbolic links" for it in ("a", "out.d/a"))])
+        f"h at {root}: has 2 paths otherwise",
+        *(f"otherwise: {E}/{it}: {E} is a link, through which nothing is written" for it in ("a", "out.d/a"))])
 
 
 def hosts(bench):
-    """The host is the one that is named, or that the root names, or, of /, this machine; a root that names none is told."""
+    """The host is the one that is named, or that the root names, or, of /, this machine; a root that names none is compared with the fleet's."""
     node = Node(bench.path("a"), 1)
     root = bench.tree("root", {"/etc": None})
-    told = f"status: {root}: /etc/hostname names no host: --host HOST tells which one it is"
-    same(node.fleet("status", "--root", root, status=2).told(), [told])
+    same(node.fleet("status", "--root", root).lines()[-1], f"the fleet at {root}: nothing differs")
     with open(f"{root}/etc/hostname", "w", encoding="ascii") as file:
         file.write("a/b\n")
-    same(node.fleet("status", "--root", root, status=2).told(), ["status: a/b: no host's name: 1 to 64 ASCII letters, digits, dashes and dots"])
+    same(node.fleet("status", "--root", root, status=2).told(), ["status: /etc/hostname: a/b: no host's name: 1 to 64 ASCII letters, digits, dashes and dots; --host names one"])
     same(node.fleet("status", "--root", root, "--host", "h").lines()[-1], f"h at {root}: nothing differs")
     ran = node.fleet("status")
     try:

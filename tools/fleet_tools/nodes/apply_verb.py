@@ -7,7 +7,7 @@ from dataclasses import dataclass
 from typing import Dict, List
 
 from ..faults import Fault, Status, cut, printable
-from ..places import DIRECTORIES, HOST, HOST_RULE, Content, Place
+from ..places import DIRECTORIES, Content, Place
 from ..profiles import Profile
 from ..program import program_of
 from ..reports import say, say_objects, shown_host, tell
@@ -16,11 +16,10 @@ from . import objections
 from .applying import BY_NOW, Do, Step, is_staged, tree_after, work_of
 from .effects import effects_of
 from .files import NodeFile
+from .hosts import host_of
 from .verbs import state_of
 from .writing import Disk, NotWritten, carry_out, manifest_after
 
-HOSTNAME = "/etc/hostname"
-MOST_HOSTNAME_BYTES = 4_096
 MANAGER, MOST_SECONDS = "systemctl", 600
 LEFT = "left by a run that was killed"
 BEGUN = "# an apply before this one was begun and not done: what it told to reload and restart counts too"
@@ -106,19 +105,6 @@ class Report:
         kept = len(work.done(Do.KEEP)) + len(left)
         words = f"{written:,} written, {removed:,} removed" if is_done else f"nothing is written; {written:,} to write, {removed:,} to remove"
         self.put([f"{words}, {kept:,} kept"], [{"written": written, "removed": removed, "kept": kept, "is_done": is_done}])
-
-
-def host_of(named, disk):
-    """The host for which a root is written, and by what it is known: the fleet where nothing names one."""
-    if named:
-        return named, "--host"
-    text = disk.text(HOSTNAME, MOST_HOSTNAME_BYTES)
-    rows = [it.split() for it in (text or b"").decode("utf-8", "surrogateescape").split("\n")]
-    words = [it[0] for it in rows if it and not it[0].startswith("#")]
-    found, by = (words[0], HOSTNAME) if words else (os.uname().nodename, "this machine's name") if disk.root == "/" else ("", "no host is named")
-    if found and not HOST.fullmatch(found):
-        raise Fault(f"{by}: {cut(found)}: no host's name: {HOST_RULE}; --host names one")
-    return found, by
 
 
 def tree_of(disk, progress):

@@ -1,19 +1,19 @@
 """How a state file stands: what it holds, whom it met, and what a machine's folders have otherwise."""
-import os
-import stat
 from dataclasses import dataclass
 from typing import List, Tuple
 
 from ..faults import printable
-from ..files import bytes_of, led_to
-from ..places import DIRECTORIES, MOST_FILE_BYTES, Link, place_of
+from ..places import DIRECTORIES, place_of
+from ..reports import shown_host
+from .applying import Obstacle, differing, removed_places
 from .files import Peer
 from .histories import stamp
+from .hosts import host_of
 from .syncing import in_number
+from .writing import Disk, found_below
 
 # What a folder has otherwise than a host's tree, in the order in which it is told.
-LACKING, OTHERWISE, REMOVED, UNREAD = "lacking", "otherwise", "removed", "unread"
-COUNTED = {LACKING: "lacks {}", OTHERWISE: "has {} otherwise", REMOVED: "still has {} that the state removed", UNREAD: "{} can't be read"}
+COUNTED = {"lacks": "lacks {}", "otherwise": "has {} otherwise", "removed": "still has {} that the state removed"}
 
 
 @dataclass(frozen=True)
@@ -28,7 +28,7 @@ class Held:
 
 @dataclass(frozen=True)
 class Standing:
-    """How a state file stands, and rows of a path, what the folder has of it, and why it can't be read, if it can't; `apart` counts the paths of
+    """How a state file stands, and rows of a path, how the folder has it, and what stands in the way, if that is so; `apart` counts the paths of
     directories that aren't compared."""
 
     path: str
@@ -57,50 +57,23 @@ def held_in(rows):
     return Held(sum(is_there for _, is_there in places) - len(own), len(own), len(set(own)), sum(not is_there for _, is_there in places))
 
 
-def entry_at(root, path):
-    """What stands at a path below a root: bytes, of a file too large for a place one more, a link, or nothing; and what else, in words."""
-    base = root.rstrip("/")
-    folder, _, name = path.rpartition("/")
-    where = f"{base}{led_to(base, folder)}/{name}"
-    try:
-        mode = os.lstat(where).st_mode
-    except (FileNotFoundError, NotADirectoryError):
-        return None
-    if stat.S_ISLNK(mode):
-        return Link(os.readlink(where))
-    return bytes_of(where, MOST_FILE_BYTES) if stat.S_ISREG(mode) else ()
+def rows_of(differences, found):
+    """Rows of what differs: the path, how, and what stands in the way, if that is so."""
+    ways = {it: stands.why for it, stands in found.items() if isinstance(stands, Obstacle)}
+    return [(it.path(), how, ways.get(it, "")) for it, how in differences]
 
 
-def row_of(root, path, content):
-    """How a root has a path at which the state has this, nothing for a removal; nothing where it has it so."""
-    try:
-        found = entry_at(root, path)
-    except OSError as fault:
-        return path, UNREAD, fault.strerror
-    if found == content:
-        return None
-    return path, REMOVED if content is None else LACKING if found is None else OTHERWISE, ""
-
-
-def differing(root, host, tree, rows, directories):
-    """How a root differs from a host's tree of a state file, and from what was removed in it, in these directories."""
-    wanted = {it.path(): content for it, content in tree.items() if it.rank in directories}
-    for it in rows:
-        place = place_of(it.place)
-        if place.host in ("", host) and place.rank in directories:
-            wanted.setdefault(place.path(), None)
-    return [it for it in (row_of(root, path, content) for path, content in wanted.items()) if it]
-
-
-def standing(state, host, root, is_all):
-    """How a state file stands, compared with the folder of a host."""
+def standing(state, named, root, is_all):
+    """How a state file stands, compared with the folders of a host."""
     node, peers = state.peers()
-    rows = state.held()
+    held, (host, _) = state.held(), host_of(named, Disk(root))
     tree, _ = state.tree(host)
-    directories = range(len(DIRECTORIES)) if is_all else (0,)
-    apart = sum(it.rank not in directories for it in tree)
-    differences = differing(root, host, tree, rows, directories)
-    return Standing(state.path, node, state.identity(), held_in(rows), tuple(peers), host, root, differences, apart)
+    ranks = range(len(DIRECTORIES)) if is_all else range(1)
+    wanted = {it: content for it, content in tree.items() if it.rank in ranks}
+    removed = {it for it in removed_places(held, host) if it.rank in ranks}
+    found = found_below(root, {*wanted, *removed})
+    rows = rows_of(differing(wanted, removed, found), found)
+    return Standing(state.path, node, state.identity(), held_in(held), tuple(peers), host, root, rows, len(tree) - len(wanted))
 
 
 def lines_of(it, is_each):
@@ -114,7 +87,7 @@ def lines_of(it, is_each):
     yield f"knows {in_number(len(it.peers), 'peer')}" + (f", met {last.writer} last, {stamp(last.seen)}" if last else ", met none")
     apart = f"; {in_number(it.apart, 'path')} of other directories left out" if it.apart else ""
     counts = [words.format(in_number(it.count(what), "path")) for what, words in COUNTED.items() if it.count(what)]
-    yield f"{it.host} at {printable(it.root)}: {', '.join(counts) or 'nothing differs'}{apart}"
+    yield f"{shown_host(it.host)} at {printable(it.root)}: {', '.join(counts) or 'nothing differs'}{apart}"
     if is_each:
         yield from (f"{what}: {path}{f': {why}' if why else ''}" for path, what, why in it.rows)
 
@@ -125,6 +98,6 @@ def objects_of(it, is_each):
     yield {"state": it.path, "writer": it.node.writer, "identity": it.identity, "places": it.held.fleet, "host_places": it.held.own,
            "hosts": it.held.hosts, "removals": it.held.removals, "peers": len(it.peers), "last_met": last and last.writer,
            "met": last and stamp(last.seen), "host": it.host, "root": it.root, "left_out": it.apart,
-           **{key: it.count(what) for key, what in (("lacking", LACKING), ("otherwise", OTHERWISE), ("removed", REMOVED), ("unread", UNREAD))}}
+           **{it_is: it.count(it_is) for it_is in COUNTED}}
     if is_each:
         yield from ({"path": path, "is": what, **({"why": why} if why else {})} for path, what, why in it.rows)

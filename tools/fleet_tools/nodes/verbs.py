@@ -7,7 +7,6 @@ from ..places import Link
 from ..reports import say, say_objects, tell
 from . import editing, editors, histories, statuses, syncing
 from .files import NodeFile, state_path
-from .hosts import host_of
 
 # The greatest number under which a node writes.
 MOST_WRITER = 4_294_967_295
@@ -92,7 +91,7 @@ def peers(asked, _progress):
 
 def status(asked, _progress):
     """`fleet status`: how the state file stands, and what the machine's folder has otherwise."""
-    found = statuses.standing(state_of(asked), host_of(asked.host, asked.root), asked.root, asked.all_directories)
+    found = statuses.standing(state_of(asked), asked.host, asked.root, asked.all_directories)
     if asked.json:
         say_objects(statuses.objects_of(found, asked.all))
     else:
