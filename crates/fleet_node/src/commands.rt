@@ -71,8 +71,9 @@ fn counter<'a>(alloc: Global) -> Arg<'a> {
 }
 
 fn made_by<'a>(alloc: Global) -> Arg<'a> {
-    word(alloc, "WRITER", "The number of the node that made the edit")
-        .value_parser(value_parser!(u32))
+    word(alloc, "WRITER", "The number of the node that made the edit").value_parser(value_parser!(
+        u32
+    ))
 }
 
 fn history<'a>(alloc: Global) -> Result<Command<'a>, AllocError> {

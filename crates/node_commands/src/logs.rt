@@ -17,11 +17,7 @@ use script_pipes::Sink;
 use std::alloc::{AllocError, Global};
 
 // Appends the line of an edit, behind its place.
-fn append_logged_at(
-    out: &mut Vec<u8>,
-    alloc: Global,
-    logged: &LoggedAt,
-) -> Result<(), AllocError>
+fn append_logged_at(out: &mut Vec<u8>, alloc: Global, logged: &LoggedAt) -> Result<(), AllocError>
     ensures appended { OnOk result (out.new.items ≡ out.old.items ++ log_line logged.now) }
 {
     logged.place.append_to(out)?;

@@ -58,12 +58,7 @@ fn work_behind_commits(
 }
 
 // Tells whom a node knows that noted groups of peers, as far as its log does so.
-fn peers(
-    words: &mut Words,
-    steps: u64,
-    writer: Narrow,
-    out: &mut Answer,
-) -> Result<(), LineFault> {
+fn peers(words: &mut Words, steps: u64, writer: Narrow, out: &mut Answer) -> Result<(), LineFault> {
     let groups = groups_of(words)?;
     let Some(mut node) = open(words.alloc, steps)? else {
         return Err(LineFault::Words);
