@@ -10,6 +10,8 @@ import traceback
 from contextlib import suppress
 
 from fleet_tools import command_line, stops
+from fleet_tools.nodes import apply_verb
+from fleet_tools.nodes.files import NodeFile
 from fleet_tools.nodes.programs import program
 
 from .bench import Link, Ran, same
@@ -56,6 +58,16 @@ def ended(at, *written):
     for it in written:
         it.seek(0)
     return Ran(os.waitstatus_to_exitcode(status), *(it.read() for it in written))
+
+
+def unasked(tree):
+    """What is done before a run that needs no program: what the host sees is known, and of its units nothing is asked, which changes no step."""
+
+    def prepared():
+        apply_verb.told_before = lambda *_: False
+        NodeFile.tree, NodeFile.held = lambda *_: tree, lambda _: []
+
+    return prepared
 
 
 class Applying:

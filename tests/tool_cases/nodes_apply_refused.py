@@ -5,7 +5,7 @@ import shutil
 import subprocess
 
 from .bench import FLEET, E, Link, R, U, same
-from .nodes_apply_bench import BOOT, MANIFEST, OWN, SERVICE, Applying, all_below, row, times_below
+from .nodes_apply_bench import BOOT, MANIFEST, OWN, SERVICE, Applying, all_below, row, times_below, unasked
 
 INSTEAD = "apply: nothing is written: --force writes all the same"
 PULLS = f"put {E}/default.target [Unit]\\nRequires=a.service\\n"
@@ -146,13 +146,13 @@ def manifests_of_others(bench):
         "its first line is `fleet-apply 2`, and is to be `fleet-apply 1`"),
                       (f"{head}{print_} {E}/a", "its last line has no end")):
         bench.tree("root", {MANIFEST: text})
-        same(it.run(status=2).told(), [f"apply: {it.root}{MANIFEST}: {why}"])
+        same(it.run(status=2, given=unasked(({}, []))).told(), [f"apply: {it.root}{MANIFEST}: {why}"])
     for bad in (f"{print_} /etc/passwd", f"{print_} {E}/../../passwd", f"{print_} {E}/..", f"{print_} {E}/a/b/c", f"{print_} {E}//a",
                 f"{print_} {E}/", "folder /etc",
                 f"folder {E}", f"folder {E}/a/b", f"folder {E}/..", f"file 0 {E}/a", f"link {E}/a", f"link  {E}/a", f"{print_} {E}/a b",
                 f"{print_} {E}/\xe9", "", "x"):
         bench.tree("root", {MANIFEST: f"{head}{print_} {E}/a\n{bad}\n".encode("latin-1")})
-        told = it.run(status=2).told()
+        told = it.run(status=2, given=unasked(({}, []))).told()
         same((told[0].startswith(f"apply: {it.root}{MANIFEST}: line 3 is no row of a file, a link or a folder: "), len(told)), (True, 1), told)
     bench.tree("root", {MANIFEST: f"{head}{print_} {E}/own.service\nlink x {E}/own.service\nfolder {E}/own.service\nfolder {E}/gone.d\n"})
     same([line for line in it.run(status=1).lines() if line.startswith(("keep", "remove"))],
@@ -213,8 +213,8 @@ def reloads(bench):
     it = Applying(bench)
     it.edit(f"put {E}/fleet-test-a.service {SERVICE}")
     same(it.run("--reload", status=2).told(), ["apply: --reload is of the machine itself: it goes with no other --root"])
-    bench.tree("root",
-               {"/bin/systemctl": f'#!/bin/sh\necho "$@" >> {bench.path("told")}\n[ ! -e {bench.path("fails")} ] || {{ echo no manager; exit 1; }}\n'})
+    bench.tree("root", {
+        "/bin/systemctl": f'#!/bin/sh\necho "$@" >> {bench.path("told")}\n[ ! -e {bench.path("fails")} ] || {{ echo no manager; false; }}\n'})
     os.chmod(f"{it.root}/bin/systemctl", 0o755)
     for path in (E, U, "/var"):
         os.makedirs(it.root + path)

@@ -12,28 +12,18 @@ from fleet_tools.nodes import apply_verb
 from fleet_tools.nodes.files import NodeFile
 
 from .bench import FLEET, E, same
-from .nodes_apply_bench import MANIFEST, OWN, SERVICE, Applying, all_below, ended
+from .nodes_apply_bench import MANIFEST, OWN, SERVICE, Applying, all_below, ended, unasked
 
-# What changes the disk.
-CALLS = ("mkdir", "fchmod", "fsync", "unlink", "rmdir", "rename", "symlink", "open")
+# What changes the disk, and what only waits for it.
+CALLS, WAIT = ("mkdir", "fchmod", "unlink", "rmdir", "rename", "symlink", "open"), "fsync"
 STAGED = "/.fleet-apply-"
 ROUNDS, EVERY = 6, 4
 MOST = 5  # times what it takes to tell the words of the call
 
 
-def unasked(tree):
-    """What is done before a run that needs no program: what the host sees is known, and of its units nothing is asked, which changes no step."""
-
-    def prepared():
-        apply_verb.told_before = lambda *_: False
-        NodeFile.tree = lambda *_: tree
-
-    return prepared
-
-
-def at_call(number, how, tree):
-    """The same, so that at the call of this number that changes the disk, from the first step on, something happens. Nothing is waited for until it
-    lasts: no machine goes down here."""
+def at_call(number, how, tree, is_waiting=False):
+    """The same, so that at the call of this number that changes the disk, or also waits for it, from the first step on, something happens. Nothing
+    is waited for until it lasts: no machine goes down here."""
     carry_out = apply_verb.carry_out
 
     def prepared():
@@ -44,15 +34,15 @@ def at_call(number, how, tree):
 
             def with_count(call, name):
                 def counting(*words, **more):
-                    is_change = name != "open" or bool(words[1] & os.O_CREAT)
+                    is_change = bool(words[1] & os.O_CREAT) if name == "open" else name != WAIT or is_waiting
                     count[0] += is_change
                     if is_change and count[0] == number:
                         how()
-                    return call(*words, **more) if name != "fsync" else None
+                    return call(*words, **more) if name != WAIT else None
 
                 return counting
 
-            for name in CALLS:
+            for name in (*CALLS, WAIT):
                 setattr(os, name, with_count(getattr(os, name), name))
             return carry_out(*those)
 
@@ -94,20 +84,20 @@ class Stopping:
         """Applies once more."""
         return self.it.run(status=status, given=at_call(0, None, self.tree))
 
-    def stopped(self, how, every=1):
+    def stopped(self, how, every=1, is_waiting=False):
         """For each call in turn, or one of so many, a run in which that happens; the run after it comes to the same as one that wasn't stopped."""
         number, status = 1 - every, None
         while status != 1:
             number += every
             self.copy()
-            ran = self.it.run(status=None, given=at_call(number, how, self.tree))
+            ran = self.it.run(status=None, given=at_call(number, how, self.tree, is_waiting))
             status = ran.status
             yield ran
             self.each_is_whole()
             self.again(1)
             same(self.shown(), self.after, f"after call {number}")
             shutil.rmtree(self.it.root)
-        same(number > 40, True, number)
+        same(number > 25, True, number)
 
     def each_is_whole(self):
         """Each path has what it had or what it is to have, but what isn't in its place."""
@@ -145,7 +135,7 @@ def refused_at_each_call(bench):
     def full():
         raise OSError(errno.ENOSPC, os.strerror(errno.ENOSPC))
 
-    for ran in it.stopped(full, EVERY):
+    for ran in it.stopped(full, EVERY, True):
         if ran.status != 1:
             same((ran.status, len(ran.told()), it.left()), (2, 1, []), ran)
             same(": not written: No space left on device; " in ran.told()[0] and " of 10 steps are done: apply again to do the rest" in ran.told()[0],
@@ -205,7 +195,7 @@ def a_file_too_large(bench):
     same(ran.told(), [f"apply: {it.root}{E}/b: not written: File too large; 1 of 3 steps are done: apply again to do the rest"])
     same(all_below(it.root + E), {"/a": (0o644, b"A"), "/b": (0o644, b"b"), "/c": (0o644, b"c")})
     ran = it.run()
-    same((ran.lines()[1], ran.lines()[-1]), ("# an apply before this one was begun and not done: what it told to reload and restart counts too", "2 written, 0 removed, 0 kept"))
+    same((ran.lines()[1], ran.lines()[-1]), (apply_verb.BEGUN, "2 written, 0 removed, 0 kept"))
     same(all_below(it.root + E), {"/a": (0o644, b"A"), "/b": (0o644, b"b" * 60_000), "/c": (0o644, b"C")})
 
 
