@@ -1,5 +1,6 @@
 """What cases over state files work with: nodes in files, calls of `tools/fleet` in processes that are forked, and far sides of exchanges."""
 import os
+import resource
 import signal
 import socket
 import subprocess
@@ -18,9 +19,11 @@ PROGRAM = os.path.abspath(os.environ.get("FLEET_NODE") or os.path.join(ROOT, "cr
 APART = ("FLEET_STATE", "STATE_DIRECTORY", "VISUAL", "EDITOR", "FLEET_SSH")
 
 
-def in_child(words, streams, env):
-    """What a forked process does: `fleet` with these words, streams and surroundings."""
+def in_child(words, streams, env, most):
+    """What a forked process does: `fleet` with these words, streams and surroundings; if that is given, it writes no file longer."""
     try:
+        if most is not None:
+            resource.setrlimit(resource.RLIMIT_FSIZE, (most, resource.RLIM_INFINITY))
         for number, it in enumerate(streams):
             os.dup2(it.fileno(), number)
         sys.stdin, sys.stdout, sys.stderr = open(0, closefd=False), open(1, "w", closefd=False), open(2, "w", 1, closefd=False)
@@ -39,7 +42,7 @@ def in_child(words, streams, env):
 class Call:
     """A call of `fleet` that runs: as one of `tools/fleet`, but that nothing has to be loaded for it."""
 
-    def __init__(self, *words, given=b"", env=()):
+    def __init__(self, *words, given=b"", env=(), most=None):
         self.words, self.streams = words, [tempfile.TemporaryFile() for _ in range(3)]
         self.streams[0].write(given)
         self.streams[0].seek(0)
@@ -47,7 +50,7 @@ class Call:
         sys.stderr.flush()
         self.process = os.fork()
         if self.process == 0:
-            in_child(words, self.streams, dict(env))
+            in_child(words, self.streams, dict(env), most)
 
     def signal(self, number):
         """Sends it a signal."""

@@ -10,7 +10,7 @@ import time
 import spelling
 
 from .bench import E, same
-from .nodes_bench import Node
+from .nodes_bench import PROGRAM, Node, script_at
 
 NOTHING = "nothing new here"
 
@@ -267,4 +267,18 @@ def folders_that_fail(bench):
     same((f"{E}/2.service" in one.files(), [it for it in os.listdir(folder) if it.startswith(".")]), (True, []))
 
 
-CASES = [by_folder, foreign_files, damaged_files, two_of_a_number, left_by_killed_runs, killed_at_random, carried_apart, folders_that_fail]
+def a_disk_that_fills(bench):
+    """Where a file can't be written to its end, that is told, and under its name stays what stood there, whole."""
+    (one,), folder = nodes_of(bench, 1)
+    one.fleet("sync", "--dir", folder)
+    before = found_in(folder)
+    one.script(*(f"put here {E}/a-{it:03}.service x" for it in range(300)))
+    unbound = script_at(bench, "unbound", f'ulimit -S -f unlimited\nexec "{PROGRAM}" "$@"\n')
+    ran = one.fleet("sync", "--dir", folder, most=4_096, env={"FLEET_NODE": unbound}, status=1)
+    same((ran.out, ran.told()), (b"", [f"sync: {folder}: {one.name()}.digest: File too large"]))
+    same(found_in(folder), before)
+    one.fleet("sync", "--dir", folder)
+    same(is_whole("x.digest", found_in(folder)[f"{one.name()}.digest"][0]), True)
+
+
+CASES = [by_folder, foreign_files, damaged_files, two_of_a_number, left_by_killed_runs, killed_at_random, carried_apart, folders_that_fail, a_disk_that_fills]

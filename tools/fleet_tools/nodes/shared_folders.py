@@ -82,8 +82,10 @@ class SharedFolder:
                 file.flush()
                 os.fsync(made)
             os.replace(staged, name, src_dir_fd=self.at, dst_dir_fd=self.at)
-        except BaseException:
+        except BaseException as fault:
             self.remove(staged)
+            if isinstance(fault, OSError):
+                raise OSError(fault.errno, fault.strerror, name) from fault
             raise
         return True
 
