@@ -6,9 +6,9 @@
 //! Whatever crashes, the next open holds every edit of every commit that was answered, of the one in flight all edits or
 //! none, and nothing else; so no version is given twice. `edit_log` has the laws over all lives of a node.
 //!
-//! - `NodeFile`: a node over a log. `open` makes one of a log; `put`, `remove` and `take` change it; `commit`, `history` and
-//!   `compact_into` use the log. `note_peers` and `peers` keep and tell whom the node has met.
-//! - `NodeFault`: why a call was refused. `Logged`: an edit of a place's history.
+//! - `NodeFile`: a node over a log. `open` makes one of a log; `put`, `remove` and `take` change it; `commit`, `history`,
+//!   `histories` and `compact_into` use the log. `note_peers` and `peers` keep and tell whom the node has met.
+//! - `NodeFault`: why a call was refused. `Logged`: an edit of a place's history; `LoggedAt`: with its place.
 #![tactic(auto)]
 
 mod changes;
@@ -16,6 +16,7 @@ mod commits;
 mod compaction;
 mod faults;
 mod histories;
+mod logs;
 mod nodes;
 mod opening;
 mod peers;
@@ -24,4 +25,5 @@ mod takes;
 pub use edit_log::{EditLog, LogFault, LogHead, LogPeer, LogRow};
 pub use faults::NodeFault;
 pub use histories::Logged;
+pub use logs::LoggedAt;
 pub use nodes::{FORMAT, NodeFile};

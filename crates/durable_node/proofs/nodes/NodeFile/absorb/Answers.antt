@@ -1,4 +1,4 @@
-use Rattle.std.proofs.Common.{◌≡◌, ◌++◌, ◌<◌, ◌^◌, ap, arith, false, List, subst, subst₂, sym, true, ◌∙◌}
+use Rattle.std.proofs.Common.{◌≡◌, ◌++◌, ◌<◌, ◌^◌, ap, arith, List, subst, subst₂, sym, ◌∙◌}
 use Rattle.edit_sums.specs.declared.entries.Edit.{Edit}
 use Rattle.edit_sums.specs.{SumLaws.{join-left, store_below_refl}, Sums.{EntryMap, high_among, high_of, IsStoreBelow}}
 use Rattle.replica_store.specs.Replicas.{Replicated}
