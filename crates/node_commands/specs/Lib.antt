@@ -1,3 +1,4 @@
 pub mod Faults
+pub mod Puts
 pub mod Texts
 pub mod Works

@@ -8,6 +8,7 @@ ghost use Rattle.edit_log.specs.Logs.{edits_in, LeavesAllOrNone, LeavesJust, sta
 ghost use Rattle.world_law.specs.Cuts.{cut};
 ghost use Rattle.store_bytes.specs.Bytes.{spelling_of};
 ghost use Rattle.durable_node.specs.declared.faults.NodeFault.{NodeFault};
+ghost use Rattle.node_commands.specs.Faults.{IsAnswerFault};
 ghost use Rattle.node_commands.specs.Texts.{changed_line};
 ghost use Rattle.node_commands.specs.declared.faults.CommandFault.TheVariants.{Memory, Node, Write};
 
@@ -89,6 +90,7 @@ pub fn take_piece<L: EditLog, K: Sink>(
         LeavesAllOrNone (L.held node.old.log) (stamped time added) (L.may_leave node.old.log) (L.may_leave node.new.log) }
     ensures unwritten { (refused : NodeFault) → IsErrOf result (Node refused) → sink.new ≡ sink.old }
     ensures kept { (refused : NodeFault) → IsErrOf result (Node refused) → (node.new.is_spent ≡ true) ⊎ (node.new ≡ node.old) }
+    ensures faults { IfErr result IsAnswerFault }
     ensures refused { IsErrOf result Write → FailedSince (K.refusals sink.old) (K.refusals sink.new) }
     ensures head { L.head node.new.log ≡ L.head node.old.log }
 {

@@ -31,6 +31,9 @@ pub enum CommandFault {
     /// The text names no place.
     #[error("{0}")]
     Place(PlaceFault),
+    /// Z9: the log has no edit of the place with this version, or it is a removal.
+    #[error("Z9 NoEdit")]
+    NoEdit,
 }
 
 impl From<AllocError> for CommandFault {

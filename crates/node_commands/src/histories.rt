@@ -5,6 +5,7 @@ ghost use Rattle.script_pipes.specs.{Failures.{FailedSince}, KnownBytes.{Appends
 ghost use Rattle.edit_log.specs.Logs.{LeavesNothingNew};
 ghost use Rattle.durable_node.specs.declared.{faults.NodeFault.{NodeFault}, histories.Logged.{Logged}};
 ghost use Rattle.durable_node.specs.Histories.{logged_at};
+ghost use Rattle.node_commands.specs.Faults.{IsAnswerFault};
 ghost use Rattle.node_commands.specs.Texts.{content_text, history_text, logged_line};
 ghost use Rattle.node_commands.specs.declared.faults.CommandFault.TheVariants.{Node, Write};
 
@@ -35,7 +36,11 @@ fn append_content(out: &mut Vec<u8>, alloc: Global, content: &Content) -> Result
 }
 
 // Appends the line of an edit.
-fn append_logged(out: &mut Vec<u8>, alloc: Global, logged: &Logged) -> Result<(), AllocError>
+pub(crate) fn append_logged(
+    out: &mut Vec<u8>,
+    alloc: Global,
+    logged: &Logged,
+) -> Result<(), AllocError>
     ensures appended { OnOk result (out.new.items ≡ out.old.items ++ logged_line logged.now) }
 {
     let counter = logged.version.counter;
@@ -73,6 +78,7 @@ pub fn write_history<L: EditLog, K: Sink>(
         × IsPermutation (logged_at place.now (L.held node.old.log)) logged × IsSorted ⟦<Logged as Ord>⟧.cmp logged
         × Appends (K.contents sink.old) (K.contents sink.new) (history_text logged)) }
     ensures kept { OnErr result ((IsErrOf result Write → ⊥) → sink.new ≡ sink.old) }
+    ensures faults { IfErr result IsAnswerFault }
     ensures refused { IsErrOf result Write → FailedSince (K.refusals sink.old) (K.refusals sink.new) }
     ensures spent { (refused : NodeFault) → IsErrOf result (Node refused) → (node.new.is_spent ≡ true)
         ⊎ (L.is_honest node.new.log → L.held node.new.log ≡ L.held node.old.log) }
