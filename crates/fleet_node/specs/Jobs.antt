@@ -26,5 +26,9 @@ IsJobFor asked.Delta (job.Work (work.Delta digest)) = Unit {0}
 IsJobFor asked.Take (job.Work (work.Take piece)) = Unit {0}
 IsJobFor (asked.Exchange calls) (job.Exchange begins) = begins ≡ calls
 IsJobFor (asked.History place) (job.Work (work.History named)) = place_of place.now ≡ Ok named
+IsJobFor asked.Log (job.Work work.Log) = Unit {0}
+IsJobFor asked.Peers (job.Work work.Peers) = Unit {0}
+IsJobFor (asked.Content place counter writer) (job.Work (work.Content named version)) =
+    (place_of place.now ≡ Ok named) × (version ≡ record { counter = counter; writer = writer })
 IsJobFor (asked.Tree folder host) (job.Tree into viewer) = (into ≡ folder) × IsHostOf (option_map (λ h. h.now) host) viewer
 IsJobFor other job = ⊥

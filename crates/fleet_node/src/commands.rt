@@ -3,7 +3,7 @@ use clap::{Arg, ArgAction, Command, value_parser};
 use std::alloc::{AllocError, Global};
 
 /// The subcommands that take a file alone, with what each does.
-const OVER_FILE: [(&str, &str); 7] = [
+const OVER_FILE: [(&str, &str); 9] = [
     (
         "run",
         "Answer the script on standard input, in which the node is here",
@@ -19,6 +19,14 @@ const OVER_FILE: [(&str, &str); 7] = [
     ("take", "Read a piece on standard input, and commit it"),
     ("store", "Write all that the node holds to standard output"),
     ("id", "Show the identity of what the node holds"),
+    (
+        "log",
+        "Show each edit of each place, with its version and the time of its commit",
+    ),
+    (
+        "peers",
+        "Show the node's number and mark, and those of the nodes that it has met or was told of",
+    ),
     (
         "compact",
         "Forget what was overwritten, so that the file holds each place's entry once",
@@ -50,17 +58,42 @@ fn init<'a>(alloc: Global) -> Result<Command<'a>, AllocError> {
     command.arg(writer(alloc))
 }
 
+fn place<'a>(alloc: Global) -> Arg<'a> {
+    word(
+        alloc,
+        "PLACE",
+        "A path in the load path, or HOST: and a path",
+    )
+}
+
+fn counter<'a>(alloc: Global) -> Arg<'a> {
+    word(alloc, "COUNTER", "The counter of the edit's version").value_parser(value_parser!(u64))
+}
+
+fn made_by<'a>(alloc: Global) -> Arg<'a> {
+    word(alloc, "WRITER", "The number of the node that made the edit").value_parser(value_parser!(
+        u32
+    ))
+}
+
 fn history<'a>(alloc: Global) -> Result<Command<'a>, AllocError> {
     let command = over_file(
         alloc,
         "history",
         "Show each edit of a place, with its version and the time of its commit",
     )?;
-    command.arg(word(
+    command.arg(place(alloc))
+}
+
+fn content<'a>(alloc: Global) -> Result<Command<'a>, AllocError> {
+    let command = over_file(
         alloc,
-        "PLACE",
-        "A path in the load path, or HOST: and a path",
-    ))
+        "content",
+        "Write the bytes that the edit of a place with this version put, to standard output",
+    )?;
+    let command = command.arg(place(alloc))?;
+    let command = command.arg(counter(alloc))?;
+    command.arg(made_by(alloc))
 }
 
 fn call<'a>(alloc: Global) -> Arg<'a> {
@@ -129,5 +162,6 @@ pub fn command<'a>(alloc: Global) -> Result<Command<'a>, AllocError> {
     let command = with_all_over_file(alloc, command)?;
     let command = with(command, exchange(alloc))?;
     let command = with(command, history(alloc))?;
+    let command = with(command, content(alloc))?;
     with(command, tree(alloc))
 }

@@ -6,6 +6,7 @@ ghost use Rattle.fleet_node.specs.Status.{status_of};
 use crate::faults::FleetFault;
 use crate::requests::{Asked, FileRequest};
 use crate::works::{Job, do_job, host_of, now};
+use join_law::Version;
 use load_places::Place;
 use node_commands::{CommandFault, Work, read_digest, read_piece};
 use node_files::{compact, create, open};
@@ -49,6 +50,16 @@ fn job_of<'a>(rt: &HostRuntime, asked: &Asked<'a>) -> Result<Job<'a>, FleetFault
         Asked::History { place } => {
             Job::Work(Work::History(Place::parse(alloc, place.as_bytes())?))
         }
+        Asked::Log => Job::Work(Work::Log),
+        Asked::Peers => Job::Work(Work::Peers),
+        Asked::Content {
+            place,
+            counter,
+            writer,
+        } => Job::Work(Work::Content {
+            place: Place::parse(alloc, place.as_bytes())?,
+            version: Version { counter, writer },
+        }),
         Asked::Tree { folder, host } => Job::Tree {
             folder,
             host: host_of(alloc, host)?,

@@ -1,5 +1,6 @@
 //! A node in a file: makes one, answers scripts at it, writes what it holds, takes what another one sends, exchanges with
-//! another one what differs, tells a place's history, writes its unit files into a folder, and compacts it.
+//! another one what differs, tells its log, what its edits put and whom it knows, writes its unit files into a folder, and
+//! compacts it.
 //! The exit status is 0 if it was done, 1 if it was refused or a read, a write or the disk failed, and 2 for wrong words.
 //!
 //! Promise: a file opens as what it holds; a commit is whole; compaction keeps the sum.

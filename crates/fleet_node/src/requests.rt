@@ -39,6 +39,16 @@ pub enum Asked<'a> {
     History {
         place: &'a str,
     },
+    /// Write the whole log.
+    Log,
+    /// Write the node itself, and those that it knows.
+    Peers,
+    /// Write the bytes that an edit of a place put.
+    Content {
+        place: &'a str,
+        counter: u64,
+        writer: u32,
+    },
     /// Write the unit files into a folder: those that a host sees, or the fleet's.
     Tree {
         folder: &'a str,
@@ -62,6 +72,13 @@ fn asked_of<'a>(name: &str, words: &ArgMatches<'a>) -> Option<Asked<'a>>
         }),
         "history" => Some(Asked::History {
             place: words.get_str("PLACE")?,
+        }),
+        "log" => Some(Asked::Log),
+        "peers" => Some(Asked::Peers),
+        "content" => Some(Asked::Content {
+            place: words.get_str("PLACE")?,
+            counter: words.get_one::<u64>("COUNTER")?,
+            writer: words.get_one::<u32>("WRITER")?,
         }),
         "tree" => Some(Asked::Tree {
             folder: words.get_str("DIR")?,
