@@ -55,7 +55,7 @@ fn commit(
 }
 
 // Makes commits until one is refused. Returns how many were answered.
-fn commit_each(
+pub(crate) fn commit_each(
     alloc: Global,
     node: &mut NodeFile<MemoryLog>,
     commits: &[Vec<&[u8]>],
@@ -71,7 +71,7 @@ fn commit_each(
 }
 
 // Reads lists of edits up to the end.
-fn commits_of<'a>(words: &mut Words<'a>) -> Result<Vec<Vec<&'a [u8]>>, LineFault> {
+pub(crate) fn commits_of<'a>(words: &mut Words<'a>) -> Result<Vec<Vec<&'a [u8]>>, LineFault> {
     let mut commits = Vec::new(words.alloc);
     for _ in 0..words.most() {
         if words.is_over() {

@@ -14,6 +14,7 @@
 mod again;
 mod bytes;
 mod choices;
+mod commands;
 mod contents;
 mod drop_ins;
 mod edits;
@@ -68,6 +69,7 @@ fn answer(words: &mut Words, out: &mut Answer) -> Result<(), LineFault> {
         b"world" => worlds::answer(words, out),
         b"life" => lives::answer(words, out),
         b"met" => meetings::answer(words, out),
+        b"command" => commands::answer(words, out),
         b"fragment" => choices::answer(words, out),
         b"dropins" => drop_ins::answer(words, out),
         b"tree" => trees::answer(words, out),

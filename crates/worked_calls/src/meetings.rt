@@ -29,7 +29,7 @@ fn peers_of(words: &mut Words) -> Result<Vec<LogPeer>, LineFault> {
 }
 
 // Reads lists of peers up to the end.
-fn groups_of(words: &mut Words) -> Result<Vec<Vec<LogPeer>>, LineFault> {
+pub(crate) fn groups_of(words: &mut Words) -> Result<Vec<Vec<LogPeer>>, LineFault> {
     let mut groups = Vec::new(words.alloc);
     for _ in 0..words.most() {
         if words.is_over() {
@@ -41,7 +41,10 @@ fn groups_of(words: &mut Words) -> Result<Vec<Vec<LogPeer>>, LineFault> {
 }
 
 // Notes groups of peers until one is refused. Returns how many were noted.
-fn note_each(node: &mut NodeFile<MemoryLog>, groups: &[Vec<LogPeer>]) -> Result<u64, LineFault> {
+pub(crate) fn note_each(
+    node: &mut NodeFile<MemoryLog>,
+    groups: &[Vec<LogPeer>],
+) -> Result<u64, LineFault> {
     let mut count = 0_u64;
     for group in groups {
         if unless_memory(node.note_peers(group))?.is_none() {
