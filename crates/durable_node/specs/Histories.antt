@@ -4,7 +4,7 @@ use Rattle.std.specs.Prelude.{filter, List, map}
 use Rattle.std.specs.Ordering.{eq_by_cmp}
 use Rattle.load_places.specs.Places.{place_cmp, PlaceParts}
 use Rattle.edit_log.specs.declared.logs.LogRow.{LogRow}
-use Rattle.durable_node.specs.declared.histories.{Logged.{Logged}, LoggedAt.{LoggedAt}}
+use Rattle.durable_node.specs.declared.{histories.Logged.{Logged}, logs.LoggedAt.{LoggedAt}}
 
 abbrev pub logged_of : LogRow → Logged
 logged_of r = record { version = r.edit.version; content = r.edit.content; time = r.time }

@@ -51,7 +51,7 @@ impl Drop for LoggedAt {
 }
 
 // A row without its place. The content's bytes are shared.
-fn logged_of(row: &LogRow) -> Result<Logged, AllocError>
+pub(crate) fn logged_of(row: &LogRow) -> Result<Logged, AllocError>
     ensures logged { IfOk result (λ logged. logged ≡ logged_of row.now) }
 {
     Ok(Logged {

@@ -16,6 +16,7 @@ mod commits;
 mod compaction;
 mod faults;
 mod histories;
+mod logs;
 mod nodes;
 mod opening;
 mod peers;
@@ -23,5 +24,6 @@ mod takes;
 
 pub use edit_log::{EditLog, LogFault, LogHead, LogPeer, LogRow};
 pub use faults::NodeFault;
-pub use histories::{Logged, LoggedAt};
+pub use histories::Logged;
+pub use logs::LoggedAt;
 pub use nodes::{FORMAT, NodeFile};

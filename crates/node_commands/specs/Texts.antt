@@ -9,7 +9,7 @@ use Rattle.edit_sums.specs.Sums.{EntryMap}
 use Rattle.load_places.specs.Texts.{place_text}
 use Rattle.store_bytes.specs.Bytes.{id_of}
 use Rattle.edit_log.specs.declared.logs.{LogHead.{LogHead}, LogPeer.{LogPeer}}
-use Rattle.durable_node.specs.declared.histories.{Logged.{Logged}, LoggedAt.{LoggedAt}}
+use Rattle.durable_node.specs.declared.{histories.Logged.{Logged}, logs.LoggedAt.{LoggedAt}}
 
 -- the identity of a store
 abbrev pub id_line : EntryMap → List ℕ

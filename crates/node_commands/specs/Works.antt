@@ -9,7 +9,7 @@ use Rattle.edit_log.specs.Logs.{edits_in, LeavesJust}
 use Rattle.world_law.specs.Cuts.{cut, digest_of}
 use Rattle.store_bytes.specs.Bytes.{digest_spelling, spelling_of}
 use Rattle.replica_store.specs.Replicas.{Replicated}
-use Rattle.durable_node.specs.declared.histories.{Logged.{Logged}, LoggedAt.{LoggedAt}}
+use Rattle.durable_node.specs.declared.{histories.Logged.{Logged}, logs.LoggedAt.{LoggedAt}}
 use Rattle.durable_node.specs.Histories.{logged_all, logged_at}
 use Rattle.durable_node.specs.Peers.{AreLatest}
 use Rattle.node_commands.specs.Puts.{bytes_put}

@@ -3,7 +3,7 @@ ghost use Rattle.std.specs.Prelude.{◌≡◌, ◌⊎◌, ◌++◌, IfErr, IfOk,
 ghost use Rattle.std.specs.Io.KnownBytes.{Appends};
 ghost use Rattle.script_pipes.specs.Failures.{FailedSince};
 ghost use Rattle.edit_log.specs.Logs.{LeavesNothingNew};
-ghost use Rattle.durable_node.specs.declared.{faults.NodeFault.{NodeFault}, histories.LoggedAt.{LoggedAt}};
+ghost use Rattle.durable_node.specs.declared.{faults.NodeFault.{NodeFault}, logs.LoggedAt.{LoggedAt}};
 ghost use Rattle.durable_node.specs.Histories.{logged_all};
 ghost use Rattle.node_commands.specs.Faults.{IsAnswerFault};
 ghost use Rattle.node_commands.specs.Texts.{log_line, log_text};

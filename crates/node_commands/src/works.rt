@@ -3,7 +3,7 @@ ghost use Rattle.std.specs.Prelude.{◌≡◌, ◌⊎◌, IsErrOf, List, OnOk, t
 ghost use Rattle.script_pipes.specs.Failures.{FailedSince};
 ghost use Rattle.edit_sums.specs.declared.entries.Edit.{Edit};
 ghost use Rattle.edit_log.specs.Logs.{LeavesAllOrNone, stamped};
-ghost use Rattle.durable_node.specs.declared.{faults.NodeFault.{NodeFault}, histories.{Logged.{Logged}, LoggedAt.{LoggedAt}}};
+ghost use Rattle.durable_node.specs.declared.{faults.NodeFault.{NodeFault}, histories.Logged.{Logged}, logs.LoggedAt.{LoggedAt}};
 ghost use Rattle.node_commands.specs.Works.{Answers, Commits, LacksEdit, replica_after};
 ghost use Rattle.node_commands.specs.declared.faults.CommandFault.TheVariants.{NoEdit, Node, Write};
 

@@ -3,7 +3,7 @@ use Rattle.std.specs.Prelude.{IsPermutation}
 use Rattle.std.proofs.lemmas.List.Sorted.{IsPermutation-map, IsPermutation-trans}
 use Rattle.durable_node.specs.Nodes.{Node}
 use Rattle.durable_node.specs.Histories.{logged_all, logged_with}
-use Rattle.durable_node.specs.declared.histories.LoggedAt.{LoggedAt}
+use Rattle.durable_node.specs.declared.logs.LoggedAt.{LoggedAt}
 use Rattle.durable_node.proofs.nodes.NodeFile.histories.Goals as goal
 
 pub returns-in_ok-sort-in-Ok-clause-rows : goal.returns-in_ok-sort-in-Ok-clause-rows
