@@ -1,7 +1,7 @@
 -- Commands between nodes: from the shell's state to the outcome.
 use Rattle.std.proofs.Common.{◌++◌, ◌+◌, ◌<◌, ◌==◌, ◌∷◌, ◌≡◌}
-use Rattle.fleet_script.proofs.Prelude.{[], ap, AreToldApart, arith, AtNode, Bool, bytes_eq, changed_line, changed_places, cond, Continues, count_by, cut, digest_of, Edit, edit_of, edits_of, entries_line, Entry, entry_cmp_total, entry_of, EntryMap, eq-eqb, eqb-true, Err, false, get_from_edits_of, get_or, Give, Gives, Global, Goes, happened, held, Holds, if_any, IfOk, inl, inr, is_eq, is_other, IsAmong, IsAmong-append_cases, IsGivenAt, IsNamed, IsPiece, join, given_of, join_idem, Keeps, length, List, map, MatchOption, merged, merged_all, nil_from_length, None, not, Ok, OnOk, Option, parted, piece_named, PlaceParts, refl, Refuses, Replicated, Result, ScriptWorld, Sends, SendsTo, set, set-get_or, Some, subst, sum_by-cons, sum_of, sym, tied_itself, true, true≢false, UnknownNode, UnknownPiece, Vec, VersionMap, whole_answer, ℕ, ◌∙◌}
-use Rattle.fleet_script.proofs.Nodes.{at_place, get_or_any, get_or_here, get_or_there, get_or_twice, holds_merge, holds_part, holds_send, length_set, set_twice, slice_get_at}
+use Rattle.fleet_script.proofs.Prelude.{[], ap, AreToldApart, arith, AtNode, bytes_eq, changed_line, changed_places, cond, Continues, count_by, cut, digest_of, Edit, edit_of, edits_of, entries_line, Entry, entry_cmp_total, entry_of, EntryMap, eqb-true, Err, false, get_from_edits_of, get_or, Give, Gives, Global, Goes, happened, held, Holds, if_any, IfOk, inl, inr, is_eq, is_other, IsAmong, IsAmong-append_cases, IsGivenAt, IsNamed, IsPiece, join, given_of, join_idem, Keeps, length, List, map, MatchOption, merged, merged_all, nil_from_length, None, not, Ok, OnOk, Option, parted, piece_named, PlaceParts, refl, Refuses, Replicated, Result, ScriptWorld, Sends, SendsTo, set, set-get_or, Some, subst, sum_by-cons, sym, tied_itself, true, UnknownNode, UnknownPiece, Vec, VersionMap, whole_answer, ℕ, ◌∙◌}
+use Rattle.fleet_script.proofs.Nodes.{at_place, get_or_any, get_or_here, get_or_twice, holds_merge, holds_part, holds_send, length_set, slice_get_at}
 use Rattle.std.specs.FinMap as finmap
 
 -- ---- merging two nodes
@@ -20,7 +20,7 @@ none_changed s = sym (none_other s (finmap.entries s) (λ e a. get_from_edits_of
 own_apart : (s : EntryMap) → AreToldApart (edits_of s ++ edits_of s)
 own_apart s e f a b same version =
     let one : (g : Edit) → IsAmong g (edits_of s ++ edits_of s) → finmap.get s g.place ≡ Some (entry_of g) = λ g among.
-        elim (IsAmong-append_cases g (edits_of s) (edits_of s) among) as (λ c. finmap.get s g.place ≡ Some (entry_of g)) [ inl h ↦ get_from_edits_of g s h | inr h ↦ get_from_edits_of g s h ]
+    elim (IsAmong-append_cases g (edits_of s) (edits_of s) among) as (λ c. finmap.get s g.place ≡ Some (entry_of g)) [ inl h ↦ get_from_edits_of g s h | inr h ↦ get_from_edits_of g s h ]
     in
     let entries : Some (entry_of e) ≡ Some (entry_of f) = sym (one e a) ∙ ap (finmap.get s) same ∙ one f b in
     same_edit e f same entries

@@ -1,7 +1,7 @@
 -- The state of the shell and the world agree after each event.
 use Rattle.std.proofs.Common.{◌++◌, ◌<◌, ◌==◌, ◌∷◌, ◌≡◌, ◌≢◌}
 use Rattle.world_law.specs.declared.events.Event.TheVariants.{Put}
-use Rattle.fleet_script.proofs.Prelude.{[], answer_is, answered, ap, arith, Ask, Bool, bytes_eq, cond, Content, Cut, cut, digest_of, EntryMap, eq-eqb, eqb-true, false, get_or, Give, happened, held, held_answered, held_given, held_given_elsewhere, held_merged, held_merged_elsewhere, held_past, held_put, held_put_elsewhere, held_with_node, Holds, IsNamed, IsPiece, is_used, IsValid, join, Keeps, length, List, Member, merged, nat_lt, nat_tests, next_ask, next_edit, next_piece, node_named, node_named-push, None, Option, parted, piece_named, piece_stays, PlaceParts, Profile, refl, Replicated, ScriptWorld, set, slice_get, Some, state, state_with_node, subst, suc, sum_of, sym, true, true≢false, used_put, used_with_node, valid_answered, valid_given, valid_merged, valid_put, valid_with_node, valid_with_profile, with_edit, with_node, with_profile, writer_at, zero, ℕ, ◌∙◌}
+use Rattle.fleet_script.proofs.Prelude.{[], answer_is, answered, ap, arith, Ask, Bool, bytes_eq, cond, Content, Cut, cut, digest_of, EntryMap, eq-eqb, eqb-true, false, get_or, Give, happened, held, held_answered, held_given, held_given_elsewhere, held_past, held_put, held_put_elsewhere, held_with_node, Holds, IsNamed, IsPiece, is_used, IsValid, join, Keeps, length, List, Member, merged, nat_lt, nat_tests, next_ask, next_edit, next_piece, node_named, node_named-push, None, Option, parted, piece_named, piece_stays, PlaceParts, Profile, refl, Replicated, ScriptWorld, set, slice_get, Some, state, state_with_node, subst, suc, sum_of, sym, true, true≢false, used_put, used_with_node, valid_answered, valid_given, valid_put, valid_with_node, valid_with_profile, with_edit, with_node, with_profile, writer_at, zero, ℕ, ◌∙◌}
 use Rattle.world_law.specs.Worlds as worlds
 
 -- ---- places

@@ -2,7 +2,7 @@
 -- pieces; the writer numbers in use; and the profile. And what is kept of its first node.
 -- Source: this project's own.
 use Rattle.std.proofs.Common.{◌≡◌, ◌⊎◌}
-use Rattle.fleet_script.specs.Prelude.{[], Bool, Command, cut, digest_of, EntryMap, false, Fault, Global, held, IsPlaceFault, IsSaid, IsStoreBelow, is_used, IsValid, join, length, List, Memory, merged_all, nat_cmp, node_named, None, Ok, Option, Outcome, piece_named, place_of, PlaceParts, Profile, Refused, Replicated, Result, ScriptWorld, slice_cmp, slice_get, slice_index_or, slice_set, Some, state, UnknownNode, Vec, writer_at, ℕ}
+use Rattle.fleet_script.specs.Prelude.{[], Bool, Command, cut, digest_of, EntryMap, false, Fault, Global, held, IsPlaceFault, IsSaid, is_used, IsValid, join, length, List, Memory, merged_all, nat_cmp, node_named, None, Ok, Option, Outcome, piece_named, place_of, PlaceParts, Profile, Refused, Replicated, Result, ScriptWorld, slice_cmp, slice_get, slice_index_or, slice_set, Some, state, UnknownNode, Vec, writer_at, ℕ}
 use Rattle.fleet_script.specs.{declared.states.Shell.{Shell}, Does.{Does}}
 use Rattle.std.specs.BTreeMap as maps
 use Rattle.std.specs.BTreeSet as sets
