@@ -4,7 +4,7 @@ use Rattle.std.specs.List.{list_any}
 use Rattle.std.specs.BTreeMap.{get, is_at, IsEmpty}
 use Rattle.std.specs.Map.{lookup}
 use Rattle.std.proofs.Common.{BTreeMap}
-use Rattle.fleet_script.proofs.Prelude.{[], ap, begun, blank, Bool, bytes_eq, cond, EntryMap, FirstIsHeld, held, held_begun, held_past, Holds, IsBlank, IsHeldNext, IsNamed, Keeps, length, List, Member, nat_cmp, node_named-push, None, Option, refl, Replicated, Edit, edits_of, false, slice_cmp, slice_get, Some, subst, sum_of, sym, true, true, used_begun, valid_begun, valid_blank, writer_at, zero, suc, ℕ, ◌∙◌}
+use Rattle.fleet_script.proofs.Prelude.{[], ap, begun, blank, Bool, bytes_eq, cond, EntryMap, FirstIsHeld, held, held_begun, held_past, Holds, IsBlank, IsHeldNext, IsNamed, Keeps, length, List, nat_cmp, node_named-push, None, Option, refl, Replicated, Edit, edits_of, false, slice_cmp, slice_get, Some, subst, sum_of, sym, true, true, used_begun, valid_begun, valid_blank, writer_at, zero, suc, ℕ, ◌∙◌}
 
 nowhere : {X : Type 0} (k : ℕ) (x : X) → slice_get [] k ≡ Some x → ⊥
 nowhere k x e = cc (e)

@@ -1,7 +1,7 @@
 -- Commands between nodes: from the shell's state to the outcome.
 use Rattle.std.proofs.Common.{◌++◌, ◌+◌, ◌<◌, ◌==◌, ◌∷◌, ◌≡◌}
-use Rattle.fleet_script.proofs.Prelude.{[], ap, arith, AtNode, Bool, bytes_eq, changed_line, changed_places, cond, Continues, count_by, cut, digest_of, Edit, edit_of, entries_line, Entry, entry_cmp_total, entry_of, EntryMap, eq-eqb, eqb-true, Err, false, get_from_edits_of, get_or, Give, Gives, Global, Goes, happened, held, Holds, if_any, IfOk, inl, inr, is_eq, is_other, IsAmong, IsJoinedAt, IsNamed, IsPiece, join, join-nothing, join_idem, joined_with, Keeps, length, List, map, MatchOption, merged, merged_all, nil_from_length, None, not, Ok, OnOk, Option, parted, piece_named, PlaceParts, refl, Refuses, Replicated, Result, ScriptWorld, Sends, SendsTo, set, set-get_or, Some, subst, sum_by-cons, sum_of, sym, tied_itself, true, true≢false, UnknownNode, UnknownPiece, Vec, VersionMap, ℕ, ◌∙◌}
-use Rattle.fleet_script.proofs.Nodes.{at_place, get_or_any, get_or_here, get_or_there, get_or_twice, holds_merge, holds_part, holds_send, length_set, set_twice, slice_get_at}
+use Rattle.fleet_script.proofs.Prelude.{[], ap, AreToldApart, arith, AtNode, bytes_eq, changed_line, changed_places, cond, Continues, count_by, cut, digest_of, Edit, edit_of, edits_of, entries_line, Entry, entry_cmp_total, entry_of, EntryMap, eqb-true, Err, false, get_from_edits_of, get_or, Give, Gives, Global, Goes, happened, held, Holds, if_any, IfOk, inl, inr, is_eq, is_other, IsAmong, IsAmong-append_cases, IsGivenAt, IsNamed, IsPiece, join, given_of, join_idem, Keeps, length, List, map, MatchOption, merged, merged_all, nil_from_length, None, not, Ok, OnOk, Option, parted, piece_named, PlaceParts, refl, Refuses, Replicated, Result, ScriptWorld, Sends, SendsTo, set, set-get_or, Some, subst, sum_by-cons, sym, tied_itself, true, UnknownNode, UnknownPiece, Vec, VersionMap, whole_answer, ℕ, ◌∙◌}
+use Rattle.fleet_script.proofs.Nodes.{at_place, get_or_any, get_or_here, get_or_twice, holds_merge, holds_part, holds_send, length_set, slice_get_at}
 use Rattle.std.specs.FinMap as finmap
 
 -- ---- merging two nodes
@@ -16,63 +16,61 @@ none_other s (p ∷ ps) held =
 pub none_changed : (s : EntryMap) → 0 ≡ changed_places s s
 none_changed s = sym (none_other s (finmap.entries s) (λ e a. get_from_edits_of e s a))
 
--- a node has all that it holds
-pub joined_itself : (shell : Keeps) (from to : ℕ) → from ≡ to → IsJoinedAt shell from to shell
-joined_itself shell from to same d =
+-- a store tells its own entries apart, one for each place
+own_apart : (s : EntryMap) → AreToldApart (edits_of s ++ edits_of s)
+own_apart s e f a b same version =
+    let one : (g : Edit) → IsAmong g (edits_of s ++ edits_of s) → finmap.get s g.place ≡ Some (entry_of g) = λ g among.
+    elim (IsAmong-append_cases g (edits_of s) (edits_of s) among) as (λ c. finmap.get s g.place ≡ Some (entry_of g)) [ inl h ↦ get_from_edits_of g s h | inr h ↦ get_from_edits_of g s h ]
+    in
+    let entries : Some (entry_of e) ≡ Some (entry_of f) = sym (one e a) ∙ ap (finmap.get s) same ∙ one f b in
+    same_edit e f same entries
+  where
+    same_edit : (e f : Edit) → e.place ≡ f.place → Some (entry_of e) ≡ Some (entry_of f) → e ≡ f
+    same_edit e f place entries = λ i. record { place = place i; version = (version_is i).version; content = (version_is i).content }
+      where
+        version_is : entry_of e ≡ entry_of f
+        version_is = cc (entries)
+
+-- a node lacks nothing of itself
+pub given_itself : (shell : Keeps) (from to : ℕ) → from ≡ to → IsGivenAt shell from to shell
+given_itself shell from to same d =
     let node = get_or shell.nodes to d in
-    let whole : joined_with node (get_or shell.nodes from d) ≡ node =
-    (λ i. record node { store = join node.store (get_or shell.nodes (same i) d).store }) ∙ (λ i. record node { store = join_idem node.store i })
+    let store : join node.store (cut node.store (digest_of node.store) None) ≡ node.store = whole_answer node.store node.store (own_apart node.store) ∙ join_idem node.store in
+    let whole : given_of node (get_or shell.nodes from d) ≡ node =
+    (λ i. given_of node (get_or shell.nodes (same i) d)) ∙ (λ i. record node { store = store i })
     in
     λ i. record shell { nodes = sym (ap (set shell.nodes to) whole ∙ set-get_or shell.nodes to d) i }
 
-module _ (nodes : List Replicated) (from to : ℕ) (lt_from : from < length nodes) (lt_to : to < length nodes) (r : Replicated) (is : r ≡ get_or nodes to r) (empty : Replicated) (nothing : empty.store ≡ sum_of []) where
-  -- the other store, unless it is the one that was taken out
-  join_other : (o : Replicated) → o ≡ get_or (set nodes to empty) from o → (d : Replicated) → join r.store o.store ≡ join (get_or nodes to d).store (get_or nodes from d).store
-  join_other o there d = by (from == to) refl
-    where
-      mine : r ≡ get_or nodes to d
-      mine = is ∙ get_or_any nodes to r d lt_to
-
-      by : (b : Bool) → (from == to) ≡ b → join r.store o.store ≡ join (get_or nodes to d).store (get_or nodes from d).store
-      by true e =
-          let same : from ≡ to = eqb-true from to e in
-          let out : o.store ≡ sum_of [] = ap (λ (n : Replicated). n.store) (there ∙ ap (λ j. get_or (set nodes to empty) j o) same ∙ get_or_here nodes to empty o lt_to) ∙ nothing in
-          ap (join r.store) out ∙ join-nothing r.store ∙ sym (join_idem r.store)
-          ∙ (λ n. join (mine n).store ((mine ∙ ap (λ j. get_or nodes j d) (sym same)) n).store)
-      by false e =
-          let apart : from ≡ to → ⊥ = λ same. true≢false (sym (eq-eqb from to same) ∙ e) in
-          let other : o ≡ get_or nodes from d = there ∙ get_or_there nodes to from empty o apart ∙ get_or_any nodes from o d lt_from in
-          λ n. join (mine n).store (other n).store
-
-  pub merged_at : (o merged : Replicated) (E : Type 0) (outcome : Result ℕ E)
-      → o ≡ get_or (set nodes to empty) from o
-      → OnOk outcome (merged ≡ record r { store = join r.store o.store })
-      → OnOk outcome ((d : Replicated) → set (set nodes to empty) to merged ≡ set nodes to (joined_with (get_or nodes to d) (get_or nodes from d)))
-  merged_at o merged E (Err e) there ok = tt
-  merged_at o merged E (Ok n) there ok = λ d.
-      let mine : r ≡ get_or nodes to d = is ∙ get_or_any nodes to r d lt_to in
-      let writer : merged.writer ≡ (get_or nodes to d).writer = ap (λ (x : Replicated). x.writer) ok ∙ ap (λ (x : Replicated). x.writer) mine in
-      let store : merged.store ≡ join (get_or nodes to d).store (get_or nodes from d).store = ap (λ (x : Replicated). x.store) ok ∙ join_other o there d in
-      set_twice nodes to empty merged ∙ (λ i. set nodes to (record { store = store i; writer = writer i }))
+module _ (nodes : List Replicated) (from to : ℕ) (lt_from : from < length nodes) (lt_to : to < length nodes) (here there : Replicated) (is_here : here ≡ get_or nodes to here) (is_there : there ≡ get_or nodes from there) where
+  -- a node's answer is joined into another
+  pub given_at : (piece : EntryMap) (given : Replicated) (E : Type 0) (outcome : Result ℕ E)
+      → piece ≡ cut there.store (digest_of here.store) None
+      → OnOk outcome (given ≡ record here { store = join here.store piece })
+      → OnOk outcome ((d : Replicated) → set nodes to given ≡ set nodes to (given_of (get_or nodes to d) (get_or nodes from d)))
+  given_at piece given E (Err e) is ok = tt
+  given_at piece given E (Ok n) is ok = λ d.
+      let mine : here ≡ get_or nodes to d = is_here ∙ get_or_any nodes to here d lt_to in
+      let other : there ≡ get_or nodes from d = is_there ∙ get_or_any nodes from there d lt_from in
+      let whole : given ≡ given_of here there = ok ∙ ap (λ (p : EntryMap). record here { store = join here.store p }) is in
+      ap (set nodes to) (whole ∙ (λ i. given_of (mine i) (other i)))
 
 -- the places that change are counted
-pub count_changed : (nodes : List Replicated) (to : ℕ) (r empty merged : Replicated) {E : Type 0} (outcome : Result ℕ E) → to < length nodes → r ≡ get_or nodes to r
-    → IfOk outcome (λ n. n ≡ changed_places r.store merged.store)
-    → IfOk outcome (λ n. (d : Replicated) → n ≡ changed_places (get_or nodes to d).store (get_or (set (set nodes to empty) to merged) to d).store)
-count_changed nodes to r empty merged (Err e) lt is h = tt
-count_changed nodes to r empty merged (Ok n) lt is h = λ d.
-    let new : get_or (set (set nodes to empty) to merged) to d ≡ merged = ap (λ (l : List Replicated). get_or l to d) (set_twice nodes to empty merged) ∙ get_or_here nodes to merged d lt in
-    h ∙ ap (λ (x : Replicated). changed_places x.store merged.store) (is ∙ get_or_any nodes to r d lt)
-    ∙ ap (λ (x : Replicated). changed_places (get_or nodes to d).store x.store) (sym new)
+pub count_changed : (nodes : List Replicated) (to : ℕ) (here given : Replicated) {E : Type 0} (outcome : Result ℕ E) → to < length nodes → here ≡ get_or nodes to here
+    → IfOk outcome (λ n. n ≡ changed_places here.store given.store)
+    → IfOk outcome (λ n. (d : Replicated) → n ≡ changed_places (get_or nodes to d).store (get_or (set nodes to given) to d).store)
+count_changed nodes to here given (Err e) lt is h = tt
+count_changed nodes to here given (Ok n) lt is h = λ d.
+    h ∙ ap (λ (x : Replicated). changed_places x.store given.store) (is ∙ get_or_any nodes to here d lt)
+    ∙ ap (λ (x : Replicated). changed_places (get_or nodes to d).store x.store) (sym (get_or_here nodes to given d lt))
 
 -- and nothing else changes
-pub joined_in : (shell : Keeps) (from to : ℕ) (now : List Replicated) {E : Type 0} (outcome : Result ℕ E)
-    → OnOk outcome ((d : Replicated) → now ≡ set shell.nodes to (joined_with (get_or shell.nodes to d) (get_or shell.nodes from d)))
-    → OnOk outcome (IsJoinedAt shell from to (record shell { nodes = now }))
-joined_in shell from to now (Err e) is = tt
-joined_in shell from to now (Ok n) is = λ d i. record shell { nodes = is d i }
+pub given_in : (shell : Keeps) (from to : ℕ) (now : List Replicated) {E : Type 0} (outcome : Result ℕ E)
+    → OnOk outcome ((d : Replicated) → now ≡ set shell.nodes to (given_of (get_or shell.nodes to d) (get_or shell.nodes from d)))
+    → OnOk outcome (IsGivenAt shell from to (record shell { nodes = now }))
+given_in shell from to now (Err e) is = tt
+given_in shell from to now (Ok n) is = λ d i. record shell { nodes = is d i }
 
-module _ (shell now : Keeps) (j i : ℕ) (d : Replicated) (lt_from : j < length shell.nodes) (lt_to : i < length shell.nodes) (joined : IsJoinedAt shell j i now) where
+module _ (shell now : Keeps) (j i : ℕ) (d : Replicated) (lt_from : j < length shell.nodes) (lt_to : i < length shell.nodes) (given : IsGivenAt shell j i now) where
   pub merge_goes : Continues shell now (λ old new. new ≡ merged old j i)
   merge_goes world h =
       let node = get_or shell.nodes i d in
@@ -80,12 +78,12 @@ module _ (shell now : Keeps) (j i : ℕ) (d : Replicated) (lt_from : j < length 
       let at = slice_get_at shell.nodes i node lt_to (get_or_twice shell.nodes i d) in
       let there = slice_get_at shell.nodes j other lt_from (get_or_twice shell.nodes j d) in (
         merged world j i,
-        subst (λ (s : Keeps). Holds s (merged world j i)) (sym (joined d)) (holds_merge shell world h j i node other (joined_with node other) lt_from lt_to at there refl refl),
+        subst (λ (s : Keeps). Holds s (merged world j i)) (sym (given d)) (holds_merge shell world h j i node other (given_of node other) lt_from lt_to at there refl refl),
         refl,
       )
 
   pub same_count : length now.nodes ≡ length shell.nodes
-  same_count = ap (λ (s : Keeps). length s.nodes) (joined d) ∙ length_set shell.nodes i _
+  same_count = ap (λ (s : Keeps). length s.nodes) (given d) ∙ length_set shell.nodes i _
 
   -- the places that change are counted
   pub merge_counted : (changed : ℕ) (text : Vec ℕ Global) → ((c : Replicated) → changed ≡ changed_places (get_or shell.nodes i c).store (get_or now.nodes i c).store) → text.items ≡ changed_line changed

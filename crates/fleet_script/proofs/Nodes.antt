@@ -1,7 +1,7 @@
 -- The state of the shell and the world agree after each event.
 use Rattle.std.proofs.Common.{◌++◌, ◌<◌, ◌==◌, ◌∷◌, ◌≡◌, ◌≢◌}
 use Rattle.world_law.specs.declared.events.Event.TheVariants.{Put}
-use Rattle.fleet_script.proofs.Prelude.{[], answer_is, answered, ap, arith, Ask, Bool, bytes_eq, cond, Content, Cut, cut, digest_of, EntryMap, eq-eqb, eqb-true, false, get_or, Give, happened, held, held_answered, held_given, held_given_elsewhere, held_merged, held_merged_elsewhere, held_past, held_put, held_put_elsewhere, held_with_node, Holds, IsNamed, IsPiece, is_used, IsValid, join, Keeps, length, List, Member, merged, nat_lt, nat_tests, next_ask, next_edit, next_piece, node_named, node_named-push, None, Option, parted, piece_named, piece_stays, PlaceParts, Profile, refl, Replicated, ScriptWorld, set, slice_get, Some, state, state_with_node, subst, suc, sum_of, sym, true, true≢false, used_put, used_with_node, valid_answered, valid_given, valid_merged, valid_put, valid_with_node, valid_with_profile, with_edit, with_node, with_profile, writer_at, zero, ℕ, ◌∙◌}
+use Rattle.fleet_script.proofs.Prelude.{[], answer_is, answered, ap, arith, Ask, Bool, bytes_eq, cond, Content, Cut, cut, digest_of, EntryMap, eq-eqb, eqb-true, false, get_or, Give, happened, held, held_answered, held_given, held_given_elsewhere, held_past, held_put, held_put_elsewhere, held_with_node, Holds, IsNamed, IsPiece, is_used, IsValid, join, Keeps, length, List, Member, merged, nat_lt, nat_tests, next_ask, next_edit, next_piece, node_named, node_named-push, None, Option, parted, piece_named, piece_stays, PlaceParts, Profile, refl, Replicated, ScriptWorld, set, slice_get, Some, state, state_with_node, subst, suc, sum_of, sym, true, true≢false, used_put, used_with_node, valid_answered, valid_given, valid_put, valid_with_node, valid_with_profile, with_edit, with_node, with_profile, writer_at, zero, ℕ, ◌∙◌}
 use Rattle.world_law.specs.Worlds as worlds
 
 -- ---- places
@@ -167,18 +167,6 @@ module _ (shell : Keeps) (world : ScriptWorld) (h : Holds shell world) where
       (store ∙ ap (λ (s : EntryMap). with_edit s edit) (h.stores i node at) ∙ sym (held_put world i edit (below_count i lt)))
       (held_put_elsewhere world i edit)
 
-  -- a node is given all that it lacks of another
-  pub holds_merge : (j i : ℕ) (node other new : Replicated) → j < length shell.nodes → i < length shell.nodes → slice_get shell.nodes i ≡ Some node → slice_get shell.nodes j ≡ Some other
-      → new.writer ≡ node.writer → new.store ≡ join node.store other.store → Holds (record shell { nodes = set shell.nodes i new }) (merged world j i)
-  holds_merge j i node other new lt_from lt_to at from writer store =
-      holds_at (merged world j i) i node new lt_to at writer refl refl refl (λ number. refl) (valid_merged world j i h.valid (below_count j lt_from) (below_count i lt_to))
-      (λ p piece there. piece_stays (state (answered world j i None)) (Give (next_piece world) i) p piece (answered_stays j i None p piece there))
-      (store ∙ (λ n. join (h.stores i node at n) (h.stores j other from n)) ∙ sym (held_merged world h.valid j i (below_count j lt_from) (below_count i lt_to)))
-      (λ k ne. held_merged_elsewhere world j i k ne)
-    where
-      answered_stays : (from to : ℕ) (places : Option (List PlaceParts)) (p : ℕ) (piece : worlds.Piece) → slice_get (state world).pieces p ≡ Some piece → slice_get (state (answered world from to places)).pieces p ≡ Some piece
-      answered_stays from to places p piece there = piece_stays (state (happened world (Ask to))) (Cut from (next_ask world) places) p piece (piece_stays (state world) (Ask to) p piece there)
-
   -- a node is given a piece
   pub holds_send : (p i : ℕ) (node new : Replicated) (piece : worlds.Piece) → i < length shell.nodes → slice_get shell.nodes i ≡ Some node → slice_get (state world).pieces p ≡ Some piece
       → new.writer ≡ node.writer → new.store ≡ join node.store piece.entries → Holds (record shell { nodes = set shell.nodes i new }) (happened world (Give p i))
@@ -187,6 +175,22 @@ module _ (shell : Keeps) (world : ScriptWorld) (h : Holds shell world) where
       (λ q other there. piece_stays (state world) (Give p i) q other there)
       (store ∙ ap (λ (s : EntryMap). join s piece.entries) (h.stores i node at) ∙ sym (held_given world h.valid p i piece is (below_count i lt)))
       (λ k ne. held_given_elsewhere world p i k ne)
+
+  answered_stays : (from to : ℕ) (places : Option (List PlaceParts)) (p : ℕ) (piece : worlds.Piece) → slice_get (state world).pieces p ≡ Some piece → slice_get (state (answered world from to places)).pieces p ≡ Some piece
+  answered_stays from to places p piece there = piece_stays (state (happened world (Ask to))) (Cut from (next_ask world) places) p piece (piece_stays (state world) (Ask to) p piece there)
+
+  -- a node answers another
+  pub holds_answered : (j i : ℕ) (places : Option (List PlaceParts)) → j < length shell.nodes → i < length shell.nodes → Holds shell (answered world j i places)
+  holds_answered j i places lt_from lt_to = record {
+    count = h.count;
+    writers = h.writers;
+    stores = λ k node at. h.stores k node at ∙ sym (held_answered world j i places k);
+    numbers = h.numbers;
+    taken = h.taken;
+    pieces = λ name. named_stays world (answered world j i places) (answered_stays j i places) (shell.piece_of name) (piece_named world.pieces name) (h.pieces name);
+    profile = h.profile;
+    valid = valid_answered world j i places h.valid (below_count j lt_from) (below_count i lt_to);
+  }
 
   -- what a node cuts for another is stored under a name
   pub holds_part : (name : List ℕ) (j i : ℕ) (places : Option (List PlaceParts)) (now : Keeps) (piece : EntryMap) → j < length shell.nodes → i < length shell.nodes
@@ -278,3 +282,11 @@ module _ (shell : Keeps) (world : ScriptWorld) (h : Holds shell world) where
       writer_last : (nodes : List Member) → writer_at (nodes ++ m ∷ []) (length nodes) ≡ writer
       writer_last [] = refl
       writer_last (n ∷ nodes) = writer_last nodes
+
+-- a node is given all that it lacks of another
+pub holds_merge : (shell : Keeps) (world : ScriptWorld) (h : Holds shell world) (j i : ℕ) (node other new : Replicated) → j < length shell.nodes → i < length shell.nodes → slice_get shell.nodes i ≡ Some node → slice_get shell.nodes j ≡ Some other
+    → new.writer ≡ node.writer → new.store ≡ join node.store (cut other.store (digest_of node.store) None) → Holds (record shell { nodes = set shell.nodes i new }) (merged world j i)
+holds_merge shell world h j i node other new lt_from lt_to at from writer store =
+    let made = answer_is (length world.nodes) world.events h.valid.told j i (below_count shell world h j lt_from) (below_count shell world h i lt_to) None in
+    let entries : cut other.store (digest_of node.store) None ≡ made.0.entries = (λ n. cut (h.stores j other from n) (digest_of (h.stores i node at n)) None) ∙ sym made.2 in
+    holds_send shell (answered world j i None) (holds_answered shell world h j i None lt_from lt_to) (next_piece world) i node new made.0 lt_to at made.1 writer (store ∙ ap (join node.store) entries)

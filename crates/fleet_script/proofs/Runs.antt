@@ -1,7 +1,7 @@
 -- How a run goes from line to line, and how its answers reach the writer.
 use Rattle.std.proofs.Common.{if◌then◌else◌, ◌++◌, ◌+◌, ◌∷◌, ◌≡◌, ◌≤◌, ◌⊎◌}
 use Rattle.fleet_script.proofs.WholeScripts.{prefix_of_prefix, run_grows}
-use Rattle.fleet_script.proofs.Prelude.{[], AnswersFrom, AnswersLine, ap, append-nil, append_assoc, Appends, Appends-append, Appends-nothing, AppendsPrefix, AreAll, AreAll-some, arith, blank, Continues, EntryMap, Err, false, FirstIsHeld, held, Holds, inl, inr, is_err, is_ok, IsAnswered, IsPrefixFrom, IsPrefixWritten, IsValid, Keeps, length, lines_of, List, None, Ok, OnErr, OnOk, Option, PrefixFrom, refl, Result, Run, ScriptWorld, Some, StaysKept, subst, sym, take, take-append-add, take_all, take_at, true, true≢false, ℕ, ◌∙◌}
+use Rattle.fleet_script.proofs.Prelude.{[], AnswersFrom, AnswersLine, ap, append-nil, append_assoc, Appends, Appends-append, Appends-nothing, AppendsPrefix, AreAll, AreAll-some, arith, blank, Continues, EntryMap, Err, false, FirstIsHeld, held, Holds, inl, inr, is_err, is_ok, IsAnswered, IsPrefixFrom, IsPrefixWritten, IsValid, Keeps, length, lines_of, List, Ok, OnErr, OnOk, Option, PrefixFrom, refl, Result, Run, ScriptWorld, StaysKept, subst, sym, take, take-append-add, take_all, take_at, true, true≢false, ℕ, ◌∙◌}
 
 -- one more line
 run_more : (old : ScriptWorld) (lines : List (List ℕ)) (written : List ℕ) (mid : ScriptWorld) (line answer : List ℕ) (new : ScriptWorld)

@@ -1,149 +1,53 @@
--- A sweep of replicas leaves what the merges of the world leave, one after another.
-use Rattle.std.proofs.Common.{◌++◌, ◌+◌, ◌-◌, ◌<◌, ◌∷◌, ◌≡◌, ◌≤◌}
-use Rattle.fleet_script.proofs.Prelude.{[], ap, append_assoc, arith, codes, EntryMap, get_or, Global, Goes, Holds, IsStoreBelow, join, join-least, join-left, join-nothing, join-right, join_all, join_assoc, joined_with, Keeps, length, List, map, merged, merged_all, numbers_from, Ok, refl, Replicated, ScriptWorld, set, store_below_antisym, store_below_refl, store_below_trans, subst, suc, Sweeps, sym, Vec, with_store, zero, ℕ, ◌∙◌}
-use Rattle.fleet_script.proofs.{Between.{any_node}, Nodes.{get_or_twice, holds_merge, length_push, length_set, slice_get_at}}
+-- A sweep is merges, one after another.
+use Rattle.std.proofs.Common.{◌++◌, ◌+◌, ◌-◌, ◌∷◌, ◌≡◌, ◌≤◌}
+use Rattle.fleet_script.proofs.Prelude.{[], ap, AreMerged, arith, codes, Continues, Global, Goes, into_first, Keeps, length, List, map, merged, merged_all, numbers_from, Ok, out_of_first, refl, ScriptWorld, subst, suc, Sweeps, sym, Vec, zero, ℕ, ◌∙◌}
+use Rattle.fleet_script.proofs.Between.{merged_all-append}
 
--- ---- merges of replicas
+pub none_merged : (shell : Keeps) → AreMerged shell shell []
+none_merged shell world h = (world, h, refl)
 
--- merges one after another, each from one place into another
-abbrev pub merged_in : List Replicated → List (ℕ × ℕ) → List Replicated
-merged_in nodes [] = nodes
-merged_in nodes (pair ∷ pairs) = merged_in (set nodes pair.1 (joined_with (get_or nodes pair.1 any_node) (get_or nodes pair.0 any_node))) pairs
+-- one more merge
+pub one_more : (old now next : Keeps) (pairs : List (ℕ × ℕ)) (from to : ℕ) → AreMerged old now pairs → Continues now next (λ before after. after ≡ merged before from to) → AreMerged old next (pairs ++ (from, to) ∷ [])
+one_more old now next pairs from to before step world h =
+    let first = before world h in
+    let second = step first.0 first.1 in
+    (second.0, second.1, second.2 ∙ ap (λ (w : ScriptWorld). merged w from to) first.2 ∙ sym (merged_all-append world pairs ((from, to) ∷ [])))
 
-merged_in-append : (nodes : List Replicated) (xs ys : List (ℕ × ℕ)) → merged_in nodes (xs ++ ys) ≡ merged_in (merged_in nodes xs) ys
-merged_in-append nodes [] ys = refl
-merged_in-append nodes (x ∷ xs) ys = merged_in-append (set nodes x.1 (joined_with (get_or nodes x.1 any_node) (get_or nodes x.0 any_node))) xs ys
+-- and one more number
+numbers_more : (first count : ℕ) → numbers_from first (suc count) ≡ numbers_from first count ++ (first + count) ∷ []
+numbers_more first zero = let same : first ≡ first + 0 = omega arith in ap (λ n. n ∷ []) same
+numbers_more first (suc count) =
+    let same : suc first + count ≡ first + suc count = omega arith in
+    ap (λ ns. first ∷ ns) (numbers_more (suc first) count ∙ ap (λ n. numbers_from (suc first) count ++ n ∷ []) same)
 
--- all are below this number
-abbrev pub AreWithin : ℕ → List (ℕ × ℕ) → Type 0
-AreWithin n [] = Unit {0}
-AreWithin n (pair ∷ pairs) = (pair.0 < n) × (pair.1 < n) × AreWithin n pairs
+map_push : (f : ℕ → ℕ × ℕ) (ns : List ℕ) (n : ℕ) → map f (ns ++ n ∷ []) ≡ map f ns ++ f n ∷ []
+map_push f [] n = refl
+map_push f (m ∷ ns) n = ap (λ ps. f m ∷ ps) (map_push f ns n)
 
-within-append : (n : ℕ) (xs ys : List (ℕ × ℕ)) → AreWithin n xs → AreWithin n ys → AreWithin n (xs ++ ys)
-within-append n [] ys p q = q
-within-append n (x ∷ xs) ys p q = (p.0, p.1, within-append n xs ys p.2 q)
+pub next_pairs : (f : ℕ → ℕ × ℕ) (n : ℕ) → 1 ≤ n → map f (numbers_from 1 (n - 1)) ++ f n ∷ [] ≡ map f (numbers_from 1 (n + 1 - 1))
+next_pairs f n low =
+    let here : n ≡ 1 + (n - 1) = omega arith in
+    let more : suc (n - 1) ≡ n + 1 - 1 = omega arith in
+    sym (map_push f (numbers_from 1 (n - 1)) n) ∙ ap (λ m. map f (numbers_from 1 (n - 1) ++ m ∷ [])) here ∙ sym (ap (map f) (numbers_more 1 (n - 1))) ∙ ap (λ m. map f (numbers_from 1 m)) more
 
-within-map : (f : ℕ → ℕ × ℕ) (n first count : ℕ) → ((k : ℕ) → first ≤ k → k < first + count → ((f k).0 < n) × ((f k).1 < n)) → AreWithin n (map f (numbers_from first count))
-within-map f n first zero each = tt
-within-map f n first (suc count) each =
-    let here = each first (omega arith) (omega arith) in
-    (here.0, here.1, within-map f n (suc first) count (λ k low high. each k (omega arith) (omega arith)))
+-- as many merges as there are other nodes
+pub all_pairs : (old now : Keeps) (f : ℕ → ℕ × ℕ) (n m : ℕ) → n - 1 ≤ m - 1 → m ≤ n → AreMerged old now (map f (numbers_from 1 (n - 1))) → AreMerged old now (map f (numbers_from 1 (m - 1)))
+all_pairs old now f n m low high merged =
+    let same : n - 1 ≡ m - 1 = omega arith in
+    subst (λ (k : ℕ). AreMerged old now (map f (numbers_from 1 k))) same merged
 
--- the world follows them
-holds_merges : (shell : Keeps) (world : ScriptWorld) → Holds shell world → (pairs : List (ℕ × ℕ)) → AreWithin (length shell.nodes) pairs
-    → Holds (record shell { nodes = merged_in shell.nodes pairs }) (merged_all world pairs)
-holds_merges shell world h [] within = h
-holds_merges shell world h (pair ∷ pairs) within =
-    let from = pair.0 in
-    let to = pair.1 in
-    let node = get_or shell.nodes to any_node in
-    let other = get_or shell.nodes from any_node in
-    let new = joined_with node other in
-    let at = slice_get_at shell.nodes to node within.1 (get_or_twice shell.nodes to any_node) in
-    let there = slice_get_at shell.nodes from other within.0 (get_or_twice shell.nodes from any_node) in
-    holds_merges (record shell { nodes = set shell.nodes to new }) (merged world from to)
-    (holds_merge shell world h from to node other new within.0 within.1 at there refl refl)
-    pairs (subst (λ (n : ℕ). AreWithin n pairs) (sym (length_set shell.nodes to new)) within.2)
-
--- ---- merges of a sweep
-
--- into the first, and out of the first
-abbrev pub into : ℕ → ℕ × ℕ
-into k = (k, 0)
-
-abbrev pub out_of : ℕ → ℕ × ℕ
-out_of k = (0, k)
-
-abbrev pub sweep_pairs : ℕ → List (ℕ × ℕ)
-sweep_pairs n = map into (numbers_from 1 (n - 1)) ++ map out_of (numbers_from 1 (n - 1))
-
--- a store, into which the stores of some replicas are joined
-abbrev pub gathered : EntryMap → List Replicated → EntryMap
-gathered s [] = s
-gathered s (r ∷ rs) = gathered (join s r.store) rs
-
-module _ {X : Type 0} where
-  get_between : (xs : List X) (x : X) (ys : List X) (d : X) → get_or (xs ++ x ∷ ys) (length xs) d ≡ x
-  get_between [] x ys d = refl
-  get_between (y ∷ xs) x ys d = get_between xs x ys d
-
-  set_between : (xs : List X) (x : X) (ys : List X) (z : X) → set (xs ++ x ∷ ys) (length xs) z ≡ xs ++ z ∷ ys
-  set_between [] x ys z = refl
-  set_between (y ∷ xs) x ys z = ap (λ zs. y ∷ zs) (set_between xs x ys z)
-
--- one more is done
-one_done : {A : Type 0} (F : List Replicated → ℕ → A) (done todo : List Replicated) (next : Replicated)
-    → F (done ++ next ∷ todo) (suc (length done)) ≡ F ((done ++ next ∷ []) ++ todo) (length (done ++ next ∷ []))
-one_done F done todo next = λ i. F (sym (append_assoc done (next ∷ []) todo) i) (sym (length_push done next) i)
-
--- the others, from those after some on, are merged into the first
-into_first : (first : Replicated) (done todo : List Replicated)
-    → merged_in (first ∷ (done ++ todo)) (map into (numbers_from (suc (length done)) (length todo))) ≡ with_store (gathered first.store todo) first ∷ (done ++ todo)
-into_first first done [] = refl
-into_first first done (r ∷ todo) =
-    let next = joined_with first r in
-    ap (λ (o : Replicated). merged_in (joined_with first o ∷ (done ++ r ∷ todo)) (map into (numbers_from (suc (suc (length done))) (length todo)))) (get_between done r todo any_node)
-    ∙ one_done (λ rs n. merged_in (next ∷ rs) (map into (numbers_from (suc n) (length todo)))) done todo r
-    ∙ into_first next (done ++ r ∷ []) todo
-    ∙ ap (λ (rs : List Replicated). with_store (gathered next.store todo) next ∷ rs) (append_assoc done (r ∷ []) todo)
-
--- and the first into them
-out_of_first : (first : Replicated) (done todo : List Replicated)
-    → merged_in (first ∷ (done ++ todo)) (map out_of (numbers_from (suc (length done)) (length todo))) ≡ first ∷ (done ++ map (λ (r : Replicated). joined_with r first) todo)
-out_of_first first done [] = refl
-out_of_first first done (r ∷ todo) =
-    let next = joined_with r first in
-    ap (λ (o : Replicated). merged_in (first ∷ set (done ++ r ∷ todo) (length done) (joined_with o first)) (map out_of (numbers_from (suc (suc (length done))) (length todo)))) (get_between done r todo any_node)
-    ∙ ap (λ (rs : List Replicated). merged_in (first ∷ rs) (map out_of (numbers_from (suc (suc (length done))) (length todo)))) (set_between done r todo next)
-    ∙ one_done (λ rs n. merged_in (first ∷ rs) (map out_of (numbers_from (suc n) (length todo)))) done todo next
-    ∙ out_of_first first (done ++ next ∷ []) todo
-    ∙ ap (λ (rs : List Replicated). first ∷ rs) (append_assoc done (next ∷ []) (map (λ (r : Replicated). joined_with r first) todo))
-
--- ---- what they leave
-
-gathered_all : (s : EntryMap) (rs : List Replicated) → gathered s rs ≡ join s (join_all (map (λ (r : Replicated). r.store) rs))
-gathered_all s [] = sym (join-nothing s)
-gathered_all s (r ∷ rs) = gathered_all (join s r.store) rs ∙ join_assoc s r.store (join_all (map (λ (r : Replicated). r.store) rs))
-
--- the join with a store above is that store
-join_below : (s t : EntryMap) → IsStoreBelow s t → join s t ≡ t
-join_below s t below = store_below_antisym (join s t) t (join-least s t t below (store_below_refl t)) (join-right s t)
-
-all_joined : (rs : List Replicated) (s all : EntryMap) → all ≡ join s (join_all (map (λ (r : Replicated). r.store) rs))
-    → map (λ (r : Replicated). with_store (join r.store all) r) rs ≡ map (with_store all) rs
-all_joined [] s all is = refl
-all_joined (r ∷ rs) s all is =
-    let later = join_all (map (λ (r : Replicated). r.store) rs) in
-    let below : IsStoreBelow r.store all =
-    subst (λ (t : EntryMap). IsStoreBelow r.store t) (sym is) (store_below_trans r.store (join r.store later) (join s (join r.store later)) (join-left r.store later) (join-right s (join r.store later)))
-    in
-    let others = all_joined rs (join s r.store) all (is ∙ sym (join_assoc s r.store later)) in
-    λ i. with_store (join_below r.store all below i) r ∷ others i
-
-swept_nodes : (nodes : List Replicated) → merged_in nodes (sweep_pairs (length nodes)) ≡ map (with_store (join_all (map (λ (r : Replicated). r.store) nodes))) nodes
-swept_nodes [] = refl
-swept_nodes (first ∷ rest) =
-    let all = join_all (map (λ (r : Replicated). r.store) (first ∷ rest)) in
-    let one = with_store all first in
-    let count : suc (length rest) - 1 ≡ length rest = omega arith in
-    let others = numbers_from 1 (length rest) in
-    ap (λ n. merged_in (first ∷ rest) (map into (numbers_from 1 n) ++ map out_of (numbers_from 1 n))) count
-    ∙ merged_in-append (first ∷ rest) (map into others) (map out_of others)
-    ∙ ap (λ (ns : List Replicated). merged_in ns (map out_of others)) (into_first first [] rest ∙ ap (λ (s : EntryMap). with_store s first ∷ rest) (gathered_all first.store rest))
-    ∙ out_of_first one [] rest
-    ∙ ap (λ (rs : List Replicated). one ∷ rs) (all_joined rest first.store all refl)
-
--- each node holds the join of all stores, and the world is swept
-pub sweep_done : (shell : Keeps) (now : List Replicated) (text : Vec ℕ Global) → text.items ≡ codes "ok\n" → now ≡ map (with_store (join_all (map (λ (r : Replicated). r.store) shell.nodes))) shell.nodes
-    → Goes shell (record shell { nodes = now }) (λ old outcome new. Sweeps old outcome new) (Ok text)
-sweep_done shell now text e swept_is world h =
-    let n = length shell.nodes in
-    let pairs = sweep_pairs n in
-    let within : AreWithin n pairs =
-    within-append n (map into (numbers_from 1 (n - 1))) (map out_of (numbers_from 1 (n - 1)))
-    (within-map into n 1 (n - 1) (λ k low high. (omega arith, omega arith))) (within-map out_of n 1 (n - 1) (λ k low high. (omega arith, omega arith)))
+-- each into the first, and then the first into each
+pub sweep_done : (old now new : Keeps) (text : Vec ℕ Global) → text.items ≡ codes "ok\n"
+    → AreMerged old now (map into_first (numbers_from 1 (length old.nodes - 1)))
+    → AreMerged now new (map out_of_first (numbers_from 1 (length old.nodes - 1)))
+    → Goes old new (λ before outcome after. Sweeps before outcome after) (Ok text)
+sweep_done old now new text e into out world h =
+    let first = into world h in
+    let second = out first.0 first.1 in
+    let all : second.0 ≡ merged_all world (map into_first (numbers_from 1 (length old.nodes - 1)) ++ map out_of_first (numbers_from 1 (length old.nodes - 1))) =
+    second.2 ∙ ap (λ (w : ScriptWorld). merged_all w (map out_of_first (numbers_from 1 (length old.nodes - 1)))) first.2 ∙ sym (merged_all-append world (map into_first (numbers_from 1 (length old.nodes - 1))) (map out_of_first (numbers_from 1 (length old.nodes - 1))))
     in (
-      merged_all world pairs,
-      subst (λ (ns : List Replicated). Holds (record shell { nodes = ns }) (merged_all world pairs)) (swept_nodes shell.nodes ∙ sym swept_is) (holds_merges shell world h pairs within),
-      record { outcome_is = ap Ok e; world_is = ap (λ m. merged_all world (sweep_pairs m)) h.count },
+      second.0,
+      second.1,
+      record { outcome_is = ap Ok e; world_is = all ∙ ap (λ n. merged_all world (map into_first (numbers_from 1 (n - 1)) ++ map out_of_first (numbers_from 1 (n - 1)))) h.count },
     )

@@ -2,7 +2,7 @@
 -- never spent.
 use Rattle.std.proofs.Common.{◌++◌, ◌+◌, ◌==◌, ◌∷◌, ◌≡◌, ◌≤◌, ◌⊎◌}
 use Rattle.script_words.specs.Lines.{lines_of}
-use Rattle.fleet_script.proofs.Prelude.{[], Answers, AnswersCommand, AnswersLine, ap, append_assoc, Arguments, arith, BeginsWithVerb, begun, blank, Bool, Command, command_of, cond, count_by-le-length, counted, CountersAreLines, CountsOn, Does, Edit, Err, error_line, false, held, high_of, high_among-edits_of, counter_among, edits_of, EntryMap, inl, inr, is_passed_over, is_spent, IsAmong, IsHonest, IsPutUpTo, IsStoreBelow, IsValid, length, length-slice_split, length-take, LineRefusal, lines_of_parts, LineTooLong, List, MatchBool, MatchResult, nat_lt, ne_eqb, NodesHaveTheNumbers, NoLineIsRefusedForVersions, Ok, others_are_refused, Outcome, outcome_text, PrefixesAreOfTheWhole, put_blank, puts, puts_begun, refl, Refuses, Result, Run, Says, ScriptWorld, slice_split, state, StaysHonest, store_below_refl, subst, suc, sum_of-least, sym, take, took, true, true≢false, UnknownCommand, valid_begun, valid_blank, VersionsAreNeverSpent, VersionsSpent, words_of, zero, ℕ, ◌∙◌}
+use Rattle.fleet_script.proofs.Prelude.{[], Answers, AnswersCommand, AnswersLine, ap, append_assoc, Arguments, arith, BeginsWithVerb, begun, blank, Bool, Command, command_of, cond, count_by-le-length, counted, CountersAreLines, CountsOn, Does, Edit, Err, error_line, false, held, high_of, high_among-edits_of, counter_among, edits_of, inl, inr, is_passed_over, is_spent, IsAmong, IsHonest, IsPutUpTo, IsStoreBelow, IsValid, length, length-slice_split, length-take, LineRefusal, lines_of_parts, LineTooLong, List, MatchBool, MatchResult, nat_lt, ne_eqb, NodesHaveTheNumbers, NoLineIsRefusedForVersions, Ok, others_are_refused, Outcome, outcome_text, PrefixesAreOfTheWhole, put_blank, puts, puts_begun, refl, Refuses, Result, Run, Says, ScriptWorld, slice_split, state, StaysHonest, store_below_refl, subst, suc, sum_of-least, sym, take, took, true, true≢false, UnknownCommand, valid_begun, valid_blank, VersionsAreNeverSpent, VersionsSpent, words_of, zero, ℕ, ◌∙◌}
 use Rattle.fleet_script.proofs.StepKinds.{does, Follows, HasCounters, HaveNumbers, refused_once, stays}
 
 -- a line has one answer and leaves one world, which follows

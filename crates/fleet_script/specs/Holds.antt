@@ -2,7 +2,7 @@
 -- pieces; the writer numbers in use; and the profile. And what is kept of its first node.
 -- Source: this project's own.
 use Rattle.std.proofs.Common.{◌≡◌, ◌⊎◌}
-use Rattle.fleet_script.specs.Prelude.{[], Bool, Command, EntryMap, false, Fault, Global, held, IsPlaceFault, IsSaid, IsStoreBelow, is_used, IsValid, join, length, List, Memory, nat_cmp, node_named, None, Ok, Option, Outcome, piece_named, place_of, PlaceParts, Profile, Refused, Replicated, Result, ScriptWorld, slice_cmp, slice_get, slice_index_or, slice_set, Some, state, UnknownNode, Vec, writer_at, ℕ}
+use Rattle.fleet_script.specs.Prelude.{[], Bool, Command, cut, digest_of, EntryMap, false, Fault, Global, held, IsPlaceFault, IsSaid, is_used, IsValid, join, length, List, Memory, merged_all, nat_cmp, node_named, None, Ok, Option, Outcome, piece_named, place_of, PlaceParts, Profile, Refused, Replicated, Result, ScriptWorld, slice_cmp, slice_get, slice_index_or, slice_set, Some, state, UnknownNode, Vec, writer_at, ℕ}
 use Rattle.fleet_script.specs.{declared.states.Shell.{Shell}, Does.{Does}}
 use Rattle.std.specs.BTreeMap as maps
 use Rattle.std.specs.BTreeSet as sets
@@ -63,6 +63,17 @@ pub record Holds (shell : Keeps) (world : ScriptWorld) : Type 0 where
 abbrev pub Continues : Keeps → Keeps → (ScriptWorld → ScriptWorld → Type 0) → Type 0
 Continues old new step = (world : ScriptWorld) → Holds old world → (next : ScriptWorld) × Holds new next × step world next
 
+-- merges one after another, each from one node into another
+abbrev pub AreMerged : Keeps → Keeps → List (ℕ × ℕ) → Type 0
+AreMerged old new pairs = Continues old new (λ before after. after ≡ merged_all before pairs)
+
+-- into the first node, and out of it
+abbrev pub into_first : ℕ → ℕ × ℕ
+into_first k = (k, 0)
+
+abbrev pub out_of_first : ℕ → ℕ × ℕ
+out_of_first k = (0, k)
+
 -- the result of a step, unless memory ran out: it is possible from every world that the old shell represents
 abbrev pub Goes : Keeps → Keeps → (ScriptWorld → Outcome → ScriptWorld → Type 0) → Result (Vec ℕ Global) Fault → Type 0
 Goes old new step result = IsSaid (λ (text : Vec ℕ Global). text.items) result (λ outcome. Continues old new (λ before after. step before outcome after))
@@ -90,13 +101,13 @@ pub record IsSite (shell : Keeps) (name text : List ℕ) (at : ℕ) (place : Pla
 abbrev pub HasNoSite : Keeps → List ℕ → List ℕ → Fault → Type 0
 HasNoSite shell name text fault = HasNoNode shell name fault ⊎ ((at : ℕ) × (shell.number_of name ≡ Some at) × IsPlaceFault (place_of text) fault)
 
--- a node, with the store of another joined into its own
-abbrev pub joined_with : Replicated → Replicated → Replicated
-joined_with node other = record node { store = join node.store other.store }
+-- a node, with the answer of another to its ask joined into its store
+abbrev pub given_of : Replicated → Replicated → Replicated
+given_of node other = record node { store = join node.store (cut other.store (digest_of node.store) None) }
 
--- the store of one node is joined into that of another, and all else stays as it was
-abbrev pub IsJoinedAt : Keeps → ℕ → ℕ → Keeps → Type 0
-IsJoinedAt old from to new = (d : Replicated) → new ≡ record old { nodes = slice_set old.nodes to (joined_with (slice_index_or old.nodes to d) (slice_index_or old.nodes from d)) }
+-- one node's answer to another is joined into that one, and all else stays as it was
+abbrev pub IsGivenAt : Keeps → ℕ → ℕ → Keeps → Type 0
+IsGivenAt old from to new = (d : Replicated) → new ≡ record old { nodes = slice_set old.nodes to (given_of (slice_index_or old.nodes to d) (slice_index_or old.nodes from d)) }
 
 -- what the first node holds is held now, in whatever world the shell represents
 abbrev pub FirstIsHeld : Keeps → (EntryMap → Type 0) → (EntryMap → Type 0) → Type 0

@@ -7,7 +7,7 @@ pub use Rattle.script_answers.specs.{Crowds.{RendersCrowd}, Files.{RendersFiles}
 pub use Rattle.script_commands.specs.{Commands.{command_of}, declared.commands.{Command.{Command}, Fault.TheVariants.{Refused}}, Outcomes.{IsSaid}, Places.{IsPlaceFault, places_of}, Prelude.{is_file, is_target, IsBadText, place_of, PlaceFault, Spells}}
 pub use Rattle.script_pipes.specs.{Failures.{FailedSince}, KnownBytes.{AreAll, IsOver}}
 pub use Rattle.script_words.specs.Lines.{is_passed_over, lines_of}
-pub use Rattle.script_worlds.specs.{Counts.{IsCountedTo}, Validity.{is_used, IsValid, puts}, Worlds.{begun, blank, happened, has_writer, held, merged, next_edit, node_named, parted, piece_named, ScriptWorld, state, swept, with_node, with_profile, writer_at}}
+pub use Rattle.script_worlds.specs.{Counts.{IsCountedTo}, Validity.{is_used, IsValid, puts}, Worlds.{begun, blank, happened, has_writer, held, merged, merged_all, next_edit, numbers_from, node_named, parted, piece_named, ScriptWorld, state, swept, with_node, with_profile, writer_at}}
 pub use Rattle.std.{proofs.Common.{[], Bool, codes, Err, false, length, List, MatchOption, MatchResult, nat_lt, None, Ok, Option, Result, slice_get, slice_set, Some, take, ℕ}, specs.{Cmp.Lexicographic.{slice_cmp}, declared.alloc.Global.{Global}, Io.KnownBytes.{Appends, Keeps}, Ordering.{nat_cmp}, Prelude.{MatchBool, slice_index_or, Vec}}}
 pub use Rattle.worker_rounds.specs.WorkerCounts.{IsWorkerCount}
 pub use Rattle.world_law.specs.Cuts.{cut, digest_of}

@@ -1,22 +1,19 @@
 //! Commands between nodes, which bring to one node what another holds.
-ghost use Rattle.std.specs.Prelude.{◌≡◌, ◌<◌, vec_len, IfOk, OnOk, slice_index_or};
+ghost use Rattle.std.specs.Prelude.{◌≡◌, ◌<◌, ◌-◌, map, vec_len, IfOk, OnOk, slice_index_or};
 ghost use Rattle.edit_sums.specs.Sums.{changed_places};
 ghost use Rattle.replica_store.specs.Replicas.{Replicated};
 ghost use Rattle.world_law.specs.Cuts.{cut, digest_of};
 ghost use Rattle.script_commands.specs.declared.commands.Command.TheVariants.{Merge, Part, Send, Sweep};
-ghost use Rattle.fleet_script.specs.{Does.{if_any}, Holds.{Executes, IsJoinedAt, kept_in}};
+ghost use Rattle.script_worlds.specs.Worlds.{numbers_from};
+ghost use Rattle.fleet_script.specs.{Does.{if_any}, Holds.{AreMerged, Executes, into_first, IsGivenAt, kept_in, out_of_first}};
 
 use crate::states::{Rendered, Shell};
-use delta_gossip::sweep;
 use delta_pieces::{Piece, delta_between, delta_between_at};
-use fleet_answers::TrackedReplica;
 use load_places::Place;
 use plain_values::Bytes;
-use replica_store::Replica;
 use script_answers::{merge_done, part_done};
 use script_commands::{Fault, LineRefusal, Words, read_places};
 use std::alloc::{AllocError, Global};
-use std::mem;
 
 impl Shell {
     /// Gives a node all that it lacks of another.
@@ -65,24 +62,25 @@ impl Shell {
         Ok(merge_done(alloc, changed)?)
     }
 
-    /// Merges all nodes: afterwards each holds the join of all stores.
+    /// Merges all nodes: each into the first, and then the first into each.
     pub(super) fn sweep(&mut self, alloc: Global) -> Rendered
         ensures done { Executes self.old self.new Sweep result }
         ensures worker_count { self.new.workers ≡ self.old.workers }
     {
         let text = Vec::from_slice(alloc, b"ok\n")?;
-        sweep(&mut self.nodes)?;
+        self.gather(alloc)?;
+        self.spread(alloc)?;
         Ok(text)
     }
 }
 
 impl Shell {
-    // Joins the store of one node into that of another, and returns how many places changed. A node is not joined into
-    // itself, since it has all that it holds.
+    // Gives a node what it lacks of another, and returns how many places changed. A node lacks nothing of itself. Versions
+    // are compared, and no contents.
     fn merge_nodes(&mut self, alloc: Global, from: usize, to: usize) -> Result<u64, AllocError>
         requires from_within { from < vec_len self.old.nodes }
         requires to_within { to < vec_len self.old.nodes }
-        ensures joined { OnOk result (IsJoinedAt (kept_in self.old) from to (kept_in self.new)) }
+        ensures given { OnOk result (IsGivenAt (kept_in self.old) from to (kept_in self.new)) }
         ensures changed { IfOk result (λ changed. (d : Replicated) → changed ≡ changed_places
             (slice_index_or self.old.nodes.items to d).store (slice_index_or self.new.nodes.items to d).store) }
         ensures worker_count { self.new.workers ≡ self.old.workers }
@@ -90,14 +88,33 @@ impl Shell {
         if from == to {
             return Ok(0);
         }
-        // Taken out, so that both can be borrowed at once.
-        let mut taken = mem::replace(
-            &mut self.nodes[to],
-            TrackedReplica::new(Replica::new(alloc, 0)),
-        );
-        let outcome = taken.merge(self.nodes[from].store());
-        self.nodes[to] = taken;
-        outcome
+        let piece = delta_between(alloc, self.nodes[from].replica(), self.nodes[to].replica())?;
+        self.nodes[to].merge(piece.store())
+    }
+
+    // Merges each of the other nodes into the first.
+    fn gather(&mut self, alloc: Global) -> Result<(), AllocError>
+        ensures merged { OnOk result (AreMerged (kept_in self.old) (kept_in self.new)
+            (map into_first (numbers_from 1 (vec_len self.old.nodes - 1)))) }
+        ensures count { OnOk result (vec_len self.new.nodes ≡ vec_len self.old.nodes) }
+        ensures worker_count { self.new.workers ≡ self.old.workers }
+    {
+        for from in 1..self.nodes.len() {
+            self.merge_nodes(alloc, from, 0)?;
+        }
+        Ok(())
+    }
+
+    // Merges the first node into each of the others.
+    fn spread(&mut self, alloc: Global) -> Result<(), AllocError>
+        ensures merged { OnOk result (AreMerged (kept_in self.old) (kept_in self.new)
+            (map out_of_first (numbers_from 1 (vec_len self.old.nodes - 1)))) }
+        ensures worker_count { self.new.workers ≡ self.old.workers }
+    {
+        for to in 1..self.nodes.len() {
+            self.merge_nodes(alloc, 0, to)?;
+        }
+        Ok(())
     }
 
     // What one node cuts for the ask of another, at these places, or at all if none are given.

@@ -1,4 +1,4 @@
-use Rattle.fleet_script.proofs.{Prelude.{begun, codes, held, held_begun, List, ScriptWorld, subst, sym, ℕ}, Runs.{nothing_from, on_err, on_ok, whatever}}
+use Rattle.fleet_script.proofs.{Prelude.{begun, codes, held_begun, List, subst, sym, ℕ}, Runs.{nothing_from, on_err, on_ok, whatever}}
 use Rattle.fleet_script.proofs.running.run_kept.Goals as goal
 
 abbrev here : List ℕ

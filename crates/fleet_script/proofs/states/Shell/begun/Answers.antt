@@ -1,4 +1,4 @@
-use Rattle.std.proofs.Common.{◌++◌, ◌==◌, ◌∷◌, ◌≡◌}
+use Rattle.std.proofs.Common.{◌++◌, ◌==◌, ◌∷◌}
 use Rattle.fleet_script.proofs.{Beginnings.{holds_begun, is_written, no_key}, Goes.{key_updated}, Prelude.{[], ap, bytes_eq, cond, edits_of, EntryMap, List, Option, refl, Replicated, Some, true, ℕ, ◌∙◌}}
 use Rattle.fleet_script.proofs.states.Shell.begun.Goals as goal
 

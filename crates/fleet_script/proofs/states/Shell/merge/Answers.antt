@@ -8,5 +8,5 @@ returns-clause-done c =
     let rendered = Ok c.in_ok-merge_done.field-0 in
     with_node shell after rendered c.args.from.now c.in_ok-from.from (λ j old outcome new. AtNode old outcome new c.args.to.now (λ k. MergesInto old outcome new j k)) c.in_ok-from.ensures.found
     (with_node shell after rendered c.args.to.now c.in_ok-to.to (λ k old outcome new. MergesInto old outcome new c.in_ok-from.from k) c.in_ok-to.ensures.found
-    (merge_counted shell after c.in_ok-from.from c.in_ok-to.to any_node c.in_ok-from.ensures.within c.in_ok-to.ensures.within c.in_ok-changed.ensures.joined
+    (merge_counted shell after c.in_ok-from.from c.in_ok-to.to any_node c.in_ok-from.ensures.within c.in_ok-to.ensures.within c.in_ok-changed.ensures.given
     c.in_ok-changed.changed c.in_ok-merge_done.field-0 c.in_ok-changed.ensures.changed c.in_ok-merge_done.ensures.line))

@@ -1,4 +1,4 @@
-use Rattle.fleet_script.proofs.{Beginnings.{first_held, none_held, none_there}, Runs.{on_ok, or_then}, Prelude.{ap, kept_in, List, refl, Replicated, slice_get, sym, ◌∙◌}}
+use Rattle.fleet_script.proofs.{Beginnings.{first_held, none_held, none_there}, Runs.{on_ok, or_then}, Prelude.{ap, kept_in, List, Replicated, slice_get, sym, ◌∙◌}}
 use Rattle.fleet_script.proofs.states.Shell.write_kept.Goals as goal
 
 pub returns-in-Some-clause-held : goal.returns-in-Some-clause-held
