@@ -51,7 +51,7 @@ SCRIPT = [
 
 @dataclass(frozen=True)
 class Asked:
-    """What is asked of a node: a word, what is given, the answers, or what makes them of the file's mark and peers, and what the file holds at first
+    """What is asked of a node: a word, what is given, the answers, or what makes them of the file, and what the file holds at first
     and after each answer."""
 
     word: str
@@ -77,11 +77,31 @@ def exchanged():
     return Asked("exchange", given, exchange_answers, (BEGUN, BEGUN, BEGUN | first, TAKEN))
 
 
-def exchange_answers(mark, known):
-    """What a node of this mark, which knows these, must say in it: it asks for what is newer than its versions, and then sends what is asked back."""
+def nodes_in(base):
+    """The mark of the node in a file, and those that it knows."""
+    known = base.execute("SELECT DISTINCT mark, writer FROM peer ORDER BY mark, writer").fetchall()
+    return base.execute("SELECT mark FROM meta").fetchone()[0], known
+
+
+def exchange_answers(base):
+    """What the node in a file must say in it: it asks for what is newer than its versions, and then sends what is asked back."""
+    mark, known = nodes_in(base)
     newer = {place: written for place, written in BEGUN.items() if TAKEN[place] == written}
     asks = (OWN, mark, SEED, known), [], [(None, None, versions_of(BEGUN))], {}, False
     return framed(asks), b"", framed((None, [], [], newer, False))
+
+
+def peers_answers(base):
+    """What it tells of itself, where it knows nobody."""
+    mark, _ = nodes_in(base)
+    return (b"%d %b here\n" % (OWN, mark.hex().encode()),)
+
+
+def log_answers(base):
+    """The lines of its log."""
+    rows = base.execute("SELECT place, counter, writer, time, kind, length(content) FROM edit ORDER BY place, counter, writer").fetchall()
+    lines = [f"{place} {counter}.{writer} @{time} {f'file {length}' if kind else 'gone'}\n" for place, counter, writer, time, kind, length in rows]
+    return ("".join(lines).encode(),)
 
 
 def stores_of(edits):
@@ -100,6 +120,8 @@ def all_asked():
     yield exchanged()
     yield Asked("compact", b"", (), (BEGUN,))
     yield Asked("store", b"", (spelling.spelled("store", BEGUN),), (BEGUN, BEGUN))
+    yield Asked("log", b"", log_answers, (BEGUN, BEGUN))
+    yield Asked("peers", b"", peers_answers, (BEGUN, BEGUN))
 
 
 def made(bench):
@@ -128,8 +150,7 @@ def with_answers(asked, file):
         return asked
     base = sqlite3.connect(f"file:{file}?mode=ro", uri=True)
     try:
-        known = base.execute("SELECT DISTINCT mark, writer FROM peer ORDER BY mark, writer").fetchall()
-        return replace(asked, answers=asked.answers(base.execute("SELECT mark FROM meta").fetchone()[0], known))
+        return replace(asked, answers=asked.answers(base))
     finally:
         base.close()
 

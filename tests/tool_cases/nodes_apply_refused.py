@@ -4,7 +4,7 @@ import os
 import shutil
 import subprocess
 
-from .bench import FLEET, E, Link, R, U, same
+from .bench import FLEET, E, Link, U, same
 from .nodes_apply_bench import BOOT, MANIFEST, OWN, SERVICE, Applying, all_below, row, times_below, unasked
 
 INSTEAD = "apply: nothing is written: --force writes all the same"

@@ -281,4 +281,5 @@ def a_disk_that_fills(bench):
     same(is_whole("x.digest", found_in(folder)[f"{one.name()}.digest"][0]), True)
 
 
-CASES = [by_folder, foreign_files, damaged_files, two_of_a_number, left_by_killed_runs, killed_at_random, carried_apart, folders_that_fail, a_disk_that_fills]
+CASES = [by_folder, foreign_files, damaged_files, two_of_a_number, left_by_killed_runs, killed_at_random, carried_apart, folders_that_fail,
+         a_disk_that_fills]

@@ -74,7 +74,8 @@ def hosts(bench):
     same(node.fleet("status", "--root", root).lines()[-1], f"the fleet at {root}: nothing differs")
     with open(f"{root}/etc/hostname", "w", encoding="ascii") as file:
         file.write("a/b\n")
-    same(node.fleet("status", "--root", root, status=2).told(), ["status: /etc/hostname: a/b: no host's name: 1 to 64 ASCII letters, digits, dashes and dots; --host names one"])
+    told = "status: /etc/hostname: a/b: no host's name: 1 to 64 ASCII letters, digits, dashes and dots; --host names one"
+    same(node.fleet("status", "--root", root, status=2).told(), [told])
     same(node.fleet("status", "--root", root, "--host", "h").lines()[-1], f"h at {root}: nothing differs")
     ran = node.fleet("status")
     try:
