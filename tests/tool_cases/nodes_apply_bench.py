@@ -15,7 +15,6 @@ from fleet_tools.nodes.files import NodeFile
 from fleet_tools.nodes.programs import program
 
 from .bench import Link, Ran, same
-from .written import script
 
 PARSER = command_line.parser()
 SERVICE = "[Service]\\nExecStart=/bin/true\\n"
