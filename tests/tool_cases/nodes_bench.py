@@ -28,7 +28,8 @@ def in_child(words, streams, env, most):
             os.dup2(it.fileno(), number)
         sys.stdin, sys.stdout, sys.stderr = open(0, closefd=False), open(1, "w", closefd=False), open(2, "w", 1, closefd=False)
         tempfile.tempdir = None
-        signal.signal(signal.SIGINT, signal.SIG_DFL)  # as `tools/fleet` begins
+        for number in (signal.SIGINT, signal.SIGTERM, signal.SIGHUP):  # whoever runs these cases may ignore some
+            signal.signal(number, signal.SIG_DFL)
         for it in APART:
             os.environ.pop(it, None)
         os.environ.update({"FLEET_NODE": PROGRAM, **env})
