@@ -1,0 +1,5 @@
+pub mod Prelude
+pub mod Views
+pub mod Passes
+pub mod Lasts
+pub mod CutEdits
