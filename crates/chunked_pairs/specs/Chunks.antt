@@ -49,6 +49,11 @@ module _ {K V : Type 0} where
   cut_run run [] (suc j) cut s = (run, [])
   cut_run run (m ∷ ms) (suc j) cut s = let r = cut_run m.1 ms j cut s in (run, (m.0, r.0) ∷ r.1)
 
+  -- no run behind a separator is too long
+  abbrev pub AreShort : List (K × List (K × V)) → Type 0
+  AreShort [] = Unit {0}
+  AreShort (m ∷ ms) = (length m.1 ≤ 128) × AreShort ms
+
   -- all runs but the last; the first stays
   abbrev pub without_last : List (K × V) → List (K × List (K × V)) → List (K × V) × List (K × List (K × V))
   without_last run [] = (run, [])

@@ -1,6 +1,6 @@
 //! Runs of sorted pairs.
-ghost use Rattle.std.specs.{Prelude.{◌≡◌, ◌<◌, ◌≤◌, ◌++◌, ◌==◌, [], List, length, None, Some, IsTrue, MatchOption, slice_index_or}, Option.{option_to_list}, FinMap.{find, is_sorted}};
-ghost use Rattle.chunked_pairs.specs.Chunks.{all_pairs, AreChunks, FallsTo, given_back, run_at, viewed, with_run, without_last};
+ghost use Rattle.std.specs.{Prelude.{◌≡◌, ◌*◌, ◌<◌, ◌≤◌, ◌++◌, ◌==◌, [], List, length, None, Some, IsTrue, MatchOption, slice_index_or, take}, Option.{option_to_list}, FinMap.{find, is_sorted}};
+ghost use Rattle.chunked_pairs.specs.Chunks.{all_pairs, AllKeys, AreChunks, AreShort, FallsTo, given_back, later, most_runs, run_at, viewed, with_run, without_last};
 
 use crate::cursors::Pairs;
 use crate::searches::{Sought, seek_by};
@@ -158,6 +158,35 @@ impl<K: Key, V: Drop> Chunks<K, V> {
         Pairs::of(&self.first, &self.more)
     }
 
+    /// How many pairs there are. Linear in the number of runs. Allocates nothing.
+    pub fn len(&self) -> usize
+        requires chunks { AreChunks K.cmp self.now }
+        ensures len { result ≡ length (all_pairs self.now) }
+    {
+        self.first.len() + len_behind(&self.more)
+    }
+
+    /// How many of the first of some sorted pairs fall to a run to which the first of them falls. O(log n). Allocates
+    /// nothing.
+    pub fn fitting(&self, at: usize, pairs: &[(K, V)]) -> usize
+        requires chunks { AreChunks K.cmp self.now }
+        requires sorted { IsTrue (is_sorted K.cmp pairs.now) }
+        requires some { 0 < length pairs.now }
+        requires falls { AllKeys (λ q. FallsTo K.cmp q self.now.1 at) (take 1 pairs.now) }
+        ensures some { 0 < result }
+        ensures within { result ≤ length pairs.now }
+        ensures falls { AllKeys (λ q. FallsTo K.cmp q self.now.1 at) (take result pairs.now) }
+    {
+        if at >= self.more.len() {
+            return pairs.len();
+        }
+        let separator = &self.more[at].0;
+        match seek_by(pairs, separator) {
+            Ok(fitting) => fitting,
+            Err(fitting) => fitting,
+        }
+    }
+
     /// Takes the last pair, if there is one. An emptied run goes. O(1). Allocates nothing.
     pub fn pop_last(&mut self) -> Option<(K, V)>
         requires chunks { AreChunks K.cmp self.old }
@@ -217,4 +246,18 @@ pub(crate) fn run_among<K: Ord, V, S: Sought<K>>(more: &[(K, Vec<(K, V)>)], soug
         Ok(at) => at + 1,
         Err(at) => at,
     }
+}
+
+// How many pairs the runs behind separators have.
+fn len_behind<K, V>(more: &[(K, Vec<(K, V)>)]) -> usize
+    requires few { length more.now ≤ most_runs }
+    requires short { AreShort (viewed more.now) }
+    ensures len { result ≡ length (later (viewed more.now)) }
+    ensures small { result ≤ most_runs * 128 }
+{
+    let mut len = 0;
+    for behind in more {
+        len += behind.1.len();
+    }
+    len
 }
