@@ -1,0 +1,92 @@
+-- How many pairs there are, and how many fall to a run.
+use Rattle.std.proofs.Common.{◌+◌, ◌<◌, ◌∷◌, ◌≡◌, ◌≢◌, ◌≤◌}
+use Rattle.chunked_pairs.proofs.Prelude.{[], AllKeys, and_parts, ap, AreChained, arith, below_all, FallsTo, first_run, from_below, get_or, Greater, is_less, is_sorted, IsAt, IsGap, IsTotalOrder, IsTrue, later, length, length-append, Less, List, not_below, Ordering, refl, subst, suc, sym, take, turned, Vec, viewed, zero, ℕ, ◌∙◌}
+use Rattle.chunked_pairs.specs.Chunks.{AreShort}
+
+pub short_runs : {K V : Type 0} (R : K → K → Ordering) (o : IsTotalOrder R) (run : List (K × V)) (ms : List (K × List (K × V))) → AreChained R run ms → AreShort ms
+short_runs R o run [] c = tt
+short_runs R o run (m ∷ ms) c = ((first_run R o m.1 ms c.2).within, short_runs R o m.1 ms c.2)
+
+module _ {K V A : Type 0} where
+  pub len_more : (ms : List (K × Vec (K × V) A)) (i : ℕ) (m : K × Vec (K × V) A) → i < length ms → m ≡ get_or ms i m → length (later (viewed (take (i + 1) ms))) ≡ length (later (viewed (take i ms))) + length m.1.items
+  len_more ms i m lt e = let s : i + 1 ≡ suc i = omega arith in ap (λ n. length (later (viewed (take n ms)))) s ∙ next ms i lt e
+    where
+      next : (ms : List (K × Vec (K × V) A)) (i : ℕ) → i < length ms → m ≡ get_or ms i m → length (later (viewed (take (suc i) ms))) ≡ length (later (viewed (take i ms))) + length m.1.items
+      next [] i lt e = absurd (omega arith)
+      next (n ∷ ms) zero lt e = let same = ap (λ x. length x.1.items) e in omega (arith, same, length-append n.1.items (later (viewed (take 0 ms))), none ms)
+        where
+          none : (ms : List (K × Vec (K × V) A)) → length (later (viewed (take 0 ms))) ≡ 0
+          none [] = refl
+          none (m ∷ ms) = refl
+      next (n ∷ ms) (suc i) lt e = omega (arith, next ms i (omega arith) e, length-append n.1.items (later (viewed (take (suc i) ms))), length-append n.1.items (later (viewed (take i ms))))
+
+  pub short_at : (ms : List (K × Vec (K × V) A)) (i : ℕ) (m : K × Vec (K × V) A) → i < length ms → m ≡ get_or ms i m → AreShort (viewed ms) → length m.1.items ≤ 128
+  short_at [] i m lt e h = absurd (omega arith)
+  short_at (n ∷ ms) zero m lt e h = let same = ap (λ x. length x.1.items) e in omega (arith, same, h.0)
+  short_at (n ∷ ms) (suc i) m lt e h = short_at ms i m (omega arith) e h.1
+
+module _ {K V : Type 0} (R : K → K → Ordering) (o : IsTotalOrder R) where
+  -- a key at or above one that falls to the last run
+  falls_last : (k q : K) (ms : List (K × List (K × V))) (j : ℕ) → FallsTo R k ms j → R q k ≢ Less → length ms ≤ j → FallsTo R q ms j
+  falls_last k q [] zero f n le = tt
+  falls_last k q [] (suc j) f n le = absurd f
+  falls_last k q (m ∷ ms) zero f n le = absurd (omega arith)
+  falls_last k q (m ∷ ms) (suc j) f n le = (λ l. f.0 (at_least l), falls_last k q ms j f.1 n (omega arith))
+    where
+      at_least : R q m.0 ≡ Less → R k m.0 ≡ Less
+      at_least l = from_below R o k q m.0 n l
+
+  -- a key at or above one that falls to a run, and below the next separator
+  falls_between : (k q s : K) (ms : List (K × List (K × V))) (j : ℕ) (d : K × List (K × V)) → FallsTo R k ms j → R q k ≢ Less → s ≡ (get_or ms j d).0 → R q s ≡ Less → j < length ms → FallsTo R q ms j
+  falls_between k q s [] j d f n e l lt = absurd (omega arith)
+  falls_between k q s (m ∷ ms) zero d f n e l lt = subst (λ x. R q x ≡ Less) e l
+  falls_between k q s (m ∷ ms) (suc j) d f n e l lt = (λ h. f.0 (from_below R o k q m.0 n h), falls_between k q s ms j d f.1 n e l (omega arith))
+
+  above_keys : (P : K → Type 0) (k : K) (es : List (K × V)) (i : ℕ) → IsTrue (below_all R k es) → ((q : K) → R q k ≢ Less → P q) → AllKeys P (take i es)
+  above_keys P k [] zero h f = tt
+  above_keys P k [] (suc i) h f = tt
+  above_keys P k (e ∷ es) zero h f = tt
+  above_keys P k (e ∷ es) (suc i) h f = (f e.0 (not_below R o k e.0 (is_less _ (and_parts _ _ h).0)), above_keys P k es i (and_parts _ _ h).1 f)
+
+  pub fit_last : (ms : List (K × List (K × V))) (j : ℕ) (es : List (K × V)) → IsTrue (is_sorted R es) → AllKeys (λ q. FallsTo R q ms j) (take 1 es) → length ms ≤ j → AllKeys (λ q. FallsTo R q ms j) (take (length es) es)
+  fit_last ms j [] s f le = tt
+  fit_last ms j (e ∷ es) s f le = (f.0, above_keys (λ q. FallsTo R q ms j) e.0 es (length es) (and_parts _ _ s).0 (λ q n. falls_last e.0 q ms j f.0 n le))
+
+  lesser_keys : (P : K → Type 0) (s : K) (es : List (K × V)) (i : ℕ) → IsGap R s es i → ((q : K) → R q s ≡ Less → P q) → AllKeys P (take i es)
+  lesser_keys P s [] zero g f = tt
+  lesser_keys P s [] (suc i) g f = absurd g
+  lesser_keys P s (e ∷ es) zero g f = tt
+  lesser_keys P s (e ∷ es) (suc i) g f = (f e.0 (turned R o s e.0 Greater g.0), lesser_keys P s es i g.1 f)
+
+  lesser_before : (P : K → Type 0) (s : K) (es : List (K × V)) (i : ℕ) → IsAt R s es i → ((q : K) → R q s ≡ Less → P q) → AllKeys P (take i es)
+  lesser_before P s [] i g f = absurd g
+  lesser_before P s (e ∷ es) zero g f = tt
+  lesser_before P s (e ∷ es) (suc i) g f = (f e.0 (turned R o s e.0 Greater g.0), lesser_before P s es i g.1 f)
+
+  both_of : (P Q S : K → Type 0) → ((q : K) → P q → Q q → S q) → (es : List (K × V)) → AllKeys P es → AllKeys Q es → AllKeys S es
+  both_of P Q S f [] h k = tt
+  both_of P Q S f (e ∷ es) h k = (f e.0 h.0 k.0, both_of P Q S f es h.1 k.1)
+
+  -- a key that falls to a run is below the next separator
+  falls_under : (k s : K) (ms : List (K × List (K × V))) (j : ℕ) (d : K × List (K × V)) → FallsTo R k ms j → s ≡ (get_or ms j d).0 → j < length ms → R k s ≡ Less
+  falls_under k s [] j d f e lt = absurd (omega arith)
+  falls_under k s (m ∷ ms) zero d f e lt = subst (λ x. R k x ≡ Less) (sym e) f
+  falls_under k s (m ∷ ms) (suc j) d f e lt = falls_under k s ms j d f.1 e (omega arith)
+
+  module _ (s : K) (ms : List (K × List (K × V))) (j : ℕ) (is : (d : K × List (K × V)) → s ≡ (get_or ms j d).0) (lt : j < length ms) where
+    fit_more : (e : K × V) (es : List (K × V)) (i : ℕ) → IsTrue (is_sorted R (e ∷ es)) → FallsTo R e.0 ms j → AllKeys (λ q. R q s ≡ Less) (take i es) → AllKeys (λ q. FallsTo R q ms j) (take (suc i) (e ∷ es))
+    fit_more e es i h f under = (
+      f,
+      both_of (λ q. R q e.0 ≢ Less) (λ q. R q s ≡ Less) (λ q. FallsTo R q ms j) (λ q n l. falls_between e.0 q s ms j (s, []) f n (is (s, [])) l lt) (take i es)
+          (above_keys (λ q. R q e.0 ≢ Less) e.0 es i (and_parts _ _ h).0 (λ q n. n)) under,
+    )
+
+    pub fit_at : (es : List (K × V)) (i : ℕ) → IsTrue (is_sorted R es) → 0 < length es → AllKeys (λ q. FallsTo R q ms j) (take 1 es) → IsAt R s es i → (0 < i) × AllKeys (λ q. FallsTo R q ms j) (take i es)
+    fit_at [] i h some f a = absurd a
+    fit_at (e ∷ es) zero h some f a = let t = turned R o e.0 s Less (falls_under e.0 s ms j (s, []) f.0 (is (s, [])) lt) in cc (t, a)
+    fit_at (e ∷ es) (suc i) h some f a = (omega arith, fit_more e es i h f.0 (lesser_before (λ q. R q s ≡ Less) s es i a.1 (λ q l. l)))
+
+    pub fit_gap : (es : List (K × V)) (i : ℕ) → IsTrue (is_sorted R es) → 0 < length es → AllKeys (λ q. FallsTo R q ms j) (take 1 es) → IsGap R s es i → (0 < i) × AllKeys (λ q. FallsTo R q ms j) (take i es)
+    fit_gap [] i h some f a = absurd (omega arith)
+    fit_gap (e ∷ es) zero h some f a = let t = turned R o e.0 s Less (falls_under e.0 s ms j (s, []) f.0 (is (s, [])) lt) in cc (t, a)
+    fit_gap (e ∷ es) (suc i) h some f a = (omega arith, fit_more e es i h f.0 (lesser_keys (λ q. R q s ≡ Less) s es i a.1 (λ q l. l)))

@@ -1,0 +1,43 @@
+//! Searches among sorted pairs for a key in any form.
+ghost use Rattle.std.specs.{Prelude.{◌≡◌, ◌≤◌, ◌<◌, length, IsTrue, IfOk, IfErr}, FinMap.{is_sorted}};
+ghost use Rattle.sorted_pairs.specs.Places.{IsAt, IsGap};
+
+use std::cmp::Ordering;
+
+/// A key that is looked for, maybe in another form than the keys that are held.
+pub trait Sought<K: Ord> {
+    // The key.
+    ghost key: { Self → K };
+
+    /// Compares a key that is held with the one that is looked for. Allocates nothing.
+    fn order(&self, held: &K) -> Ordering
+        ensures order { result ≡ K.cmp held.now (key self.now) };
+}
+
+impl<K: Ord> Sought<K> for K {
+    ghost key = { λ k. k };
+
+    #[inline(always)]
+    fn order(&self, held: &K) -> Ordering {
+        held.cmp(self)
+    }
+}
+
+/// Returns the index of a key among sorted pairs, or as an error the index at which it would be inserted. O(log n); for
+/// a key at or after the last pair, a single comparison.
+pub fn seek_by<K: Ord, V, S: Sought<K>>(pairs: &[(K, V)], sought: &S) -> Result<usize, usize>
+    requires sorted { IsTrue (is_sorted K.cmp pairs.now) }
+    ensures found { IfOk result (IsAt K.cmp (S.key sought.now) pairs.now) }
+    ensures absent { IfErr result (IsGap K.cmp (S.key sought.now) pairs.now) }
+    ensures at_within { IfOk result (λ at. at < length pairs.now) }
+    ensures gap_within { IfErr result (λ at. at ≤ length pairs.now) }
+{
+    let Some((last, before)) = pairs.split_last() else {
+        return Err(0);
+    };
+    match sought.order(&last.0) {
+        Ordering::Less => Err(pairs.len()),
+        Ordering::Equal => Ok(before.len()),
+        Ordering::Greater => pairs.binary_search_by(|pair| sought.order(&pair.0)),
+    }
+}
