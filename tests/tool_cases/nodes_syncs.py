@@ -78,7 +78,7 @@ def refused_peers(bench):
         (other.file, "echo 'a banner' >&2\necho 'fleet: Z5 Disk' >&2\nexit 1\n", "there: Z5 Disk: the disk refuses, or the file is damaged", ""),
         (twin.file, "", "there: X7 WriterTaken: two state files write under one number: make one of them anew under a free number", "here"),
         (other.file, "echo 'Welcome to web1'\n", "here: a frame is longer than a megabyte", ""),
-        (other.file, "exit 0\n", "here: Y1 Truncated", ""), (other.file, "kill -9 $$\n", "there: ", ""),
+        (other.file, "exit 0\n", "here: ", ""), (other.file, "kill -9 $$\n", "there: ", ""),
         (other.file, "echo 'bash: fleet_node: command not found' >&2\nexit 127\n", "there: bash: fleet_node: command not found", ""),
         (other.file, "printf '\\033[31m' >&2\nexit 3\n", "there: \\x1b[31m", ""),
     ]
