@@ -13,7 +13,8 @@ from .scripts import script_of
 
 REPOSITORY = os.path.dirname(os.path.dirname(os.path.dirname(os.path.realpath(__file__))))
 CRATE = os.path.join(REPOSITORY, "crates", "fleet_shell")
-BUILT = os.path.join(CRATE, "out", "fleet_shell")
+# Where it stands: of a package, and as the repository builds it.
+PLACES = (os.path.join(REPOSITORY, "bin", "fleet_shell"), os.path.join(CRATE, "out", "fleet_shell"))
 
 PIECE = 65_536  # bytes that are read at once
 # How long a run without proofs may take.
@@ -98,7 +99,7 @@ def program_of(is_unproved):
             raise Fault("--unproved needs Rattle's `rt` on the path")
         return Program(("rt", "try", "--seconds", MOST_SECONDS), CRATE, False)
     named = os.environ.get("FLEET_SHELL")
-    built = os.path.abspath(named) if named else BUILT
+    built = os.path.abspath(named) if named else next(filter(os.path.isfile, PLACES), PLACES[-1])
     if named and os.path.exists(built) and not (os.path.isfile(built) and os.access(built, os.X_OK)):
         raise Fault(f"FLEET_SHELL={printable(named)}: no file that can be run")
     if not os.path.isfile(built):
