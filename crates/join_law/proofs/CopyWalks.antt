@@ -75,7 +75,7 @@ module _ {K V : Type 0} (R : K → K → Ordering) (o : IsTotalOrder R) where
   drop_is_map below valid es i m = record { sorted = sorted_drop es i m.sorted; held = held_drop below valid es i m.held }
 
   module _ (below : V → V → Type 0) (itself : (x : V) → below x x) (chain : (x y z : V) → below x y → below y z → below x z) where
-    prefix_at : (xs ys : List (K × V)) (q : K) → OptionBelow below (find R q xs) (find R q (xs ++ ys))
+    pub prefix_at : (xs ys : List (K × V)) (q : K) → OptionBelow below (find R q xs) (find R q (xs ++ ys))
     prefix_at [] ys q = tt
     prefix_at (x ∷ xs) ys q = elim (eq_by_cmp R q x.0) as (λ b. OptionBelow below (cond b (Some x.1) (find R q xs)) (cond b (Some x.1) (find R q (xs ++ ys)))) [
       | true ↦ itself x.1
@@ -114,10 +114,10 @@ module _ {K V : Type 0} (R : K → K → Ordering) (o : IsTotalOrder R) where
         find_alike q x t [] h = refl
         find_alike q x t (f ∷ fs) h = ap (λ r. cond (is_eq r) (Some f.1) (find R q fs)) (o.congr q x f.0 t ∙ is_less _ (and_parts _ _ h).0) ∙ find_alike q x t fs (and_parts _ _ h).1
 
-    drop_below : (es : List (K × V)) (i : ℕ) → IsTrue (is_sorted R es) → MapBelow R below (drop i es) es
+    pub drop_below : (es : List (K × V)) (i : ℕ) → IsTrue (is_sorted R es) → MapBelow R below (drop i es) es
     drop_below es i s = record { at = λ q. drop_at es i q s }
 
-    parts_at : (xs ys : List (K × V)) (q : K) (w : Option V) → OptionBelow below (find R q xs) w → OptionBelow below (find R q ys) w → OptionBelow below (find R q (xs ++ ys)) w
+    pub parts_at : (xs ys : List (K × V)) (q : K) (w : Option V) → OptionBelow below (find R q xs) w → OptionBelow below (find R q ys) w → OptionBelow below (find R q (xs ++ ys)) w
     parts_at [] ys q w h k = k
     parts_at (x ∷ xs) ys q w h k = elim (eq_by_cmp R q x.0) as (λ b. OptionBelow below (cond b (Some x.1) (find R q xs)) w → OptionBelow below (cond b (Some x.1) (find R q (xs ++ ys))) w) [
       | true ↦ λ t. t

@@ -5,4 +5,5 @@ pub mod CopyWalks
 pub mod Outcomes
 pub mod After
 pub mod PassEdits
+pub mod RunEdits
 pub mod PrefixWalks
