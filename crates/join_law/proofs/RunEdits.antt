@@ -1,8 +1,9 @@
 -- The effect of an edit of one run on all pairs in chunks.
 use Rattle.std.proofs.Common.{◌++◌, ◌<◌, ◌↔◌, ◌∷◌, ◌≡◌, ◌≢◌, ◌≤◌}
-use Rattle.join_law.proofs.Prelude.{[], AllHeld, ap, arith, cond, drop, Equal, false, find, is_eq, is_equal, is_sorted, IsBetween, IsHeld, IsJoin, IsMap, IsPartialJoin, IsTotalOrder, IsTrue, length, List, map_chain, map_itself, MapBelow, None, Option, OptionBelow, Ordering, refl, Some, subst, suc, sym, tied_itself, true, zero, ℕ, ◌∙◌}
+use Rattle.join_law.proofs.Prelude.{[], AllHeld, and_parts, ap, arith, below_all, cond, drop, Equal, false, find, Greater, is_eq, is_equal, is_less, is_sorted, IsBetween, IsHeld, IsJoin, IsMap, IsPartialJoin, IsTotalOrder, IsTrue, length, Less, List, map_chain, map_itself, MapBelow, None, Option, OptionBelow, Ordering, refl, Some, subst, suc, sym, tied_itself, true, turned, zero, ℕ, ◌∙◌}
 use Rattle.join_law.specs.{Maps.{map_union}, UnionLaws.{find-union, option_union}}
 use Rattle.chunked_pairs.specs.{Chunks.{all_pairs, AllKeys, AreChained, later, run_at, with_run}, ChunkLaws.{sorted_all}, EditLaws.{length_with, run_with}, Searches.{keys_weaker}}
+use Rattle.sorted_pairs.specs.PlaceLaws.{find_before}
 use Rattle.join_law.proofs.CopyWalks.{drop_below, parts_at, prefix_at}
 
 module _ {K V : Type 0} (R : K → K → Ordering) (o : IsTotalOrder R) (below : V → V → Type 0) (itself : (x : V) → below x x) (chain : (x y z : V) → below x y → below y z → below x z) where
@@ -140,3 +141,35 @@ module _ {K V : Type 0} (R : K → K → Ordering) (o : IsTotalOrder R) (valid :
   pub keys_stay : (P : K → Type 0) → ((x y : K) → R x y ≡ Equal → P y → P x) → (es fs now : List (K × V)) → IsMap R below valid now → MapBelow R below now (map_union R join es fs) → AllKeys P es → AllKeys P fs → AllKeys P now
   keys_stay P alike es fs now m l a b = keys_weaker (λ q n. union_has P alike es fs a b q n) now (keys_found now (map_union R join es fs) m l)
 
+
+below_keys : {K V : Type 0} (R : K → K → Ordering) (x : K) (ys : List (K × V)) → IsTrue (below_all R x ys) → AllKeys (λ q. R x q ≡ Less) ys
+below_keys R x [] h = tt
+below_keys R x (y ∷ ys) h = (is_less _ (and_parts _ _ h).0, below_keys R x ys (and_parts _ _ h).1)
+
+-- a key that isn't the first one's is found among the others
+found_behind : {K V : Type 0} (R : K → K → Ordering) (q : K) (y : K × V) (ys : List (K × V)) → R q y.0 ≢ Equal → find R q (y ∷ ys) ≢ None → find R q ys ≢ None
+found_behind R q y ys n f e = f (elim (R q y.0) as (λ r. R q y.0 ≡ r → cond (is_eq r) (Some y.1) (find R q ys) ≡ None) [
+  | Less ↦ λ h. e
+  | Equal ↦ λ h. absurd (n h)
+  | Greater ↦ λ h. e
+] refl)
+
+module _ {K V : Type 0} (R : K → K → Ordering) (o : IsTotalOrder R) where
+  keys_behind : (y : K × V) (xs ys : List (K × V)) → AllKeys (λ q. R y.0 q ≡ Less) xs → AllKeys (λ q. find R q (y ∷ ys) ≢ None) xs → AllKeys (λ q. find R q ys ≢ None) xs
+  keys_behind y [] ys h f = tt
+  keys_behind y (x ∷ xs) ys h f = (found_behind R x.0 y ys (λ e. let t = turned R o y.0 x.0 Less h.0 in cc (t, e)) f.0, keys_behind y xs ys h.1 f.1)
+
+  -- sorted pairs whose keys are all found among others are no more than those
+  pub no_more : (xs ys : List (K × V)) → IsTrue (is_sorted R xs) → IsTrue (is_sorted R ys) → AllKeys (λ q. find R q ys ≢ None) xs → length xs ≤ length ys
+  no_more [] ys s t h = omega arith
+  no_more (x ∷ xs) [] s t h = absurd (h.0 refl)
+  no_more (x ∷ xs) (y ∷ ys) s t h =
+      let above = below_keys R x.0 xs (and_parts _ _ s).0 in
+      elim (R x.0 y.0) as (λ r. R x.0 y.0 ≡ r → length (x ∷ xs) ≤ length (y ∷ ys)) [
+        | Less ↦ λ e. absurd (found_behind R x.0 y ys (λ f. cc (e, f)) h.0 (find_before R x.0 o y.0 e ys (and_parts _ _ t).0))
+        | Equal ↦ λ e. let le = no_more xs ys (and_parts _ _ s).1 (and_parts _ _ t).1 (keys_behind y xs ys (keys_weaker (λ q l. sym (o.congr x.0 y.0 q e) ∙ l) xs above) h.1) in omega (arith, le)
+        | Greater ↦ λ e.
+            let less : R y.0 x.0 ≡ Less = turned R o x.0 y.0 Greater e in
+            let le = no_more (x ∷ xs) ys s (and_parts _ _ t).1 (keys_behind y (x ∷ xs) ys (less, keys_weaker (λ q l. o.trans y.0 x.0 q less l) xs above) h) in
+            omega (arith, le)
+      ] refl
