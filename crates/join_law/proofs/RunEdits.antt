@@ -1,8 +1,8 @@
 -- The effect of an edit of one run on all pairs in chunks.
 use Rattle.std.proofs.Common.{◌++◌, ◌<◌, ◌↔◌, ◌∷◌, ◌≡◌, ◌≢◌, ◌≤◌}
-use Rattle.join_law.proofs.Prelude.{[], AllHeld, and_parts, ap, arith, below_all, cond, drop, Equal, false, find, Greater, is_eq, is_equal, is_less, is_sorted, IsBetween, IsHeld, IsJoin, IsMap, IsPartialJoin, IsTotalOrder, IsTrue, length, Less, List, map_chain, map_itself, MapBelow, None, Option, OptionBelow, Ordering, refl, Some, subst, suc, sym, tied_itself, true, turned, zero, ℕ, ◌∙◌}
-use Rattle.join_law.specs.{Maps.{map_union}, UnionLaws.{find-union, option_union}}
-use Rattle.chunked_pairs.specs.{Chunks.{all_pairs, AllKeys, AreChained, later, run_at, with_run}, ChunkLaws.{sorted_all}, EditLaws.{length_with, run_with}, Searches.{keys_weaker}}
+use Rattle.join_law.proofs.Prelude.{[], AllHeld, and_parts, ap, arith, below_all, cond, drop, Equal, false, find, find_tied, Greater, is_eq, is_equal, is_less, is_sorted, IsBetween, IsHeld, IsJoin, IsMap, IsPartialJoin, IsTotalOrder, IsTrue, length, Less, List, map_chain, map_itself, MapBelow, None, Option, OptionBelow, Ordering, refl, Some, subst, suc, sym, tied_itself, true, turned, zero, ℕ, ◌∙◌}
+use Rattle.join_law.specs.{Maps.{map_union}, UnionLaws.{find-union, option_union, union_joins}}
+use Rattle.chunked_pairs.specs.{Chunks.{all_pairs, AllKeys, AreChained, AreChunks, FallsTo, later, run_at, with_run}, ChunkLaws.{keys_fall, sorted_all}, EditLaws.{chunks_with, length_with, run_with}, Searches.{keys_weaker}}
 use Rattle.sorted_pairs.specs.PlaceLaws.{find_before}
 use Rattle.join_law.proofs.CopyWalks.{drop_below, parts_at, prefix_at}
 
@@ -173,3 +173,65 @@ module _ {K V : Type 0} (R : K → K → Ordering) (o : IsTotalOrder R) where
             let le = no_more (x ∷ xs) ys s (and_parts _ _ t).1 (keys_behind y (x ∷ xs) ys (less, keys_weaker (λ q l. o.trans y.0 x.0 q less l) xs above) h) in
             omega (arith, le)
       ] refl
+
+-- What an edit leaves of a run, and of all pairs.
+
+alike_falls : {K V : Type 0} (R : K → K → Ordering) (o : IsTotalOrder R) (ms : List (K × List (K × V))) (j : ℕ) (x y : K) → R x y ≡ Equal → FallsTo R y ms j → FallsTo R x ms j
+alike_falls R o [] zero x y e f = tt
+alike_falls R o [] (suc j) x y e f = absurd f
+alike_falls R o (m ∷ ms) zero x y e f = o.congr x y m.0 e ∙ f
+alike_falls R o (m ∷ ms) (suc j) x y e f = (λ l. f.0 (sym (o.congr x y m.0 e) ∙ l), alike_falls R o ms j x y e f.1)
+
+module _ {K V : Type 0} (R : K → K → Ordering) (o : IsTotalOrder R) (valid : V → Type 0) (below : V → V → Type 0) (itself : (x : V) → below x x) (chain : (x y z : V) → below x y → below y z → below x z) (join : V → V → V) (joins : (x y : V) → IsJoin below x y (join x y)) where
+  -- a value between two maps is up to their join
+  up_to_union : (es fs now : List (K × V)) → IsBetween (MapBelow R below) es fs now → MapBelow R below now (map_union R join es fs)
+  up_to_union es fs now b =
+      let all = map_union R join es fs in
+      let above = ((union_joins R o below join joins es fs).bounds all).0 (map_itself below itself chain R all) in
+      b.within all above.0 above.1
+
+  -- a map with pairs keeps some
+  pub kept_some : (es now : List (K × V)) → IsMap R below valid es → MapBelow R below es now → 0 < length es → 0 < length now
+  kept_some es [] m l some = absurd (none es m.held (λ q. l.at q) some)
+    where
+      none : (xs : List (K × V)) → AllHeld below valid xs → ((q : K) → OptionBelow below (find R q xs) None) → 0 < length xs → ⊥
+      none [] h f s = absurd (omega (arith, s))
+      none (x ∷ xs) h f s = h.0.not_least (subst (λ r. OptionBelow below (cond (is_eq r) (Some x.1) (find R x.0 xs)) None) (tied_itself o x.0) (f x.0))
+  kept_some es (x ∷ now) m l some = omega arith
+
+  -- no key is added where it is there already
+  pub known_length : (es now : List (K × V)) (k : K) (v : V) → IsMap R below valid es → IsMap R below valid now → IsBetween (MapBelow R below) es ((k, v) ∷ []) now → find R k es ≢ None → length now ≤ length es
+  known_length es now k v m n b known =
+      no_more R o now es n.sorted m.sorted
+      (keys_stay R o valid below join joins (λ q. find R q es ≢ None) (λ x y e f. subst (λ w. w ≢ None) (find_tied R o x y e es) f) es ((k, v) ∷ []) now n (up_to_union es ((k, v) ∷ []) now b) (all_found R o es m.sorted) (known, tt))
+
+  held_with : (run : List (K × V)) (ms : List (K × List (K × V))) (j : ℕ) (new : List (K × V)) → AllHeld below valid (run ++ later ms) → AllHeld below valid new → AllHeld below valid (all_pairs (with_run run ms j new))
+  held_with run ms zero new h n = held_append new (later ms) n (held_parts run (later ms) h).1
+    where
+      held_append : (xs ys : List (K × V)) → AllHeld below valid xs → AllHeld below valid ys → AllHeld below valid (xs ++ ys)
+      held_append [] ys a b = b
+      held_append (x ∷ xs) ys a b = (a.0, held_append xs ys a.1 b)
+
+      held_parts : (xs ys : List (K × V)) → AllHeld below valid (xs ++ ys) → AllHeld below valid xs × AllHeld below valid ys
+      held_parts [] ys h = (tt, h)
+      held_parts (x ∷ xs) ys h = let t = held_parts xs ys h.1 in ((h.0, t.0), t.1)
+  held_with run [] (suc j) new h n = h
+  held_with run (m ∷ ms) (suc j) new h n = in_front run (m.1 ++ later ms) (all_pairs (with_run m.1 ms j new)) h (held_with m.1 ms j new (behind run (m.1 ++ later ms) h) n)
+    where
+      behind : (xs ys : List (K × V)) → AllHeld below valid (xs ++ ys) → AllHeld below valid ys
+      behind [] ys h = h
+      behind (x ∷ xs) ys h = behind xs ys h.1
+
+      in_front : (xs ys zs : List (K × V)) → AllHeld below valid (xs ++ ys) → AllHeld below valid zs → AllHeld below valid (xs ++ zs)
+      in_front [] ys zs h b = b
+      in_front (x ∷ xs) ys zs h b = (h.0, in_front xs ys zs h.1 b)
+
+  -- after a run was edited within its room, the runs are chunks again, and all pairs a map
+  pub edited : (run : List (K × V)) (ms : List (K × List (K × V))) (j : ℕ) (added new : List (K × V)) → AreChunks R (run, ms) → IsMap R below valid (run ++ later ms) → j ≤ length ms → AllKeys (λ q. FallsTo R q ms j) added
+      → IsMap R below valid (run_at run ms j) → IsMap R below valid new → IsBetween (MapBelow R below) (run_at run ms j) added new → length new ≤ 128 → (0 < length ms → 0 < length (run_at run ms j))
+      → AreChunks R (with_run run ms j new) × IsMap R below valid (all_pairs (with_run run ms j new))
+  edited run ms j added new c m le falls was n b short some =
+      let up = up_to_union (run_at run ms j) added new b in
+      let keys = keys_stay R o valid below join joins (λ q. FallsTo R q ms j) (alike_falls R o ms j) (run_at run ms j) added new n up (keys_fall R o run ms j le c.chained) falls in
+      let chunks = chunks_with R o run ms j new c le (record { sorted = n.sorted; within = short }) keys (λ z. kept_some (run_at run ms j) new was b.kept (some z)) in
+      (chunks, record { sorted = sorted_all R o (with_run run ms j new).0 (with_run run ms j new).1 chunks.chained; held = held_with run ms j new m.held n.held })
