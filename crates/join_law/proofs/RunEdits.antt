@@ -1,7 +1,7 @@
 -- The effect of an edit of one run on all pairs in chunks.
-use Rattle.std.proofs.Common.{◌++◌, ◌<◌, ◌↔◌, ◌∷◌, ◌≡◌, ◌≢◌, ◌≤◌}
-use Rattle.join_law.proofs.Prelude.{[], AllHeld, and_parts, ap, arith, below_all, cond, drop, Equal, false, find, find_tied, Greater, is_eq, is_equal, is_less, is_sorted, IsBetween, IsHeld, IsJoin, IsMap, IsPartialJoin, IsTotalOrder, IsTrue, length, Less, List, map_chain, map_itself, MapBelow, None, Option, OptionBelow, Ordering, refl, Some, subst, suc, sym, tied_itself, true, turned, zero, ℕ, ◌∙◌}
-use Rattle.join_law.specs.{Maps.{map_union}, UnionLaws.{find-union, option_union, union_joins}}
+use Rattle.std.proofs.Common.{◌+◌, ◌++◌, ◌<◌, ◌↔◌, ◌∷◌, ◌≡◌, ◌≢◌, ◌≤◌}
+use Rattle.join_law.proofs.Prelude.{[], AllHeld, and_parts, ap, arith, below_all, by_order, cond, drop, Equal, false, find, find_tied, Greater, is_eq, is_equal, is_less, is_sorted, IsBetween, IsHeld, IsJoin, IsMap, IsPartialJoin, IsTotalOrder, IsTrue, length, Less, List, map_chain, map_itself, MapBelow, None, Option, OptionBelow, Ordering, put, refl, Some, subst, suc, sym, tied_itself, true, turned, zero, ℕ, ◌∙◌}
+use Rattle.join_law.specs.{Maps.{joined_value, map_union}, UnionLaws.{find-union, option_union, union_joins}}
 use Rattle.chunked_pairs.specs.{Chunks.{all_pairs, AllKeys, AreChained, AreChunks, FallsTo, later, run_at, with_run}, ChunkLaws.{keys_fall, sorted_all}, EditLaws.{chunks_with, length_with, run_with}, Searches.{keys_weaker}}
 use Rattle.sorted_pairs.specs.PlaceLaws.{find_before}
 use Rattle.join_law.proofs.CopyWalks.{drop_below, parts_at, prefix_at}
@@ -235,3 +235,21 @@ module _ {K V : Type 0} (R : K → K → Ordering) (o : IsTotalOrder R) (valid :
       let keys = keys_stay R o valid below join joins (λ q. FallsTo R q ms j) (alike_falls R o ms j) (run_at run ms j) added new n up (keys_fall R o run ms j le c.chained) falls in
       let chunks = chunks_with R o run ms j new c le (record { sorted = n.sorted; within = short }) keys (λ z. kept_some (run_at run ms j) new was b.kept (some z)) in
       (chunks, record { sorted = sorted_all R o (with_run run ms j new).0 (with_run run ms j new).1 chunks.chained; held = held_with run ms j new m.held n.held })
+
+  put_length : (k : K) (v : V) (es : List (K × V)) → length (put R k v es) ≤ length es + 1
+  put_length k v [] = omega arith
+  put_length k v (e ∷ es) = let le = put_length k v es in elim (R k e.0) as (λ r. length (by_order r ((k, v) ∷ e ∷ es) ((e.0, v) ∷ es) (e ∷ put R k v es)) ≤ length (e ∷ es) + 1) [
+    | Less ↦ omega arith
+    | Equal ↦ omega arith
+    | Greater ↦ omega (arith, le)
+  ]
+
+  union_length : (es fs : List (K × V)) → length (map_union R join es fs) ≤ length es + length fs
+  union_length es [] = omega arith
+  union_length es (f ∷ fs) = let le = union_length es fs in omega (arith, le, put_length f.0 (joined_value join (find R f.0 es) f.1) (map_union R join es fs))
+
+  -- no more keys are added than there are pairs
+  pub added_length : (es fs now : List (K × V)) → IsMap R below valid now → IsMap R below valid (map_union R join es fs) → IsBetween (MapBelow R below) es fs now → length now ≤ length es + length fs
+  added_length es fs now n u b =
+      let le = no_more R o now (map_union R join es fs) n.sorted u.sorted (keys_found R o valid below join joins now (map_union R join es fs) n (up_to_union es fs now b)) in
+      omega (arith, le, union_length es fs)
