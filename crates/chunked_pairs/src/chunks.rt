@@ -1,11 +1,11 @@
 //! Runs of sorted pairs.
-ghost use Rattle.std.specs.{Prelude.{◌≡◌, ◌*◌, ◌<◌, ◌≤◌, ◌++◌, ◌==◌, [], List, length, None, Some, IsTrue, MatchOption, slice_index_or, take}, Option.{option_to_list}, FinMap.{find, is_sorted}};
+ghost use Rattle.std.specs.{Prelude.{◌≡◌, ◌*◌, ◌<◌, ◌≤◌, ◌++◌, ◌∷◌, ◌==◌, [], List, length, None, Some, IsTrue, MatchOption, OnOk, OnErr, slice_index_or, take}, Option.{option_to_list}, FinMap.{find, is_sorted}};
 ghost use Rattle.chunked_pairs.specs.Chunks.{all_pairs, AllKeys, AreChunks, AreShort, FallsTo, given_back, later, most_runs, run_at, viewed, with_run, without_last};
 
 use crate::cursors::Pairs;
 use crate::searches::{Sought, seek_by};
 use plain_values::Key;
-use std::alloc::Global;
+use std::alloc::{AllocError, Global};
 use std::marker::Model;
 use std::mem;
 
@@ -122,8 +122,8 @@ impl<K: Key, V: Drop> Chunks<K, V> {
         mem::replace(&mut place.1, run)
     }
 
-    // The separator before a run.
-    pub(crate) fn separator(&self, at: usize) -> &K
+    /// Borrows the separator behind the run with this number. O(1).
+    pub fn separator(&self, at: usize) -> &K
         requires within { at < length self.now.1 }
         ensures separator { (d : K × List (K × V)) → result.now ≡ (slice_index_or self.now.1 at d).0 }
     {
@@ -210,6 +210,20 @@ impl<K: Key, V: Drop> Chunks<K, V> {
         }
         let last = self.last_run();
         self.put(last, run);
+    }
+
+    /// Adds a run behind a separator, after all others. O(1) amortized.
+    ///
+    /// Fails only if memory runs out; nothing is added then.
+    pub fn add_run(&mut self, separator: K, run: Vec<(K, V)>) -> Result<(), AllocError>
+        ensures ok { OnOk result (self.new ≡ (self.old.0, self.old.1 ++ (separator, run.items) ∷ [])) }
+        ensures err { OnErr result (self.new ≡ self.old) }
+    {
+        if self.more.len() >= MOST_RUNS {
+            return Err(AllocError);
+        }
+        self.more.push((separator, run))?;
+        Ok(())
     }
 
     // Takes away the last run, if it is not the first. O(1).

@@ -1,5 +1,5 @@
 //! A cursor over pairs in chunks.
-ghost use Rattle.std.specs.{Prelude.{◌≡◌, ◌≢◌, ◌∷◌, ◌++◌, [], IsTrue, MatchOption}, Option.{option_copied}, FinMap.{find, is_sorted}};
+ghost use Rattle.std.specs.{Prelude.{◌≡◌, ◌≢◌, ◌<◌, ◌∷◌, ◌++◌, [], length, IsTrue, MatchOption}, Option.{option_copied}, FinMap.{find, is_sorted}};
 ghost use Rattle.std.specs.declared.cmp.Ordering.TheVariants.{Less};
 ghost use Rattle.chunked_pairs.specs.{Chunks.{AreChained, FallsTo, later, viewed}, Cursors.{IsAfter, StandsFirst}};
 
@@ -60,6 +60,21 @@ impl<'a, K: Ord, V> Pairs<'a, K, V> {
         self.left = left;
         self.more = more;
         Some(pair)
+    }
+
+    /// Takes the next pairs, as many as stand side by side; `None` if none are left. O(1). Allocates nothing.
+    pub fn next_run(&mut self) -> Option<&'a [(K, V)]>
+        ensures first { MatchOption result ((self.old ≡ []) × (self.new ≡ []))
+            (λ run. (self.old ≡ run.now ++ self.new) × (0 < length run.now)) }
+    {
+        if !self.left.is_empty() {
+            let run = self.left;
+            self.left = &[];
+            return Some(run);
+        }
+        let (behind, more) = self.more.split_first()?;
+        self.more = more;
+        Some(&behind.1)
     }
 
     /// Returns the value at a key, and passes the pairs up to the key: what is left serves greater keys. A comparison for

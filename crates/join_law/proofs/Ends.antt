@@ -21,7 +21,7 @@ module _ {K V : Type 0} (R : K → K → Ordering) (below : V → V → Type 0) 
   below_all_alike x k v w [] = refl
   below_all_alike x k v w (f ∷ xs) = ap (λ b. is_lt (R x f.0) && b) (below_all_alike x k v w xs)
 
-  sorted_alike : (k : K) (v w : V) (xs : List (K × V)) → is_sorted R (xs ++ (k, v) ∷ []) ≡ is_sorted R (xs ++ (k, w) ∷ [])
+  pub sorted_alike : (k : K) (v w : V) (xs : List (K × V)) → is_sorted R (xs ++ (k, v) ∷ []) ≡ is_sorted R (xs ++ (k, w) ∷ [])
   sorted_alike k v w [] = refl
   sorted_alike k v w (f ∷ xs) = λ i. below_all_alike f.0 k v w xs i && sorted_alike k v w xs i
 

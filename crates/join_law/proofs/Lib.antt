@@ -6,4 +6,7 @@ pub mod Outcomes
 pub mod After
 pub mod PassEdits
 pub mod RunEdits
+pub mod RunSteps
+pub mod Slices
+pub mod Lasts
 pub mod PrefixWalks

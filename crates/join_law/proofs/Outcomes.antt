@@ -1,5 +1,6 @@
 -- Facts that hold whatever a call returns.
-use Rattle.join_law.proofs.Prelude.{Bool, Err, false, IfOk, IsErr, Ok, OnErr, OnFalse, OnOk, OnTrue, Result, true}
+use Rattle.std.proofs.Common.{◌≡◌}
+use Rattle.join_law.proofs.Prelude.{Bool, Err, false, IfErr, IfOk, IsErr, Ok, OnErr, OnFalse, OnOk, OnTrue, refl, Result, true}
 
 pub on_err : {T E P : Type 0} (r : Result T E) → P → OnErr r P
 on_err (Ok t) p = tt
@@ -36,3 +37,19 @@ on_true_weaker false f h = tt
 pub by_answer : {P Q A : Type 0} (b : Bool) → (P → A) → (Q → A) → OnTrue b P → OnFalse b Q → A
 by_answer true f g p q = f p
 by_answer false f g p q = g q
+
+pub if_err_weaker : {T E : Type 0} {P Q : E → Type 0} (r : Result T E) → ((e : E) → P e → Q e) → IfErr r P → IfErr r Q
+if_err_weaker (Ok t) f h = tt
+if_err_weaker (Err e) f h = f e h
+
+pub by_fault : {T E P A : Type 0} {Q : E → Type 0} (r : Result T E) → (P → A) → ((e : E) → Q e → A) → OnOk r P → IfErr r Q → A
+by_fault (Ok t) f g p q = f p
+by_fault (Err e) f g p q = g e q
+
+pub by_made : {P Q A : Type 0} (b : Bool) → (b ≡ true → P → A) → (b ≡ false → Q → A) → OnTrue b P → OnFalse b Q → A
+by_made true f g p q = f refl p
+by_made false f g p q = g refl q
+
+pub on_true_made : {P Q : Type 0} (b : Bool) → (b ≡ true → P → Q) → OnTrue b P → OnTrue b Q
+on_true_made true f h = f refl h
+on_true_made false f h = tt

@@ -94,7 +94,7 @@ module _ {K V : Type 0} (R : K → K → Ordering) (o : IsTotalOrder R) (below :
 -- The keys of a map that lies between.
 
 -- a key that is found has whatever the keys have
-found_has : {K V : Type 0} (R : K → K → Ordering) (P : K → Type 0) → ((x y : K) → R x y ≡ Equal → P y → P x) → (q : K) (xs : List (K × V)) → find R q xs ≢ None → AllKeys P xs → P q
+pub found_has : {K V : Type 0} (R : K → K → Ordering) (P : K → Type 0) → ((x y : K) → R x y ≡ Equal → P y → P x) → (q : K) (xs : List (K × V)) → find R q xs ≢ None → AllKeys P xs → P q
 found_has R P alike q [] n h = absurd (n refl)
 found_has R P alike q (x ∷ xs) n h = elim (is_eq (R q x.0)) as (λ b. is_eq (R q x.0) ≡ b → cond b (Some x.1) (find R q xs) ≢ None → P q) [
   | true ↦ λ t m. alike q x.0 (is_equal _ t) h.0
@@ -102,7 +102,7 @@ found_has R P alike q (x ∷ xs) n h = elim (is_eq (R q x.0)) as (λ b. is_eq (R
 ] refl n
 
 -- every key of sorted pairs is found
-all_found : {K V : Type 0} (R : K → K → Ordering) (o : IsTotalOrder R) (es : List (K × V)) → IsTrue (is_sorted R es) → AllKeys (λ q. find R q es ≢ None) es
+pub all_found : {K V : Type 0} (R : K → K → Ordering) (o : IsTotalOrder R) (es : List (K × V)) → IsTrue (is_sorted R es) → AllKeys (λ q. find R q es ≢ None) es
 all_found {K} {V} R o es s = each [] es (λ q h. h)
   where
     each : (before after : List (K × V)) → ((q : K) → find R q after ≢ None → find R q es ≢ None) → AllKeys (λ q. find R q es ≢ None) after
@@ -176,7 +176,7 @@ module _ {K V : Type 0} (R : K → K → Ordering) (o : IsTotalOrder R) where
 
 -- What an edit leaves of a run, and of all pairs.
 
-alike_falls : {K V : Type 0} (R : K → K → Ordering) (o : IsTotalOrder R) (ms : List (K × List (K × V))) (j : ℕ) (x y : K) → R x y ≡ Equal → FallsTo R y ms j → FallsTo R x ms j
+pub alike_falls : {K V : Type 0} (R : K → K → Ordering) (o : IsTotalOrder R) (ms : List (K × List (K × V))) (j : ℕ) (x y : K) → R x y ≡ Equal → FallsTo R y ms j → FallsTo R x ms j
 alike_falls R o [] zero x y e f = tt
 alike_falls R o [] (suc j) x y e f = absurd f
 alike_falls R o (m ∷ ms) zero x y e f = o.congr x y m.0 e ∙ f
@@ -184,7 +184,7 @@ alike_falls R o (m ∷ ms) (suc j) x y e f = (λ l. f.0 (sym (o.congr x y m.0 e)
 
 module _ {K V : Type 0} (R : K → K → Ordering) (o : IsTotalOrder R) (valid : V → Type 0) (below : V → V → Type 0) (itself : (x : V) → below x x) (chain : (x y z : V) → below x y → below y z → below x z) (join : V → V → V) (joins : (x y : V) → IsJoin below x y (join x y)) where
   -- a value between two maps is up to their join
-  up_to_union : (es fs now : List (K × V)) → IsBetween (MapBelow R below) es fs now → MapBelow R below now (map_union R join es fs)
+  pub up_to_union : (es fs now : List (K × V)) → IsBetween (MapBelow R below) es fs now → MapBelow R below now (map_union R join es fs)
   up_to_union es fs now b =
       let all = map_union R join es fs in
       let above = ((union_joins R o below join joins es fs).bounds all).0 (map_itself below itself chain R all) in
@@ -198,12 +198,6 @@ module _ {K V : Type 0} (R : K → K → Ordering) (o : IsTotalOrder R) (valid :
       none [] h f s = absurd (omega (arith, s))
       none (x ∷ xs) h f s = h.0.not_least (subst (λ r. OptionBelow below (cond (is_eq r) (Some x.1) (find R x.0 xs)) None) (tied_itself o x.0) (f x.0))
   kept_some es (x ∷ now) m l some = omega arith
-
-  -- no key is added where it is there already
-  pub known_length : (es now : List (K × V)) (k : K) (v : V) → IsMap R below valid es → IsMap R below valid now → IsBetween (MapBelow R below) es ((k, v) ∷ []) now → find R k es ≢ None → length now ≤ length es
-  known_length es now k v m n b known =
-      no_more R o now es n.sorted m.sorted
-      (keys_stay R o valid below join joins (λ q. find R q es ≢ None) (λ x y e f. subst (λ w. w ≢ None) (find_tied R o x y e es) f) es ((k, v) ∷ []) now n (up_to_union es ((k, v) ∷ []) now b) (all_found R o es m.sorted) (known, tt))
 
   held_with : (run : List (K × V)) (ms : List (K × List (K × V))) (j : ℕ) (new : List (K × V)) → AllHeld below valid (run ++ later ms) → AllHeld below valid new → AllHeld below valid (all_pairs (with_run run ms j new))
   held_with run ms zero new h n = held_append new (later ms) n (held_parts run (later ms) h).1
@@ -249,7 +243,7 @@ module _ {K V : Type 0} (R : K → K → Ordering) (o : IsTotalOrder R) (valid :
   union_length es (f ∷ fs) = let le = union_length es fs in omega (arith, le, put_length f.0 (joined_value join (find R f.0 es) f.1) (map_union R join es fs))
 
   -- no more keys are added than there are pairs
-  pub added_length : (es fs now : List (K × V)) → IsMap R below valid now → IsMap R below valid (map_union R join es fs) → IsBetween (MapBelow R below) es fs now → length now ≤ length es + length fs
+  pub added_length : (es fs now : List (K × V)) → IsMap R below valid now → IsTrue (is_sorted R (map_union R join es fs)) → IsBetween (MapBelow R below) es fs now → length now ≤ length es + length fs
   added_length es fs now n u b =
-      let le = no_more R o now (map_union R join es fs) n.sorted u.sorted (keys_found R o valid below join joins now (map_union R join es fs) n (up_to_union es fs now b)) in
+      let le = no_more R o now (map_union R join es fs) n.sorted u (keys_found R o valid below join joins now (map_union R join es fs) n (up_to_union es fs now b)) in
       omega (arith, le, union_length es fs)

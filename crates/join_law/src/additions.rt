@@ -1,10 +1,14 @@
 //! Joins of one value into maps of maps, at any depth.
-ghost use Rattle.std.specs.{Prelude.{◌≡◌, ◌↔◌, [], ◌∷◌, Bool, false, IsTrue, IsOk, IfOk, OnOk, OnErr}, Option.{IfNone, IfSome}};
+ghost use Rattle.std.specs.{Prelude.{◌≡◌, ◌↔◌, ◌<◌, ◌≤◌, [], ◌∷◌, Bool, false, None, length, IsTrue, IsOk, IfOk, OnOk, OnErr}, Option.{IfNone, IfSome}};
 ghost use Rattle.std.specs.FinMap.{find};
-ghost use Rattle.join_law.specs.{Maps.{IsHeld, IsMap, MapBelow, is_none_or}, Order.{IsBetween, IsJoin, IsLeast}};
+ghost use Rattle.chunked_pairs.specs.Chunks.{all_pairs, FallsTo, run_at};
+ghost use Rattle.join_law.specs.{Maps.{AreMapped, IsHeld, IsMap, MapBelow, is_none_or}, Order.{IsBetween, IsJoin, IsLeast}};
 
+use crate::inserts::insert_pair;
 use crate::joins::Join;
 use crate::maps::JoinMap;
+use crate::runs::place_for;
+use chunked_pairs::Chunks;
 use plain_values::Key;
 use sorted_pairs::seek;
 use std::alloc::{AllocError, Global};
@@ -96,7 +100,7 @@ impl<K: Key, A: Addition> Addition for AddAt<K, A> {
 
     /// Costs a search and at most one shift of the pairs in each map. Creates a map only to hold the value.
     fn join_to(self, map: &mut JoinMap<K, A::Value>) -> Result<bool, AllocError> {
-        join_at_key(&mut map.pairs, self.key, self.addition)
+        add_at_key(&mut map.chunks, self.key, self.addition)
     }
 
     fn into_value(self, alloc: Global) -> Result<Option<JoinMap<K, A::Value>>, AllocError> {
@@ -108,6 +112,61 @@ impl<K: Key, A: Addition> Addition for AddAt<K, A> {
 }
 
 // Joins at a key, and returns whether a key was added, here or in the value at the key.
+fn add_at_key<K: Key, A: Addition>(
+    chunks: &mut Chunks<K, A::Value>,
+    key: K,
+    addition: A,
+) -> Result<bool, AllocError>
+    requires map { AreMapped K.cmp A.Value.below A.Value.is_valid chunks.old }
+    ensures ok { OnOk result (IsJoin (MapBelow K.cmp A.Value.below) (all_pairs chunks.old)
+        ((key, A.added addition) ∷ []) (all_pairs chunks.new)) }
+    ensures added { IfOk result (λ is_added. IsTrue is_added ↔
+        (IsTrue (is_none_or (A.is_new addition) (find K.cmp key (all_pairs chunks.old)))
+        × ¬ IsLeast (MapBelow K.cmp A.Value.below) ((key, A.added addition) ∷ []))) }
+    ensures refused { OnErr result (IsBetween (MapBelow K.cmp A.Value.below) (all_pairs chunks.old)
+        ((key, A.added addition) ∷ []) (all_pairs chunks.new)) }
+    ensures single { OnErr result (A.Value.is_single (A.added addition) → all_pairs chunks.new ≡ all_pairs chunks.old) }
+    ensures in_place { A.joins_in_place →
+        is_none_or (A.is_new addition) (find K.cmp key (all_pairs chunks.old)) ≡ false → IsOk result }
+    ensures map { AreMapped K.cmp A.Value.below A.Value.is_valid chunks.new }
+{
+    match place_for(chunks, &key) {
+        Ok(at) => add_in_run(chunks, at, key, addition),
+        Err(_) => Err(AllocError),
+    }
+}
+
+// Joins at a key in the run to which it falls, which has the key, or room for it.
+fn add_in_run<K: Key, A: Addition>(
+    chunks: &mut Chunks<K, A::Value>,
+    at: usize,
+    key: K,
+    addition: A,
+) -> Result<bool, AllocError>
+    requires map { AreMapped K.cmp A.Value.below A.Value.is_valid chunks.old }
+    requires within { at ≤ length chunks.old.1 }
+    requires falls { FallsTo K.cmp key chunks.old.1 at }
+    requires room { find K.cmp key (run_at chunks.old.0 chunks.old.1 at) ≡ None →
+        length (run_at chunks.old.0 chunks.old.1 at) < 128 }
+    ensures ok { OnOk result (IsJoin (MapBelow K.cmp A.Value.below) (all_pairs chunks.old)
+        ((key, A.added addition) ∷ []) (all_pairs chunks.new)) }
+    ensures added { IfOk result (λ is_added. IsTrue is_added ↔
+        (IsTrue (is_none_or (A.is_new addition) (find K.cmp key (all_pairs chunks.old)))
+        × ¬ IsLeast (MapBelow K.cmp A.Value.below) ((key, A.added addition) ∷ []))) }
+    ensures refused { OnErr result (IsBetween (MapBelow K.cmp A.Value.below) (all_pairs chunks.old)
+        ((key, A.added addition) ∷ []) (all_pairs chunks.new)) }
+    ensures single { OnErr result (A.Value.is_single (A.added addition) → all_pairs chunks.new ≡ all_pairs chunks.old) }
+    ensures in_place { A.joins_in_place →
+        is_none_or (A.is_new addition) (find K.cmp key (all_pairs chunks.old)) ≡ false → IsOk result }
+    ensures map { AreMapped K.cmp A.Value.below A.Value.is_valid chunks.new }
+{
+    let mut run = chunks.take(at);
+    let outcome = join_at_key(&mut run, key, addition);
+    chunks.put(at, run);
+    outcome
+}
+
+// Joins at a key of sorted pairs, and returns whether a key was added, here or in the value at the key.
 fn join_at_key<K: Key, A: Addition>(
     pairs: &mut Vec<(K, A::Value)>,
     key: K,
@@ -133,7 +192,7 @@ fn join_at_key<K: Key, A: Addition>(
         }
         Err(at) => match addition.into_value(*pairs.allocator())? {
             Some(value) => {
-                pairs.insert(at, (key, value))?;
+                insert_pair(pairs, at, (key, value))?;
                 Ok(true)
             }
             None => Ok(false),

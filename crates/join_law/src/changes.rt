@@ -1,10 +1,12 @@
 //! In-place changes of a value that a map of maps holds.
 ghost use Rattle.std.specs.{Prelude.{◌≡◌, [], ◌∷◌, Bool}, Bool.{OnTrue, OnFalse}, FinMap.{find}};
-ghost use Rattle.join_law.specs.{Maps.{IsMap, MapBelow, is_some_and}, Order.{IsJoin}, VersionOrder.{has_other}};
+ghost use Rattle.chunked_pairs.specs.Chunks.{all_pairs};
+ghost use Rattle.join_law.specs.{Maps.{AreMapped, IsMap, MapBelow, is_some_and}, Order.{IsJoin}, VersionOrder.{has_other}};
 
 use crate::joins::Join;
 use crate::maps::JoinMap;
 use crate::versions::{Entry, Versioned};
+use chunked_pairs::Chunks;
 use plain_values::Key;
 use sorted_pairs::seek;
 
@@ -82,12 +84,27 @@ impl<'a, K: Key, C: Change> Change for ChangeAt<'a, K, C> {
     /// Costs a search, and the change of the value found.
     fn make(self, map: &mut JoinMap<K, C::Value>) -> bool {
         let ChangeAt { key, change } = self;
-        let pairs = &mut map.pairs;
-        change_pair(pairs, key, change)
+        change_at_key(&mut map.chunks, key, change)
     }
 }
 
 // Changes the value at a key, and returns whether the change applied.
+fn change_at_key<K: Key, C: Change>(chunks: &mut Chunks<K, C::Value>, key: &K, change: C) -> bool
+    requires map { AreMapped K.cmp C.Value.below C.Value.is_valid chunks.old }
+    ensures made { result ≡ is_some_and (C.is_made change) (find K.cmp key.now (all_pairs chunks.old)) }
+    ensures joined { OnTrue result (IsJoin (MapBelow K.cmp C.Value.below) (all_pairs chunks.old)
+        ((key.now, C.added change) ∷ []) (all_pairs chunks.new)) }
+    ensures same { OnFalse result (all_pairs chunks.new ≡ all_pairs chunks.old) }
+    ensures map { AreMapped K.cmp C.Value.below C.Value.is_valid chunks.new }
+{
+    let at = chunks.run_of(key);
+    let mut run = chunks.take(at);
+    let is_made = change_pair(&mut run, key, change);
+    chunks.put(at, run);
+    is_made
+}
+
+// Changes the value at a key of sorted pairs, and returns whether the change applied.
 fn change_pair<K: Key, C: Change>(pairs: &mut Vec<(K, C::Value)>, key: &K, change: C) -> bool
     requires { IsMap K.cmp C.Value.below C.Value.is_valid pairs.old.items }
     ensures made { result ≡ is_some_and (C.is_made change) (find K.cmp key.now pairs.old.items) }

@@ -1,13 +1,14 @@
-//! Comparing and copying sorted pairs, and joining copies into them.
+//! Joining copies of pairs into sorted pairs.
 ghost use Rattle.std.specs.{Prelude.{◌≡◌, ◌↔◌, ◌≤◌, None, [], ◌∷◌, map, vec_len, IsTrue, IsOk, IfOk, OnOk, OnErr}, Bool.{OnTrue, OnFalse}};
 ghost use Rattle.std.specs.{FinMap.{find}, List.{insert}};
 ghost use Rattle.join_law.specs.{Maps.{IsHeld, IsMap, MapBelow}, Order.{IsBetween, IsJoin}, Outcomes.{AreCopiesJoined}};
 
+use crate::inserts::insert_pair;
 use crate::joins::Join;
 use crate::passes::{are_few, join_copies_in_one};
 use plain_values::Key;
 use sorted_pairs::seek;
-use std::alloc::{AllocError, Global};
+use std::alloc::AllocError;
 
 // Joins a copy of one pair, where `left` counts this pair and those after it, and returns whether it did. If the key is
 // new and many pairs are left, it does nothing: one pass over both lists is then cheaper.
@@ -57,7 +58,7 @@ fn insert_copy<K: Key, V: Join>(
     ensures err { OnErr result (pairs.new.items ≡ pairs.old.items) }
 {
     let copy = key.try_clone()?;
-    pairs.insert(at, (copy, value.try_clone()?))?;
+    insert_pair(pairs, at, (copy, value.try_clone()?))?;
     Ok(())
 }
 
@@ -80,49 +81,4 @@ pub fn join_copies<K: Key, V: Join>(
         }
     }
     Ok(())
-}
-
-// Borrows the keys of the pairs.
-pub fn keys_of<K, V>(alloc: Global, pairs: &[(K, V)]) -> Result<Vec<&K>, AllocError>
-    ensures keys { IfOk result (λ keys. map (λ k. k.now) keys.items ≡ map (λ pair. pair.0) pairs.now) }
-{
-    let mut keys = Vec::with_capacity(alloc, pairs.len())?;
-    for pair in pairs {
-        keys.push(&pair.0)?;
-    }
-    Ok(keys)
-}
-
-// Returns a copy of the pairs.
-pub fn copy_pairs<K: Key, V: Join>(
-    alloc: Global,
-    pairs: &[(K, V)],
-) -> Result<Vec<(K, V)>, AllocError>
-    ensures copy { IfOk result (λ copy. copy.items ≡ pairs.now) }
-{
-    let mut copy = Vec::with_capacity(alloc, pairs.len())?;
-    for pair in pairs {
-        copy.push((pair.0.try_clone()?, pair.1.try_clone()?))?;
-    }
-    Ok(copy)
-}
-
-// Returns whether two lists of pairs are equal.
-pub fn same_pairs<K: Key, V: Join>(left: &[(K, V)], right: &[(K, V)]) -> bool
-    ensures same { IsTrue result ↔ (left.now ≡ right.now) }
-{
-    if left.len() != right.len() {
-        return false;
-    }
-    for i in 0..left.len() {
-        let x = &left[i];
-        let y = &right[i];
-        if !x.0.cmp(&y.0).is_eq() {
-            return false;
-        }
-        if !x.1.same(&y.1) {
-            return false;
-        }
-    }
-    true
 }

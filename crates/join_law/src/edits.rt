@@ -1,12 +1,11 @@
-//! Joining owned pairs into sorted pairs.
+//! Joining an owned pair into sorted pairs.
 ghost use Rattle.std.specs.{Prelude.{◌≡◌, ◌↔◌, [], ◌∷◌, None, IsTrue, IsSome, IsOk, IfOk, OnOk, IfErr}, FinMap.{find}};
-ghost use Rattle.join_law.specs.{Maps.{IsMap, MapBelow}, Order.{IsJoin, IsLeast, IsPartialJoin}, Outcomes.{ArePairsJoined}};
+ghost use Rattle.join_law.specs.{Maps.{IsMap, MapBelow}, Order.{IsJoin, IsLeast, IsPartialJoin}};
 
+use crate::inserts::insert_pair;
 use crate::joins::{Join, Rest};
-use crate::passes::{are_few, join_pairs_in_one};
 use plain_values::Key;
 use sorted_pairs::seek;
-use std::mem;
 
 // Joins one pair, and returns whether its key was added. A bottom value changes nothing.
 pub fn join_pair<K: Key, V: Join>(
@@ -39,36 +38,9 @@ pub fn join_pair<K: Key, V: Join>(
                 Err(Rest { rest }) => Err(Rest { rest: (key, rest) }),
             }
         }
-        Err(at) => match pairs.insert(at, (key, value)) {
+        Err(at) => match insert_pair(pairs, at, (key, value)) {
             Ok(()) => Ok(true),
             Err(fault) => Err(Rest { rest: fault.value }),
         },
     }
-}
-
-// Joins all pairs of `other`, and returns whether all were joined. Few pairs cost a search each, beginning with the
-// last; many cost one allocation and one pass over both lists. An empty `pairs` takes over `other`.
-pub fn join_pairs<K: Key, V: Join>(pairs: &mut Vec<(K, V)>, other: &mut Vec<(K, V)>) -> bool
-    requires map { IsMap K.cmp V.below V.is_valid pairs.old.items }
-    requires other_map { IsMap K.cmp V.below V.is_valid other.old.items }
-    ensures joined { ArePairsJoined K.cmp V.below V.is_valid V.is_single result pairs.old.items other.old.items
-        pairs.new.items other.new.items }
-{
-    if pairs.is_empty() {
-        mem::swap(pairs, other);
-        return true;
-    }
-    if !are_few(other.len(), pairs.len()) {
-        return join_pairs_in_one(pairs, other);
-    }
-    while let Some((key, value)) = other.pop() {
-        if let Err(Rest { rest }) = join_pair(pairs, key, value) {
-            // Infallible: `pop` has just freed the room.
-            match other.push(rest) {
-                Ok(()) => return false,
-                Err(_) => unreachable!(),
-            }
-        }
-    }
-    true
 }

@@ -9,7 +9,8 @@
 //!
 //! - `Join`: the trait; `Rest`: what a failed join leaves to do.
 //! - `Version`, `Entry` and `Versioned`: a last-writer-wins register.
-//! - `JoinMap`: a map whose values are joined key by key.
+//! - `JoinMap`: a map whose values are joined key by key, over sorted pairs in chunks; `Pairs`, a cursor over its pairs;
+//!   `Sought`, a key that is looked for in another form.
 //! - `Addition` (`AddValue`, `AddAt`): joins one value at a key, at any depth of maps of maps.
 //! - `Change` (`Overwrite`, `ChangeAt`): changes a value that is already held, in place.
 #![tactic(auto)]
@@ -18,13 +19,18 @@ mod additions;
 mod changes;
 mod copies;
 mod edits;
+mod inserts;
 mod joins;
 mod maps;
+mod merges;
 mod passes;
+mod runs;
 mod versions;
+mod walks;
 
 pub use additions::{AddAt, AddValue, Addition};
 pub use changes::{Change, ChangeAt, Overwrite};
+pub use chunked_pairs::{Pairs, Sought};
 pub use joins::{Join, Rest};
 pub use maps::JoinMap;
 pub use plain_values::Key;

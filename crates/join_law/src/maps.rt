@@ -1,13 +1,14 @@
 //! Maps whose values are joined key by key.
-ghost use Rattle.std.specs.Prelude.{◌≡◌, ◌↔◌, [], ◌∷◌, ◌++◌, None, length, map, IsTrue, IsSome, IsOk, IfOk, OnOk, IfErr};
+ghost use Rattle.std.specs.Prelude.{◌≡◌, ◌↔◌, [], ◌∷◌, ◌++◌, None, Some, length, map, IsTrue, IsSome, IsOk, IfOk, OnOk, IfErr, MatchOption};
 ghost use Rattle.std.specs.{Option.{option_copied, option_to_list, IfNone, IfSome}, FinMap.{find}};
 ghost use Rattle.join_law.specs.{Maps.{IsHeld, IsMap, MapBelow}, Order.{IsJoin, IsLeast, IsPartialJoin}};
 
-use crate::copies::{copy_pairs, join_copies, keys_of, same_pairs};
-use crate::edits::{join_pair, join_pairs};
 use crate::joins::{Join, Rest};
+use crate::merges::{join_chunk_copies, join_chunks};
+use crate::runs::join_key;
+use crate::walks::{copy_chunks, keys_of, same_pairs};
+use chunked_pairs::{Chunks, Pairs, Sought};
 use plain_values::Key;
-use sorted_pairs::seek;
 use std::alloc::{AllocError, Global};
 use std::marker::Model;
 
@@ -17,21 +18,21 @@ use std::marker::Model;
 /// absent.
 #[derive(Debug, Drop)]
 pub struct JoinMap<K: Key, V: Join> {
-    // Sorted by key.
-    pub(crate) pairs: Vec<(K, V)>,
+    pub(crate) chunks: Chunks<K, V>,
 }
 
 impl<K: Key, V: Join> Model for JoinMap<K, V> {
     ghost use Rattle.std.specs.{Prelude.{List}, Coded.{coded_list, coded×}};
-    ghost use Rattle.join_law.specs.Maps.{IsMap};
+    ghost use Rattle.chunked_pairs.specs.Chunks.{all_pairs};
+    ghost use Rattle.join_law.specs.Maps.{AreMapped};
 
     ghost Value = { List (K × V) };
 
     ghost coded = { coded_list (coded× K.code V.code) };
 
-    ghost view = { λ m. m.pairs.items };
+    ghost view = { λ m. all_pairs m.chunks };
 
-    ghost invariant = { λ m. IsMap K.cmp V.below V.is_valid m.pairs.items };
+    ghost invariant = { λ m. AreMapped K.cmp V.below V.is_valid m.chunks };
 }
 
 impl<K: Key, V: Join> JoinMap<K, V> {
@@ -40,16 +41,8 @@ impl<K: Key, V: Join> JoinMap<K, V> {
         ensures empty { result ≡ [] }
     {
         JoinMap {
-            pairs: Vec::new(alloc),
+            chunks: Chunks::new(alloc),
         }
-    }
-
-    /// Makes a map of sorted pairs. O(1). Allocates nothing.
-    pub fn from_pairs(sorted: Vec<(K, V)>) -> Self
-        requires map { IsMap K.cmp V.below V.is_valid sorted.items }
-        ensures pairs { result ≡ sorted.items }
-    {
-        JoinMap { pairs: sorted }
     }
 
     /// Returns a map of one pair. Fails only if memory runs out.
@@ -57,55 +50,55 @@ impl<K: Key, V: Join> JoinMap<K, V> {
         requires held { IsHeld V.below V.is_valid value }
         ensures pair { IfOk result (λ map. map ≡ (key, value) ∷ []) }
     {
-        let mut pairs = Vec::with_capacity(alloc, 1)?;
-        pairs.push((key, value))?;
-        Ok(JoinMap { pairs })
+        let mut run = Vec::with_capacity(alloc, 1)?;
+        run.push((key, value))?;
+        Ok(JoinMap {
+            chunks: Chunks::of_run(run),
+        })
     }
 
-    /// Returns the pairs, sorted by key. O(1). Allocates nothing.
-    pub fn into_pairs(self) -> Vec<(K, V)>
-        ensures pairs { result.items ≡ self }
-        ensures map { IsMap K.cmp V.below V.is_valid self }
-    {
-        let JoinMap { pairs } = self;
-        pairs
-    }
-
-    /// Borrows the pairs, sorted by key. Allocates nothing.
-    pub fn pairs(&self) -> &[(K, V)]
-        ensures pairs { result.now ≡ self.now }
+    /// A cursor over the pairs, sorted by key. O(1). Allocates nothing.
+    #[inline(always)]
+    pub fn pairs(&self) -> Pairs<'_, K, V>
+        ensures pairs { result ≡ self.now }
         ensures map { IsMap K.cmp V.below V.is_valid self.now }
     {
-        self.pairs.as_slice()
+        self.chunks.pairs()
     }
 
     /// Returns the allocator that the map takes its memory from.
     pub fn allocator(&self) -> Global {
-        *self.pairs.allocator()
+        self.chunks.allocator()
     }
 
-    /// Returns the number of keys. Allocates nothing.
+    /// Returns the number of keys. O(n / 128). Allocates nothing.
     pub fn len(&self) -> usize
         ensures len { result ≡ length self.now }
     {
-        self.pairs.len()
+        self.chunks.len()
     }
 
     /// Returns the value at a key, if any. O(log n). Allocates nothing.
     pub fn get(&self, key: &K) -> Option<&V>
         ensures value { option_copied result ≡ find K.cmp key.now self.now }
     {
-        match seek(&self.pairs, key) {
-            Ok(at) => Some(&self.pairs[at].1),
-            Err(_) => None,
-        }
+        let pair = self.chunks.find(key)?;
+        Some(&pair.1)
+    }
+
+    /// Returns the pair with a key that is looked for in any form, if there is one. O(log n). Allocates nothing.
+    pub fn find<S: Sought<K>>(&self, sought: &S) -> Option<&(K, V)>
+        ensures found { MatchOption result (find K.cmp (S.key sought.now) self.now ≡ None)
+            (λ pair. (pair.now.0 ≡ S.key sought.now) × (find K.cmp (S.key sought.now) self.now ≡ Some pair.now.1)) }
+    {
+        self.chunks.find(sought)
     }
 
     /// Borrows the keys, in order. Fails only if memory runs out.
     pub fn keys(&self) -> Result<Vec<&K>, AllocError>
         ensures keys { IfOk result (λ keys. map (λ k. k.now) keys.items ≡ map (λ pair. pair.0) self.now) }
     {
-        keys_of(*self.pairs.allocator(), &self.pairs)
+        keys_of(&self.chunks)
     }
 
     /// Removes and returns the pair with the greatest key, if any. O(1). Allocates nothing.
@@ -114,11 +107,11 @@ impl<K: Key, V: Join> JoinMap<K, V> {
         ensures none { IfNone result (self.old ≡ []) }
         ensures held { IfSome result (λ pair. IsHeld V.below V.is_valid pair.1) }
     {
-        self.pairs.pop()
+        self.chunks.pop_last()
     }
 
-    /// Joins a value into the one at a key, and returns whether the key was added. Costs a search and at most one shift
-    /// of the pairs.
+    /// Joins a value into the one at a key, and returns whether the key was added. Costs a search, and for a new key a
+    /// shift of at most 127 pairs.
     ///
     /// Fails only if memory runs out. The map then lies between its old state and the join, and joining the `rest`,
     /// which has the same key, completes the join; if the value is single, the map is unchanged. If the key is held,
@@ -136,7 +129,7 @@ impl<K: Key, V: Join> JoinMap<K, V> {
         ensures in_place { V.joins_in_place → IsSome (find K.cmp key self.old) → IsOk result }
         ensures map { IsMap K.cmp V.below V.is_valid self.new }
     {
-        join_pair(&mut self.pairs, key, value)
+        join_key(&mut self.chunks, key, value)
     }
 }
 
@@ -165,34 +158,34 @@ impl<K: Key, V: Join> Join for JoinMap<K, V> {
     ghost one = { maps_one K.cmp V.below K.total V.is_valid K.exact V.one };
 
     fn is_bottom(&self) -> bool {
-        self.pairs.is_empty()
+        self.chunks.is_empty()
     }
 
-    /// Joins key by key. Few pairs cost a search each and a shift for each new key; many cost one allocation and one
-    /// pass over both maps. An empty map takes over the other one unchanged.
+    /// Joins key by key: a search for each pair, and for each new key a shift of at most 127 pairs. An empty map takes
+    /// over the other one unchanged.
     ///
     /// A pair whose join fails is put back into the room that it came from.
     fn join_from(&mut self, mut other: Self) -> Result<(), Rest<Self>> {
-        if join_pairs(&mut self.pairs, &mut other.pairs) {
+        if join_chunks(&mut self.chunks, &mut other.chunks) {
             return Ok(());
         }
         Err(Rest { rest: other })
     }
 
-    /// Joins copies key by key. Until the first new key it costs a search for each pair and moves nothing. From there
-    /// on, few pairs cost a search each and the shifts; many cost one allocation and one pass over both maps.
+    /// Joins copies key by key. Keys that are held move nothing; new ones that fall to one run cost one pass over that
+    /// run.
     fn join_copy(&mut self, other: &Self) -> Result<(), AllocError> {
-        join_copies(&mut self.pairs, &other.pairs)
+        join_chunk_copies(&mut self.chunks, &other.chunks)
     }
 
-    /// Returns an equal map, with one allocation and a copy of each pair. Fails only if memory runs out.
+    /// Returns an equal map, with one allocation for each run and a copy of each pair. Fails only if memory runs out.
     fn try_clone(&self) -> Result<Self, AllocError> {
         Ok(JoinMap {
-            pairs: copy_pairs(*self.pairs.allocator(), &self.pairs)?,
+            chunks: copy_chunks(&self.chunks)?,
         })
     }
 
     fn same(&self, other: &Self) -> bool {
-        same_pairs(&self.pairs, &other.pairs)
+        same_pairs(self.chunks.pairs(), other.chunks.pairs())
     }
 }

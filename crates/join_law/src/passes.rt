@@ -1,11 +1,11 @@
-//! One pass over sorted pairs that joins many other pairs into them.
+//! One pass over sorted pairs that joins copies of many other pairs into them.
 ghost use Rattle.std.specs.Prelude.{◌≡◌, ◌+◌, ◌<◌, ◌≤◌, ◌++◌, [], ◌∷◌, length, vec_len, vec_capacity, IsOk, OnOk, OnErr, IfErr};
 ghost use Rattle.std.specs.{VecDeque.{deque_len}, declared.cmp.Ordering.TheVariants.{Less}, Bool.{OnTrue, OnFalse}};
 ghost use Rattle.sorted_pairs.specs.Places.{IsAt, IsGap, AreBelow, IsNotBelow};
 ghost use Rattle.join_law.specs.{Maps.{IsHeld, IsMap, MapBelow}, Order.{IsBetween, IsJoin, IsLeast, IsPartialJoin}};
 ghost use Rattle.join_law.specs.Outcomes.{AreCopiesJoined, ArePairsJoined};
 
-use crate::joins::{Join, Rest};
+use crate::joins::Join;
 use plain_values::Key;
 use sorted_pairs::{pass_all, pass_below};
 use std::alloc::AllocError;
@@ -66,73 +66,6 @@ fn place_copy<K: Key, V: Join>(
     }
 }
 
-// Joins one pair, whose key is above all passed keys and not above those ahead.
-fn place_pair<K: Key, V: Join>(
-    passed: &mut Vec<(K, V)>,
-    ahead: &mut VecDeque<(K, V)>,
-    key: K,
-    value: V,
-) -> Result<(), Rest<(K, V)>>
-    requires room { vec_len passed.old + deque_len ahead.old + 1 ≤ vec_capacity passed.old }
-    requires map { IsMap K.cmp V.below V.is_valid (passed.old.items ++ ahead.old.items) }
-    requires held { IsHeld V.below V.is_valid value }
-    requires below { AreBelow K.cmp key passed.old.items }
-    requires next { IsNotBelow K.cmp key ahead.old.items }
-    ensures map { IsMap K.cmp V.below V.is_valid (passed.new.items ++ ahead.new.items) }
-    ensures ok { OnOk result (IsJoin (MapBelow K.cmp V.below) (passed.old.items ++ ahead.old.items)
-        ((key, value) ∷ []) (passed.new.items ++ ahead.new.items)) }
-    ensures key { IfErr result (λ fault. fault.rest.0 ≡ key) }
-    ensures refused { IfErr result (λ fault. IsPartialJoin (MapBelow K.cmp V.below)
-        (passed.old.items ++ ahead.old.items) ((key, value) ∷ []) (passed.new.items ++ ahead.new.items)
-        (fault.rest ∷ [])) }
-    ensures left { IfErr result (λ fault. ¬ IsLeast V.below fault.rest.1) }
-    ensures rest_valid { IfErr result (λ fault. V.is_valid fault.rest.1) }
-    ensures single { IfErr result (λ _. V.is_single value → passed.new.items ++ ahead.new.items ≡
-        passed.old.items ++ ahead.old.items) }
-    ensures below { (next : K) → K.cmp key next ≡ Less → AreBelow K.cmp next passed.new.items }
-    ensures len { vec_len passed.new + deque_len ahead.new ≤ vec_len passed.old + deque_len ahead.old + 1 }
-    ensures capacity { vec_capacity passed.old ≤ vec_capacity passed.new }
-{
-    if is_first(ahead, &key) {
-        let place = &mut ahead[0];
-        return match place.1.join_from(value) {
-            Ok(()) => Ok(()),
-            Err(Rest { rest }) => Err(Rest { rest: (key, rest) }),
-        };
-    }
-    match passed.push((key, value)) {
-        Ok(()) => Ok(()),
-        Err(_) => unreachable!(),
-    }
-}
-
-// Joins the pairs of `other` in order, and returns whether all were joined.
-fn pass_pairs<K: Key, V: Join>(
-    passed: &mut Vec<(K, V)>,
-    ahead: &mut VecDeque<(K, V)>,
-    other: &mut VecDeque<(K, V)>,
-) -> bool
-    requires room { deque_len ahead.old + deque_len other.old ≤ vec_capacity passed.old }
-    requires none { passed.old.items ≡ [] }
-    requires map { IsMap K.cmp V.below V.is_valid ahead.old.items }
-    requires other_map { IsMap K.cmp V.below V.is_valid other.old.items }
-    ensures joined { ArePairsJoined K.cmp V.below V.is_valid V.is_single result ahead.old.items other.old.items
-        (passed.new.items ++ ahead.new.items) other.new.items }
-    ensures room { vec_len passed.new + deque_len ahead.new ≤ vec_capacity passed.new }
-{
-    while let Some((key, value)) = other.pop_front() {
-        pass_below(passed, ahead, &key);
-        if let Err(Rest { rest }) = place_pair(passed, ahead, key, value) {
-            // Infallible: `pop_front` has just freed the room.
-            match other.push_front(rest) {
-                Ok(()) => return false,
-                Err(_) => unreachable!(),
-            }
-        }
-    }
-    true
-}
-
 // Joins copies of what `other` has more.
 fn pass_copies<K: Key, V: Join>(
     passed: &mut Vec<(K, V)>,
@@ -171,29 +104,4 @@ pub fn join_copies_in_one<K: Key, V: Join>(
     pass_all(&mut passed, &mut ahead);
     *pairs = passed;
     outcome
-}
-
-// Joins all pairs of `other`, with one allocation and one pass over both lists, and returns whether all were joined.
-// Linear.
-pub fn join_pairs_in_one<K: Key, V: Join>(pairs: &mut Vec<(K, V)>, other: &mut Vec<(K, V)>) -> bool
-    requires maps { IsMap K.cmp V.below V.is_valid pairs.old.items × IsMap K.cmp V.below V.is_valid other.old.items }
-    requires some { 0 < vec_len other.old }
-    ensures joined { ArePairsJoined K.cmp V.below V.is_valid V.is_single result pairs.old.items other.old.items
-        pairs.new.items other.new.items }
-{
-    let alloc = *pairs.allocator();
-    let Some(room) = pairs.len().checked_add(other.len()) else {
-        return false;
-    };
-    let mut passed = match Vec::with_capacity(alloc, room) {
-        Ok(passed) => passed,
-        Err(_) => return false,
-    };
-    let mut ahead = VecDeque::from_vec(mem::replace(pairs, Vec::new(alloc)));
-    let mut left = VecDeque::from_vec(mem::replace(other, Vec::new(alloc)));
-    let done = pass_pairs(&mut passed, &mut ahead, &mut left);
-    pass_all(&mut passed, &mut ahead);
-    *pairs = passed;
-    *other = left.into_vec();
-    done
 }

@@ -40,27 +40,27 @@ returns-in_err-value-in-Err-clause-in_place g c = λ in_place held.
     let new = sym (ap (is_none_or (g.A.Addition.is_new c.args.addition)) none) ∙ held in
     cc (new)
 
-pub returns-in_err-insert-in-Some-clause-in_place : goal.returns-in_err-insert-in-Some-clause-in_place
-returns-in_err-insert-in-Some-clause-in_place g c = λ in_place held.
+pub returns-in_err-insert_pair-in-Some-clause-in_place : goal.returns-in_err-insert_pair-in-Some-clause-in_place
+returns-in_err-insert_pair-in-Some-clause-in_place g c = λ in_place held.
     let none = find_gap g.K.Ord.cmp c.args.key g.met.K.Ord.total _ _ c.requires.sorted (rw c.deref.ensures.value at c.in-Err.ensures.absent) in
     let new = sym (ap (is_none_or (g.A.Addition.is_new c.args.addition)) none) ∙ held in
     cc (new)
 
-pub returns-in_ok-insert-in-Some-clause-ok : goal.returns-in_ok-insert-in-Some-clause-ok
-returns-in_ok-insert-in-Some-clause-ok g c =
+pub returns-in_ok-insert_pair-in-Some-clause-ok : goal.returns-in_ok-insert_pair-in-Some-clause-ok
+returns-in_ok-insert_pair-in-Some-clause-ok g c =
     let value = rw c.in-Some.is at c.in_ok-value-in-Err.ensures.value in
     let held = rw c.in-Some.is at c.in_ok-value-in-Err.ensures.held in
-    rw (c.in_ok-insert-in-Some.ensures.items, sym value)
+    rw (c.in_ok-insert_pair-in-Some.ensures.ok, sym value)
     (inserted_is_join g.K.Ord.cmp g.met.K.Ord.total g.A.Value.Join.is_valid g.A.Value.Join.below g.met.A.Value.Join.reflexive g.met.A.Value.Join.transitive c.args.key _ _ c.requires c.in-Some.value held.not_least (rw c.deref.ensures.value at c.in-Err.ensures.absent))
 
-pub returns-in_ok-insert-in-Some-clause-map : goal.returns-in_ok-insert-in-Some-clause-map
-returns-in_ok-insert-in-Some-clause-map g c =
+pub returns-in_ok-insert_pair-in-Some-clause-map : goal.returns-in_ok-insert_pair-in-Some-clause-map
+returns-in_ok-insert_pair-in-Some-clause-map g c =
     let held = rw c.in-Some.is at c.in_ok-value-in-Err.ensures.held in
-    rw c.in_ok-insert-in-Some.ensures.items
+    rw c.in_ok-insert_pair-in-Some.ensures.ok
     (inserted_is_map g.K.Ord.cmp g.met.K.Ord.total g.A.Value.Join.is_valid g.A.Value.Join.below g.met.A.Value.Join.reflexive g.met.A.Value.Join.transitive c.args.key _ _ c.requires c.in-Some.value held.not_least (rw c.deref.ensures.value at c.in-Err.ensures.absent) held.well_formed)
 
-pub returns-in_ok-insert-in-Some-clause-added : goal.returns-in_ok-insert-in-Some-clause-added
-returns-in_ok-insert-in-Some-clause-added g c =
+pub returns-in_ok-insert_pair-in-Some-clause-added : goal.returns-in_ok-insert_pair-in-Some-clause-added
+returns-in_ok-insert_pair-in-Some-clause-added g c =
     let value = rw c.in-Some.is at c.in_ok-value-in-Err.ensures.value in
     let held = rw c.in-Some.is at c.in_ok-value-in-Err.ensures.held in
     let none = find_gap g.K.Ord.cmp c.args.key g.met.K.Ord.total _ _ c.requires.sorted (rw c.deref.ensures.value at c.in-Err.ensures.absent) in

@@ -18,16 +18,16 @@ pub returns-in-Err-join_from-clause-refused : goal.returns-in-Err-join_from-clau
 returns-in-Err-join_from-clause-refused g c =
     partly_is_join g.K.Ord.cmp g.met.K.Ord.total g.V.Join.is_valid g.V.Join.below g.met.V.Join.reflexive g.met.V.Join.transitive c.args.key _ _ c.requires _ (rw c.deref.ensures.value at c.in-Ok.ensures.found) c.index_mut-place.ensures.value c.args.value _ _ c.in-Err-join_from.ensures.refused
 
-pub returns-in-Ok-insert-clause-map : goal.returns-in-Ok-insert-clause-map
-returns-in-Ok-insert-clause-map g c = rw c.in-Ok-insert.ensures.items
+pub returns-in-Ok-insert_pair-clause-map : goal.returns-in-Ok-insert_pair-clause-map
+returns-in-Ok-insert_pair-clause-map g c = rw c.in-Ok-insert_pair.ensures.ok
     (inserted_is_map g.K.Ord.cmp g.met.K.Ord.total g.V.Join.is_valid g.V.Join.below g.met.V.Join.reflexive g.met.V.Join.transitive c.args.key _ _ c.requires c.args.value (λ least. let t = c.if-is_bottom.ensures.least.1 least in cc (t)) (rw c.deref.ensures.value at c.in-Err.ensures.absent) c.is_bottom.ensures.valid)
 
-pub returns-in-Ok-insert-clause-ok : goal.returns-in-Ok-insert-clause-ok
-returns-in-Ok-insert-clause-ok g c = rw c.in-Ok-insert.ensures.items
+pub returns-in-Ok-insert_pair-clause-ok : goal.returns-in-Ok-insert_pair-clause-ok
+returns-in-Ok-insert_pair-clause-ok g c = rw c.in-Ok-insert_pair.ensures.ok
     (inserted_is_join g.K.Ord.cmp g.met.K.Ord.total g.V.Join.is_valid g.V.Join.below g.met.V.Join.reflexive g.met.V.Join.transitive c.args.key _ _ c.requires c.args.value (λ least. let t = c.if-is_bottom.ensures.least.1 least in cc (t)) (rw c.deref.ensures.value at c.in-Err.ensures.absent))
 
-pub returns-in-Err-insert-clause-refused : goal.returns-in-Err-insert-clause-refused
-returns-in-Err-insert-clause-refused g c = rw (c.in-Err-insert.ensures.items, c.in-Err-insert.ensures.value_returned)
+pub returns-in-Err-insert_pair-clause-refused : goal.returns-in-Err-insert_pair-clause-refused
+returns-in-Err-insert_pair-clause-refused g c = rw (c.in-Err-insert_pair.ensures.err, c.in-Err-insert_pair.ensures.back)
     (refused_is_join g.K.Ord.cmp g.met.K.Ord.total g.V.Join.is_valid g.V.Join.below g.met.V.Join.reflexive g.met.V.Join.transitive c.args.key _ c.in-Err.at c.requires c.args.value (λ least. let t = c.if-is_bottom.ensures.least.1 least in cc (t)))
 
 pub returns-in-Err-join_from-clause-single : goal.returns-in-Err-join_from-clause-single
@@ -36,8 +36,8 @@ returns-in-Err-join_from-clause-single g c = λ single.
     ap (λ v. set items c.in-Ok.at (c.index_mut-place.result.now.0, v)) (c.in-Err-join_from.ensures.single single) ∙
     set_same items c.in-Ok.at c.index_mut-place.result.now c.index_mut-place.ensures.value
 
-pub returns-in-Err-insert-clause-in_place : goal.returns-in-Err-insert-clause-in_place
-returns-in-Err-insert-clause-in_place g c = λ in_place some.
+pub returns-in-Err-insert_pair-clause-in_place : goal.returns-in-Err-insert_pair-clause-in_place
+returns-in-Err-insert_pair-clause-in_place g c = λ in_place some.
     let none = find_gap g.K.Ord.cmp c.args.key g.met.K.Ord.total _ _ c.requires.sorted (rw c.deref.ensures.value at c.in-Err.ensures.absent) in
     let t = subst IsSome none some in
     cc (t)
@@ -47,7 +47,7 @@ returns-in-Ok-join_from-clause-added g c =
     let found = find_at g.K.Ord.cmp c.args.key c.args.pairs.now.items c.in-Ok.at c.index_mut-place.result.now (rw c.deref.ensures.value at c.in-Ok.ensures.found) in
     (λ added. cc (added), λ new. let none = sym found ∙ new.0 in cc (none))
 
-pub returns-in-Ok-insert-clause-added : goal.returns-in-Ok-insert-clause-added
-returns-in-Ok-insert-clause-added g c =
+pub returns-in-Ok-insert_pair-clause-added : goal.returns-in-Ok-insert_pair-clause-added
+returns-in-Ok-insert_pair-clause-added g c =
     let none = find_gap g.K.Ord.cmp c.args.key g.met.K.Ord.total _ _ c.requires.sorted (rw c.deref.ensures.value at c.in-Err.ensures.absent) in
     (λ _. (none, λ least. let t = c.if-is_bottom.ensures.least.1 least in cc (t)), λ _. refl)

@@ -1,0 +1,70 @@
+//! Walks over all pairs in chunks: copying, comparing, and borrowing the keys.
+ghost use Rattle.std.specs.Prelude.{◌≡◌, ◌↔◌, IsTrue, IfOk, map};
+ghost use Rattle.chunked_pairs.specs.Chunks.{all_pairs, AreChunks};
+
+use crate::joins::Join;
+use chunked_pairs::{Chunks, Pairs};
+use plain_values::Key;
+use std::alloc::{AllocError, Global};
+
+// Returns a copy of the runs, each of exact capacity.
+pub fn copy_chunks<K: Key, V: Join>(chunks: &Chunks<K, V>) -> Result<Chunks<K, V>, AllocError>
+    ensures copy { IfOk result (λ copy. copy ≡ chunks.now) }
+{
+    let alloc = chunks.allocator();
+    let mut copy = Chunks::of_run(copy_pairs(alloc, chunks.run(0))?);
+    for at in 0..chunks.last_run() {
+        let run = copy_pairs(alloc, chunks.run(at + 1))?;
+        copy.add_run(chunks.separator(at).try_clone()?, run)?;
+    }
+    Ok(copy)
+}
+
+// Returns a copy of the pairs.
+fn copy_pairs<K: Key, V: Join>(
+    alloc: Global,
+    pairs: &[(K, V)],
+) -> Result<Vec<(K, V)>, AllocError>
+    ensures copy { IfOk result (λ copy. copy.items ≡ pairs.now) }
+{
+    let mut copy = Vec::with_capacity(alloc, pairs.len())?;
+    for pair in pairs {
+        copy.push((pair.0.try_clone()?, pair.1.try_clone()?))?;
+    }
+    Ok(copy)
+}
+
+// Returns whether two cursors have equal pairs left.
+pub fn same_pairs<K: Key, V: Join>(mut left: Pairs<'_, K, V>, mut right: Pairs<'_, K, V>) -> bool
+    ensures same { IsTrue result ↔ (left ≡ right) }
+{
+    while let Some(pair) = left.next() {
+        let Some(other) = right.next() else {
+            return false;
+        };
+        if !same_pair(pair, other) {
+            return false;
+        }
+    }
+    right.next().is_none()
+}
+
+// Returns whether two pairs are equal.
+fn same_pair<K: Key, V: Join>(left: &(K, V), right: &(K, V)) -> bool
+    ensures same { IsTrue result ↔ (left.now ≡ right.now) }
+{
+    left.0.cmp(&right.0).is_eq() && left.1.same(&right.1)
+}
+
+// Borrows the keys of the pairs, in order.
+pub fn keys_of<K: Key, V: Join>(chunks: &Chunks<K, V>) -> Result<Vec<&K>, AllocError>
+    requires chunks { AreChunks K.cmp chunks.now }
+    ensures keys { IfOk result (λ keys. map (λ k. k.now) keys.items ≡ map (λ pair. pair.0) (all_pairs chunks.now)) }
+{
+    let mut keys = Vec::with_capacity(chunks.allocator(), chunks.len())?;
+    let mut pairs = chunks.pairs();
+    while let Some(pair) = pairs.next() {
+        keys.push(&pair.0)?;
+    }
+    Ok(keys)
+}
