@@ -1,7 +1,7 @@
 -- What holds of runs that stand side by side.
 use Rattle.std.proofs.Common.{◌++◌, ◌<◌, ◌∷◌, ◌≡◌, ◌≢◌, ◌≤◌}
 use Rattle.chunked_pairs.specs.Prelude.{[], and_parts, ap, append-nil, arith, below_all, drop, find, is_less, is_lt, is_sorted, IsAt, IsGap, IsTotalOrder, IsTrue, length, Less, List, Ordering, refl, subst, suc, sym, zero, ℕ, ◌∙◌}
-use Rattle.chunked_pairs.specs.{Chunks.{AllKeys, AreChained, FallsTo, IsRun, later, run_at}, Searches.{below_from, both, find_above, find_below, find_first, find_second, from_below, keys_append, keys_both, keys_parts, keys_weaker, not_below, sorted_append}}
+use Rattle.chunked_pairs.specs.{Chunks.{all_pairs, AllKeys, AreChained, AreChunks, FallsTo, IsRun, later, run_at}, Searches.{below_from, both, find_above, find_below, find_first, find_second, from_below, keys_append, keys_both, keys_parts, keys_weaker, not_below, sorted_append}}
 
 module _ {K V : Type 0} (R : K → K → Ordering) (o : IsTotalOrder R) where
   -- the pairs from a run on are at or above the run's separator
@@ -111,3 +111,15 @@ module _ {K V : Type 0} (R : K → K → Ordering) (o : IsTotalOrder R) where
   falls_within q [] (suc i) f = absurd f
   falls_within q (m ∷ ms) zero f = omega arith
   falls_within q (m ∷ ms) (suc i) f = let h = falls_within q ms i f.1 in omega arith
+
+  -- where there are pairs, the last run has some
+  pub last_some : (c : List (K × V) × List (K × List (K × V))) → AreChunks R c → 0 < length (all_pairs c) → 0 < length (run_at c.0 c.1 (length c.1))
+  last_some c chunks some = at_last c.0 c.1 chunks.chained some
+    where
+      behind : (run : List (K × V)) (ms : List (K × List (K × V))) → AreChained R run ms → 0 < length run → 0 < length (run_at run ms (length ms))
+      behind run [] c s = s
+      behind run (m ∷ ms) c s = behind m.1 ms c.2 c.1.some
+
+      at_last : (run : List (K × V)) (ms : List (K × List (K × V))) → AreChained R run ms → 0 < length (run ++ later ms) → 0 < length (run_at run ms (length ms))
+      at_last run [] c s = subst (λ l. 0 < length l) (append-nil run) s
+      at_last run (m ∷ ms) c s = behind m.1 ms c.2 c.1.some

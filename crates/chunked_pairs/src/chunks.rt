@@ -1,5 +1,5 @@
 //! Runs of sorted pairs.
-ghost use Rattle.std.specs.{Prelude.{◌≡◌, ◌*◌, ◌<◌, ◌≤◌, ◌++◌, ◌∷◌, ◌==◌, [], List, length, None, Some, IsTrue, MatchOption, OnOk, OnErr, slice_index_or, take}, Option.{option_to_list}, FinMap.{find, is_sorted}};
+ghost use Rattle.std.specs.{Prelude.{◌≡◌, ◌*◌, ◌<◌, ◌≤◌, ◌++◌, ◌∷◌, ◌==◌, [], List, length, None, Some, IsTrue, MatchOption, OnOk, OnErr, slice_index_or, take}, Option.{option_to_list, IfNone}, FinMap.{find, is_sorted}};
 ghost use Rattle.chunked_pairs.specs.Chunks.{all_pairs, AllKeys, AreChunks, AreShort, FallsTo, given_back, later, most_runs, run_at, viewed, with_run, without_last};
 
 use crate::cursors::Pairs;
@@ -191,6 +191,7 @@ impl<K: Key, V: Drop> Chunks<K, V> {
     pub fn pop_last(&mut self) -> Option<(K, V)>
         requires chunks { AreChunks K.cmp self.old }
         ensures pairs { all_pairs self.old ≡ all_pairs self.new ++ option_to_list result }
+        ensures none { IfNone result (all_pairs self.old ≡ []) }
         ensures chunks { AreChunks K.cmp self.new }
     {
         let last = self.last_run();

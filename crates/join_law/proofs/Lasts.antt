@@ -1,7 +1,7 @@
 -- Joining the last of some pairs, over and over.
 use Rattle.std.proofs.Common.{◌++◌, ◌+◌, ◌<◌, ◌∷◌, ◌≡◌, ◌≤◌}
-use Rattle.join_law.proofs.Prelude.{[], ap, append-nil, ArePairsJoined, arith, Bool, false, IsLastJoined, IsLastStopped, IsMap, IsPartialJoin, IsTotalOrder, length, length-append, List, MapBelow, OnFalse, OnTrue, Ordering, refl, subst, suc, sym, ℕ, ◌∙◌}
-use Rattle.chunked_pairs.specs.{Chunks.{all_pairs, AllKeys, AreChained, AreChunks, FallsTo, given_back, IsRun, later, run_at, with_run}, ChunkLaws.{keys_fall, run_is}, EditLaws.{back_pairs, chunks_back, last_more, run_part, with_same}, Searches.{keys_append, keys_parts}}
+use Rattle.join_law.proofs.Prelude.{[], ap, ArePairsJoined, arith, Bool, false, IsLastJoined, IsLastStopped, IsMap, IsPartialJoin, IsTotalOrder, length, length-append, List, MapBelow, OnFalse, OnTrue, Ordering, refl, subst, suc, sym, ℕ, ◌∙◌}
+use Rattle.chunked_pairs.specs.{Chunks.{all_pairs, AllKeys, AreChunks, FallsTo, given_back, IsRun, run_at, with_run}, ChunkLaws.{keys_fall, run_is}, EditLaws.{back_pairs, chunks_back, last_more, run_part, with_same}, Searches.{keys_append, keys_parts}}
 use Rattle.join_law.proofs.Outcomes.{by_answer}
 use Rattle.join_law.proofs.Ends.{IsUnderWay, single_stopped, sorted_alike, stopped_is_join, stopped_is_map, under_way_more}
 
@@ -35,18 +35,6 @@ module _ {K V : Type 0} (R : K → K → Ordering) (o : IsTotalOrder R) where
         same_length : (xs : List (K × V)) (k : K) (v w : V) → length (xs ++ (k, v) ∷ []) ≡ length (xs ++ (k, w) ∷ [])
         same_length [] k v w = refl
         same_length (x ∷ xs) k v w = ap suc (same_length xs k v w)
-
-    -- where there are pairs, the last run has some
-    pub last_some : 0 < length (all_pairs c) → 0 < length (run_at c.0 c.1 (length c.1))
-    last_some some = at_last c.0 c.1 chunks.chained some
-      where
-        behind : (run : List (K × V)) (ms : List (K × List (K × V))) → AreChained R run ms → 0 < length run → 0 < length (run_at run ms (length ms))
-        behind run [] c s = s
-        behind run (m ∷ ms) c s = behind m.1 ms c.2 c.1.some
-
-        at_last : (run : List (K × V)) (ms : List (K × List (K × V))) → AreChained R run ms → 0 < length (run ++ later ms) → 0 < length (run_at run ms (length ms))
-        at_last run [] c s = subst (λ l. 0 < length l) (append-nil run) s
-        at_last run (m ∷ ms) c s = behind m.1 ms c.2 c.1.some
 
     -- what is given back after the last pair was joined, or joined in part
     pub given_chunks : (below : V → V → Type 0) (valid is_single : V → Type 0) (b : Bool) (first now left : List (K × V)) → OnTrue b (IsLastJoined R below first (run_at c.0 c.1 (length c.1)) now left) → OnFalse b (IsLastStopped R below valid is_single first (run_at c.0 c.1 (length c.1)) now left) → AreChunks R (given_back (with_run c.0 c.1 (length c.1) []).0 (with_run c.0 c.1 (length c.1) []).1 left)

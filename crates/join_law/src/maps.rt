@@ -6,7 +6,7 @@ ghost use Rattle.join_law.specs.{Maps.{IsHeld, IsMap, MapBelow}, Order.{IsJoin, 
 use crate::joins::{Join, Rest};
 use crate::merges::{join_chunk_copies, join_chunks};
 use crate::runs::join_key;
-use crate::walks::{copy_chunks, keys_of, same_pairs};
+use crate::walks::{copy_chunks, keys_of, same_chunks};
 use chunked_pairs::{Chunks, Pairs, Sought};
 use plain_values::Key;
 use std::alloc::{AllocError, Global};
@@ -186,6 +186,6 @@ impl<K: Key, V: Join> Join for JoinMap<K, V> {
     }
 
     fn same(&self, other: &Self) -> bool {
-        same_pairs(self.chunks.pairs(), other.chunks.pairs())
+        same_chunks(&self.chunks, &other.chunks)
     }
 }

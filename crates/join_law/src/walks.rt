@@ -3,7 +3,7 @@ ghost use Rattle.std.specs.Prelude.{◌≡◌, ◌↔◌, IsTrue, IfOk, map};
 ghost use Rattle.chunked_pairs.specs.Chunks.{all_pairs, AreChunks};
 
 use crate::joins::Join;
-use chunked_pairs::{Chunks, Pairs};
+use chunked_pairs::Chunks;
 use plain_values::Key;
 use std::alloc::{AllocError, Global};
 
@@ -34,19 +34,26 @@ fn copy_pairs<K: Key, V: Join>(
     Ok(copy)
 }
 
-// Returns whether two cursors have equal pairs left.
-pub fn same_pairs<K: Key, V: Join>(mut left: Pairs<'_, K, V>, mut right: Pairs<'_, K, V>) -> bool
-    ensures same { IsTrue result ↔ (left ≡ right) }
+// Returns whether all pairs are equal, however they stand in runs.
+pub fn same_chunks<K: Key, V: Join>(left: &Chunks<K, V>, right: &Chunks<K, V>) -> bool
+    requires left { AreChunks K.cmp left.now }
+    requires right { AreChunks K.cmp right.now }
+    ensures same { IsTrue result ↔ (all_pairs left.now ≡ all_pairs right.now) }
 {
-    while let Some(pair) = left.next() {
-        let Some(other) = right.next() else {
+    let mut pairs = left.pairs();
+    let mut others = right.pairs();
+    while let Some(pair) = pairs.next() {
+        let Some(other) = others.next() else {
             return false;
         };
         if !same_pair(pair, other) {
             return false;
         }
     }
-    right.next().is_none()
+    match others.next() {
+        Some(_) => false,
+        None => true,
+    }
 }
 
 // Returns whether two pairs are equal.

@@ -1,7 +1,7 @@
 use Rattle.std.proofs.Common.{◌<◌, ◌≡◌}
 use Rattle.join_law.proofs.Prelude.{[], ap, IsLastJoined, IsLastStopped, length, OnFalse, OnTrue, subst, sym, ◌∙◌}
-use Rattle.chunked_pairs.specs.Chunks.{all_pairs, AreChunks, given_back, run_at, with_run}
-use Rattle.join_law.proofs.{Lasts.{given_chunks, last_joined, last_some, last_stopped}, Outcomes.{on_false_weaker, on_true_weaker}}
+use Rattle.chunked_pairs.specs.{Chunks.{all_pairs, AreChunks, given_back, run_at, with_run}, ChunkLaws.{last_some}}
+use Rattle.join_law.proofs.{Lasts.{given_chunks, last_joined, last_stopped}, Outcomes.{on_false_weaker, on_true_weaker}}
 use Rattle.join_law.proofs.merges.join_last.Given.{Over}
 use Rattle.join_law.proofs.merges.join_last.Goals as goal
 
