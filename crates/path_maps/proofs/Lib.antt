@@ -1,12 +1,10 @@
 pub mod Prelude
-pub mod Searches
 pub mod LookUps
 pub mod Edits
 pub mod Sames
 pub mod LeftAfter
 pub mod Readings
 pub mod Listed
-pub mod FoundAfter
 pub mod Ascends
 pub mod Passing
 pub mod News

@@ -1,6 +1,6 @@
 -- What nested look-ups find.
-use Rattle.std.proofs.Common.{◌+◌, ◌↔◌, ◌∷◌, ◌≡◌, ◌≤◌}
-use Rattle.path_maps.proofs.Prelude.{[], all_held, AllHeld, AllKeys, ap, AreFolders, AreNames, AreRanks, AreScopes, AreWellFormed, arith, At, Bool, bytes_cmp, cond, Content, content_cmp, entries-flat, Entry, EntryMap, eq_by_cmp, false, filter, find, flat, folder-listed, FolderMap, FoldersBelow, found_well_formed, from_bool, get-flat, get-held, in_folder, is_in, is_none_or, is_none_or-within, is_some, IsLeast, IsPath, IsSome, IsTrue, IsUpTo, List, listed, look_up, look_up_place, NameMap, names_in, NamesBelow, nat_cmp, Never, never_least, None, Option, or_empty, PathMap, PathParts, PlaceParts, RankMap, ranks_of, refl, scope_cmp, scope_well_formed, ScopeMap, Some, some_keys, subst, sym, true, Versioned, written, written_at, ℕ, ◌∙◌}
+use Rattle.std.proofs.Common.{◌+◌, ◌↔◌, ◌∷◌, ◌≡◌, ◌≢◌, ◌≤◌}
+use Rattle.path_maps.proofs.Prelude.{[], all_held, AllHeld, AllKeys, and_parts, ap, AreFolders, AreNames, AreRanks, AreScopes, AreWellFormed, arith, At, below_all, Bool, bytes_cmp, cond, Content, content_cmp, entries-flat, Entry, EntryMap, eq_by_cmp, false, filter, find, flat, folder-listed, FolderMap, FoldersBelow, found_well_formed, from_bool, get-flat, get-held, in_folder, is_in, is_none_or, is_none_or-within, is_some, is_sorted, IsLeast, IsPath, IsSome, IsTrue, IsUpTo, List, listed, look_up, look_up_place, NameMap, names_in, NamesBelow, nat_cmp, Never, never_least, None, Option, or_empty, PathMap, PathParts, PlaceParts, RankMap, ranks_of, refl, scope_cmp, scope_well_formed, ScopeMap, Some, some_keys, subst, sym, true, Versioned, written, written_at, ℕ, ◌∙◌}
 use Rattle.path_maps.proofs.Listed.{paths_listed}
 use Rattle.std.specs.FinMap as finmap
 
@@ -144,3 +144,15 @@ module _ (m : RankMap) (rank : ℕ) (folder : List ℕ) where
 
   pub folder_paths : AreWellFormed m → AllKeys IsPath (in_folder rank folder (names_in m rank folder))
   folder_paths k = subst (AllKeys IsPath) (folder-listed rank folder m k.ranks) (some_keys (is_in rank folder) IsPath (listed m) (paths_listed m k.ranks k.paths))
+
+-- ---- the empty key
+
+above_unnamed : {V : Type 0} (b : ℕ) (bytes : List ℕ) (es : List (List ℕ × V)) → IsTrue (below_all bytes_cmp (b ∷ bytes) es) → find bytes_cmp [] es ≡ None
+above_unnamed b bytes [] h = refl
+above_unnamed b bytes (([], v) ∷ es) h = cc (h)
+above_unnamed b bytes ((c ∷ cs, v) ∷ es) h = above_unnamed b bytes es (and_parts _ _ h).1
+
+-- The empty key is at the first pair or nowhere.
+pub unnamed_nowhere : {V : Type 0} (first : List ℕ × V) (rest : List (List ℕ × V)) → IsTrue (is_sorted bytes_cmp (first ∷ rest)) → first.0 ≢ [] → find bytes_cmp [] (first ∷ rest) ≡ None
+unnamed_nowhere ([], v) rest s named = absurd (named refl)
+unnamed_nowhere (b ∷ bytes, v) rest s named = above_unnamed b bytes rest (and_parts _ _ s).0

@@ -1,7 +1,7 @@
 -- Paths by their parts, and the paths of a folder.
 -- Source: this project's own.
-use Rattle.std.{proofs.Common.{◌&&◌, ◌==◌, ◌≡◌}, specs.FinMap.{find}}
-use Rattle.path_maps.specs.{PathMaps.{bytes_cmp, NameMap, RankMap}, Prelude.{Bool, bytes_eq, eq_by_cmp, List, nat_cmp, or_empty, PathParts, PlaceParts, Scope, scope_cmp, slice_index_or, Some, ℕ}}
+use Rattle.std.{proofs.Common.{◌&&◌, ◌==◌}, specs.FinMap.{find}}
+use Rattle.path_maps.specs.{PathMaps.{bytes_cmp, NameMap, RankMap}, Prelude.{Bool, bytes_eq, eq_by_cmp, List, nat_cmp, or_empty, PathParts, PlaceParts, Scope, scope_cmp, ℕ}}
 
 -- The path of these parts.
 abbrev pub path_at : ℕ → List ℕ → List ℕ → PathParts
@@ -18,7 +18,3 @@ is_within scope rank folder place = eq_by_cmp scope_cmp scope place.scope && is_
 -- The names of a folder, by two look-ups.
 abbrev pub names_in : RankMap → ℕ → List ℕ → NameMap
 names_in m rank folder = or_empty (find bytes_cmp folder (or_empty (find nat_cmp rank m)))
-
--- The key is at this index.
-abbrev pub IsPlaceOf : {V : Type 0} → List ℕ → List (List ℕ × V) → ℕ → Type 0
-IsPlaceOf {V} key pairs at = (d : List ℕ × V) → ((slice_index_or pairs at d).0 ≡ key) × (find bytes_cmp key pairs ≡ Some (slice_index_or pairs at d).1)

@@ -1,7 +1,7 @@
 -- Maps of paths by scope, and the one map from places to entries that they represent.
 -- Source (maps of joins are joins): Shapiro, Preguica, Baquero, Zawirski 2011; the rest is this project's own.
-use Rattle.std.{proofs.Common.{◌≡◌}, specs.FinMap.{find}}
-use Rattle.path_maps.specs.Prelude.{Entry, EntryMap, IsMap, List, map, MapBelow, Option, or_empty, PathParts, PlaceParts, Scope, scope_cmp, slice_index_or, Some, ℕ}
+use Rattle.std.specs.FinMap.{find}
+use Rattle.path_maps.specs.Prelude.{Entry, EntryMap, IsMap, List, map, MapBelow, Option, or_empty, PathParts, PlaceParts, Scope, scope_cmp}
 use Rattle.path_maps.specs.{PathMaps.{AreRanks, listed, look_up, RankMap, RanksBelow}, Scopes.{within}, Spread.{spread}}
 use Rattle.std.specs.FinMap as finmap
 
@@ -20,10 +20,6 @@ AreScopes = IsMap scope_cmp RanksBelow AreRanks
 -- What a scope has.
 abbrev pub ranks_of : ScopeMap → Scope → RankMap
 ranks_of m scope = or_empty (find scope_cmp scope m)
-
--- What the scope has is at this index of the list.
-abbrev pub IsFoundAt : ScopeMap → Scope → ℕ → Type 0
-IsFoundAt m scope at = (d : Scope × RankMap) → find scope_cmp scope m ≡ Some (slice_index_or m at d).1
 
 -- What is written at a place, by a look-up of its scope and then three of its path.
 abbrev pub look_up_place : ScopeMap → PlaceParts → Option Entry

@@ -4,7 +4,7 @@ ghost use Rattle.path_maps.specs.PathMaps.{AreFolders};
 
 use edit_sums::Content;
 use join_law::{
-    AddAt, AddValue, Addition, Change, ChangeAt, Join, JoinMap, Overwrite, Rest, Versioned,
+    AddAt, AddValue, Addition, Change, ChangeAt, Join, JoinMap, Overwrite, Pairs, Rest, Versioned,
 };
 use plain_values::Bytes;
 use std::alloc::{AllocError, Global};
@@ -42,9 +42,17 @@ impl Debug for FolderMap {
 }
 
 impl FolderMap {
-    /// Borrows the folders with their names, sorted by folder. Allocates nothing.
-    pub fn pairs(&self) -> &[(Bytes, NameMap)]
-        ensures pairs { result.now ≡ self.now }
+    // The map by folder and name.
+    pub(crate) fn map(&self) -> &JoinMap<Bytes, NameMap>
+        ensures map { result.now ≡ self.now }
+    {
+        &self.folders
+    }
+
+    /// The folders with their names, in order. Allocates nothing.
+    #[inline(always)]
+    pub fn pairs(&self) -> Pairs<'_, Bytes, NameMap>
+        ensures pairs { result ≡ self.now }
         ensures map { AreFolders self.now }
     {
         self.folders.pairs()

@@ -58,7 +58,7 @@ impl<'a> Held<'a> {
         ensures held { option_map (λ entry. entry.1) result ≡ finmap.get self.now (path_at rank folder.now name.now) }
     {
         let (folder, names) = folder_at(self.ranks, rank, folder)?;
-        let (name, value) = pair_at(names.pairs(), name)?;
+        let (name, value) = pair_at(names, name)?;
         let entry = value.entry()?;
         Some(PathEntry::new(rank as usize, folder, name, entry))
     }

@@ -3,6 +3,7 @@ ghost use Rattle.std.specs.{Prelude.{◌≡◌, ◌∷◌, [], List}, List.{flat
 ghost use Rattle.path_maps.specs.Cursors.{IsReadable};
 
 use crate::cursors::Cursor;
+use join_law::Pairs;
 use std::marker::Model;
 
 /// A borrowed pair of a map.
@@ -20,22 +21,14 @@ impl<'a, K, V> Model for Pair<'a, K, V> {
     ghost view = { λ p. (p.key.now, p.value.now) };
 }
 
-/// A cursor over the pairs of a map.
-#[derive(Drop)]
-pub struct Pairs<'a, K, V> {
-    /// The pairs that are left.
-    pub left: &'a [(K, V)],
-}
-
-impl<'a, K, V> Cursor for Pairs<'a, K, V> {
+impl<'a, K: Ord, V> Cursor for Pairs<'a, K, V> {
     type Item = Pair<'a, K, V>;
 
-    ghost left = { λ p. p.left.now };
+    ghost left = { λ p. p };
 
     #[inline(always)]
     fn next(&mut self) -> Option<Pair<'a, K, V>> {
-        let ((key, value), rest) = self.left.split_first()?;
-        self.left = rest;
+        let (key, value) = self.next()?;
         Some(Pair { key, value })
     }
 }

@@ -22,7 +22,6 @@ mod held;
 mod laws;
 mod levels;
 mod look_ups;
-mod meets;
 mod nested;
 mod others;
 mod places;

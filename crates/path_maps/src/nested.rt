@@ -11,12 +11,12 @@ ghost use Rattle.path_maps.specs.{Folders.{path_at}, Kept.{HasWellFormedPaths}, 
 use crate::cursors::{Cursor, Nested};
 use crate::entries::PathEntry;
 use crate::folders::{FolderMap, NameMap};
-use crate::levels::{Level, Pair, Pairs, Reading};
+use crate::levels::{Level, Pair, Reading};
 use crate::others::OtherMap;
 use crate::places::Placed;
 use crate::stores::{RankMap, ScopeMap};
 use edit_sums::Content;
-use join_law::Versioned;
+use join_law::{Pairs, Versioned};
 use load_places::Scope;
 use plain_values::Bytes;
 use std::marker::Model;
@@ -106,7 +106,7 @@ impl<'a, N: OtherMap<Bytes>, F: OtherMap<Bytes, Held = N>, R: OtherMap<u8, Held 
         let others = self.others.meet(item.key);
         let rank = *item.key as usize;
         let left = item.value.pairs();
-        Level::new(Pairs { left }, InRank { rank, others })
+        Level::new(left, InRank { rank, others })
     }
 }
 
@@ -127,7 +127,7 @@ pub fn names_of<'a, N: OtherMap<Bytes>>(
         folder,
         others,
     };
-    Level::new(Pairs { left }, reading)
+    Level::new(left, reading)
 }
 
 /// Returns a cursor over the entries of nested maps with valid paths.
@@ -144,7 +144,7 @@ pub fn paths_of<'a, N: OtherMap<Bytes>, F: OtherMap<Bytes, Held = N>, R: OtherMa
         inner: None,
         outer: Nested {
             inner: None,
-            outer: Level::new(Pairs { left }, InRanks { others }),
+            outer: Level::new(left, InRanks { others }),
         },
     }
 }
@@ -236,6 +236,6 @@ pub fn places_of<
     let left = scopes.pairs();
     Nested {
         inner: None,
-        outer: Level::new(Pairs { left }, InScopes { others }),
+        outer: Level::new(left, InScopes { others }),
     }
 }

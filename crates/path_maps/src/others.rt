@@ -1,15 +1,14 @@
 //! What another store holds beside the maps that are read: by scope, rank, folder and name.
-ghost use Rattle.std.specs.{Prelude.{◌≡◌, IsTrue, List, Option, ℕ}, FinMap.{find, is_sorted}, Option.{option_copied}, Ordering.{nat_cmp}};
+ghost use Rattle.std.specs.{Prelude.{◌≡◌, List, Option, ℕ}, FinMap.{find}, Option.{option_copied}, Ordering.{nat_cmp}};
 ghost use Rattle.std.specs.declared.cmp.Ordering.TheVariants.{Less};
 ghost use Rattle.edit_sums.specs.Entries.{Entry};
 ghost use Rattle.join_law.specs.{Maps.{or_empty}, VersionOrder.{written_at}};
 ghost use Rattle.path_maps.specs.{PathMaps.{bytes_cmp, RankMap}, PlaceMaps.{ranks_of}};
 
 use crate::folders::{FolderMap, NameMap};
-use crate::meets::meet;
 use crate::stores::{RankMap, ScopeMap};
 use edit_sums::{Content, Entry};
-use join_law::{Join, JoinMap, Versioned};
+use join_law::{Join, JoinMap, Pairs, Versioned};
 use load_places::Scope;
 use plain_values::Bytes;
 use std::marker::Model;
@@ -53,15 +52,13 @@ impl<'a> Model for HeldEntry<'a> {
 /// The pairs of another map that are left, sorted by key.
 #[derive(Drop)]
 pub struct Others<'a, V> {
-    left: &'a [(Bytes, V)],
+    left: Pairs<'a, Bytes, V>,
 }
 
 impl<'a, V> Model for Others<'a, V> {
     ghost Value = { List (List ℕ × V) };
 
-    ghost view = { λ o. o.left.now };
-
-    ghost invariant = { λ o. IsTrue (is_sorted bytes_cmp o.left.now) };
+    ghost view = { λ o. o.left };
 }
 
 impl<'a, V: Join> Others<'a, V> {
@@ -70,7 +67,9 @@ impl<'a, V: Join> Others<'a, V> {
         ensures pairs { result ≡ or_empty (option_copied map.entry) }
     {
         match map {
-            None => Others { left: &[] },
+            None => Others {
+                left: Pairs::none(),
+            },
             Some(map) => Others { left: map.pairs() },
         }
     }
@@ -82,7 +81,9 @@ impl<'a> Others<'a, NameMap> {
         ensures pairs { result ≡ or_empty (option_copied folders.entry) }
     {
         match folders {
-            None => Others { left: &[] },
+            None => Others {
+                left: Pairs::none(),
+            },
             Some(folders) => Others {
                 left: folders.pairs(),
             },
@@ -97,9 +98,7 @@ impl<'a> OtherMap<Bytes> for Others<'a, Versioned<Content>> {
 
     #[inline(always)]
     fn meet(&mut self, key: &Bytes) -> HeldEntry<'a> {
-        let (held, left) = meet(self.left, key);
-        self.left = left;
-        let entry = match held {
+        let entry = match self.left.meet(key) {
             None => None,
             Some(value) => value.entry(),
         };
@@ -114,9 +113,7 @@ impl<'a> OtherMap<Bytes> for Others<'a, NameMap> {
 
     #[inline(always)]
     fn meet(&mut self, key: &Bytes) -> Others<'a, Versioned<Content>> {
-        let (held, left) = meet(self.left, key);
-        self.left = left;
-        Others::of(held)
+        Others::of(self.left.meet(key))
     }
 }
 

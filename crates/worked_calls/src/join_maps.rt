@@ -57,7 +57,8 @@ pub fn map(words: &mut Words) -> Result<Numbers, LineFault> {
 
 // Writes the pairs of a map, each key after those of the maps that contain it.
 fn append_pairs(out: &mut Answer, outer: &Answer, map: &Numbers) {
-    for (key, value) in map.pairs() {
+    let mut pairs = map.pairs();
+    while let Some((key, value)) = pairs.next() {
         out.part(b",");
         out.append(outer);
         out.print(key);
@@ -166,7 +167,8 @@ fn tree(words: &mut Words) -> Result<Tree, LineFault> {
 
 // Writes the maps at a key.
 fn append_maps(out: &mut Answer, outer: u8, maps: &JoinMap<u8, Numbers>) {
-    for (middle, map) in maps.pairs() {
+    let mut pairs = maps.pairs();
+    while let Some((middle, map)) = pairs.next() {
         let mut keys = Answer::new(out.alloc);
         keys.write_made(format!(in out.alloc; "{outer}/{middle}/"));
         append_pairs(out, &keys, map);
@@ -175,7 +177,8 @@ fn append_maps(out: &mut Answer, outer: u8, maps: &JoinMap<u8, Numbers>) {
 
 // Writes a map of maps of maps, and how many keys its outermost map has.
 fn append_tree(out: &mut Answer, tree: &Tree) {
-    for (outer, maps) in tree.pairs() {
+    let mut pairs = tree.pairs();
+    while let Some((outer, maps)) = pairs.next() {
         append_maps(out, *outer, maps);
     }
     out.or(b"none");

@@ -1,5 +1,4 @@
-use Rattle.std.proofs.Common.{◌≡◌}
-use Rattle.path_maps.proofs.Prelude.{ap, bytes_cmp, find, IsPath, List, NameMap, None, option_copied, option_map, or_empty, path_at, Some, subst, sym, ℕ, ◌∙◌}
+use Rattle.path_maps.proofs.Prelude.{ap, IsPath, List, None, option_copied, option_map, or_empty, path_at, Some, subst, sym, ℕ, ◌∙◌}
 use Rattle.path_maps.proofs.LookUps.{at_name_of, no_folder, no_name, viewed_is, well_formed_there}
 use Rattle.path_maps.proofs.held.Held.entry_at.Goals as goal
 
@@ -13,27 +12,24 @@ pub returns-in_err-name-clause-held : goal.returns-in_err-name-clause-held
 returns-in_err-name-clause-held c =
     let q = path_at c.args.rank c.args.folder.now c.args.name.now in
     let names = c.in_ok-folder.names.now in
-    let none = subst (λ (ns : NameMap). find bytes_cmp c.args.name.now ns ≡ None) c.pairs.ensures.pairs c.in_err-name.ensures.found in
     ap (option_map (λ entry. entry.1)) c.from_residual-in_err-name.ensures
-    ∙ viewed_is (or_empty (option_copied c.self.inside.ranks)) c.self.invariant.ranks _ c.self.view_is q None (no_name (or_empty (option_copied c.self.inside.ranks)) q names c.in_ok-folder.ensures.found.1 none)
+    ∙ viewed_is (or_empty (option_copied c.self.inside.ranks)) c.self.invariant.ranks _ c.self.view_is q None (no_name (or_empty (option_copied c.self.inside.ranks)) q names c.in_ok-folder.ensures.found.1 c.in_err-name.ensures.found)
 
 pub returns-in_err-entry-clause-held : goal.returns-in_err-entry-clause-held
 returns-in_err-entry-clause-held c =
     let q = path_at c.args.rank c.args.folder.now c.args.name.now in
     let names = c.in_ok-folder.names.now in
     let value = c.in_ok-name.field-0.now.1 in
-    let at_name = subst (λ (ns : NameMap). find bytes_cmp c.args.name.now ns ≡ Some value) c.pairs.ensures.pairs c.in_ok-name.ensures.found.1 in
     ap (option_map (λ entry. entry.1)) c.from_residual-in_err-entry.ensures
     ∙ c.in_err-entry.ensures.entry
-    ∙ viewed_is (or_empty (option_copied c.self.inside.ranks)) c.self.invariant.ranks _ c.self.view_is q _ (at_name_of (or_empty (option_copied c.self.inside.ranks)) q names c.in_ok-folder.ensures.found.1 value at_name)
+    ∙ viewed_is (or_empty (option_copied c.self.inside.ranks)) c.self.invariant.ranks _ c.self.view_is q _ (at_name_of (or_empty (option_copied c.self.inside.ranks)) q names c.in_ok-folder.ensures.found.1 value c.in_ok-name.ensures.found.1)
 
 pub new-requires : goal.new-requires
 new-requires c =
     let q = path_at c.args.rank c.args.folder.now c.args.name.now in
     let names = c.in_ok-folder.names.now in
     let value = c.in_ok-name.field-0.now.1 in
-    let at_name = subst (λ (ns : NameMap). find bytes_cmp c.args.name.now ns ≡ Some value) c.pairs.ensures.pairs c.in_ok-name.ensures.found.1 in
-    let there = at_name_of (or_empty (option_copied c.self.inside.ranks)) q names c.in_ok-folder.ensures.found.1 value at_name ∙ sym c.in_ok-entry.ensures.entry in
+    let there = at_name_of (or_empty (option_copied c.self.inside.ranks)) q names c.in_ok-folder.ensures.found.1 value c.in_ok-name.ensures.found.1 ∙ sym c.in_ok-entry.ensures.entry in
     let well_formed = well_formed_there (or_empty (option_copied c.self.inside.ranks)) c.self.invariant q c.in_ok-entry.entry.now there in
     record { path = subst (λ (f : List ℕ). IsPath (path_at c.args.rank f c.in_ok-name.field-0.now.0)) (sym c.in_ok-folder.ensures.found.0) (subst (λ (n : List ℕ). IsPath (path_at c.args.rank c.args.folder.now n)) (sym c.in_ok-name.ensures.found.0) well_formed) }
 
@@ -42,10 +38,9 @@ returns c =
     let q = path_at c.args.rank c.args.folder.now c.args.name.now in
     let names = c.in_ok-folder.names.now in
     let value = c.in_ok-name.field-0.now.1 in
-    let at_name = subst (λ (ns : NameMap). find bytes_cmp c.args.name.now ns ≡ Some value) c.pairs.ensures.pairs c.in_ok-name.ensures.found.1 in
     record {
       path = ap (λ p. p.0) c.new.ensures.placed ∙ ap (λ (f : List ℕ). path_at c.args.rank f c.in_ok-name.field-0.now.0) c.in_ok-folder.ensures.found.0 ∙ ap (path_at c.args.rank c.args.folder.now) c.in_ok-name.ensures.found.0;
       held =
           ap (λ p. Some p.1) c.new.ensures.placed ∙ c.in_ok-entry.ensures.entry
-          ∙ viewed_is (or_empty (option_copied c.self.inside.ranks)) c.self.invariant.ranks _ c.self.view_is q _ (at_name_of (or_empty (option_copied c.self.inside.ranks)) q names c.in_ok-folder.ensures.found.1 value at_name);
+          ∙ viewed_is (or_empty (option_copied c.self.inside.ranks)) c.self.invariant.ranks _ c.self.view_is q _ (at_name_of (or_empty (option_copied c.self.inside.ranks)) q names c.in_ok-folder.ensures.found.1 value c.in_ok-name.ensures.found.1);
     }
