@@ -1,6 +1,6 @@
 -- Joining the last of some pairs, over and over.
-use Rattle.std.proofs.Common.{◌++◌, ◌+◌, ◌<◌, ◌∷◌, ◌≡◌, ◌≤◌}
-use Rattle.join_law.proofs.Prelude.{[], ap, ArePairsJoined, arith, Bool, false, IsLastJoined, IsLastStopped, IsMap, IsPartialJoin, IsTotalOrder, length, length-append, List, MapBelow, OnFalse, OnTrue, Ordering, refl, subst, suc, sym, ℕ, ◌∙◌}
+use Rattle.std.proofs.Common.{◌++◌, ◌<◌, ◌∷◌, ◌≡◌}
+use Rattle.join_law.proofs.Prelude.{[], ap, ArePairsJoined, arith, Bool, false, IsLastJoined, IsLastStopped, IsMap, IsPartialJoin, IsTotalOrder, length, length-append, List, MapBelow, OnFalse, OnTrue, Ordering, refl, subst, suc, sym, ◌∙◌}
 use Rattle.chunked_pairs.specs.{Chunks.{all_pairs, AllKeys, AreChunks, FallsTo, given_back, IsRun, run_at, with_run}, ChunkLaws.{keys_fall, run_is}, EditLaws.{back_pairs, chunks_back, last_more, run_part, with_same}, Searches.{keys_append, keys_parts}}
 use Rattle.join_law.proofs.Outcomes.{by_answer}
 use Rattle.join_law.proofs.Ends.{IsUnderWay, single_stopped, sorted_alike, stopped_is_join, stopped_is_map, under_way_more}

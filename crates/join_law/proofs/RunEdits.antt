@@ -1,6 +1,6 @@
 -- The effect of an edit of one run on all pairs in chunks.
 use Rattle.std.proofs.Common.{◌+◌, ◌++◌, ◌<◌, ◌↔◌, ◌∷◌, ◌≡◌, ◌≢◌, ◌≤◌}
-use Rattle.join_law.proofs.Prelude.{[], AllHeld, and_parts, ap, arith, below_all, by_order, cond, drop, Equal, false, find, find_tied, Greater, is_eq, is_equal, is_less, is_sorted, IsBetween, IsHeld, IsJoin, IsMap, IsPartialJoin, IsTotalOrder, IsTrue, length, Less, List, map_chain, map_itself, MapBelow, None, Option, OptionBelow, Ordering, put, refl, Some, subst, suc, sym, tied_itself, true, turned, zero, ℕ, ◌∙◌}
+use Rattle.join_law.proofs.Prelude.{[], AllHeld, and_parts, ap, arith, below_all, by_order, cond, drop, Equal, false, find, Greater, is_eq, is_equal, is_less, is_sorted, IsBetween, IsJoin, IsMap, IsPartialJoin, IsTotalOrder, IsTrue, length, Less, List, map_chain, map_itself, MapBelow, None, Option, OptionBelow, Ordering, put, refl, Some, subst, suc, sym, tied_itself, true, turned, zero, ℕ, ◌∙◌}
 use Rattle.join_law.specs.{Maps.{joined_value, map_union}, UnionLaws.{find-union, option_union, union_joins}}
 use Rattle.chunked_pairs.specs.{Chunks.{all_pairs, AllKeys, AreChained, AreChunks, FallsTo, later, run_at, with_run}, ChunkLaws.{keys_fall, sorted_all}, EditLaws.{chunks_with, length_with, run_with}, Searches.{keys_weaker}}
 use Rattle.sorted_pairs.specs.PlaceLaws.{find_before}
@@ -15,8 +15,7 @@ module _ {K V : Type 0} (R : K → K → Ordering) (o : IsTotalOrder R) (below :
   -- a map in two parts is below what both are below
   pub below_parts : (xs ys z : List (K × V)) → IsTrue (is_sorted R (xs ++ ys)) → MapBelow R below (xs ++ ys) z ↔ (MapBelow R below xs z × MapBelow R below ys z)
   below_parts xs ys z s =
-      let second = subst (λ l. MapBelow R below l (xs ++ ys)) (drop_length xs ys) (drop_below R o below itself chain (xs ++ ys) (length xs) s) in
-      (
+      let second = subst (λ l. MapBelow R below l (xs ++ ys)) (drop_length xs ys) (drop_below R o below itself chain (xs ++ ys) (length xs) s) in (
         λ h. (
           map_chain below itself chain R xs (xs ++ ys) z (record { at = λ q. prefix_at R o below itself chain xs ys q }) h,
           map_chain below itself chain R ys (xs ++ ys) z second h,
@@ -140,7 +139,6 @@ module _ {K V : Type 0} (R : K → K → Ordering) (o : IsTotalOrder R) (valid :
   -- what both maps' keys have, the keys of a map up to their join have
   pub keys_stay : (P : K → Type 0) → ((x y : K) → R x y ≡ Equal → P y → P x) → (es fs now : List (K × V)) → IsMap R below valid now → MapBelow R below now (map_union R join es fs) → AllKeys P es → AllKeys P fs → AllKeys P now
   keys_stay P alike es fs now m l a b = keys_weaker (λ q n. union_has P alike es fs a b q n) now (keys_found now (map_union R join es fs) m l)
-
 
 below_keys : {K V : Type 0} (R : K → K → Ordering) (x : K) (ys : List (K × V)) → IsTrue (below_all R x ys) → AllKeys (λ q. R x q ≡ Less) ys
 below_keys R x [] h = tt

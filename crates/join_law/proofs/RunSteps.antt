@@ -1,6 +1,6 @@
 -- Steps by which a run is taken out, edited, and put back.
-use Rattle.std.proofs.Common.{◌+◌, ◌++◌, ◌<◌, ◌∷◌, ◌≡◌, ◌≢◌, ◌≤◌, ◌⊎◌}
-use Rattle.join_law.proofs.Prelude.{[], AllHeld, AreMapped, ap, arith, cond, find, find_tied, from_T, inl, inr, is_eq, is_sorted, is_sorted-put, IsAt, IsBetween, IsJoin, IsMap, IsPartialJoin, IsRoomFor, IsTotalOrder, IsTrue, length, List, map_chain, map_itself, MapBelow, None, Option, OptionBelow, Ordering, refl, Some, subst, sym, to_T, zero, suc, ℕ, ◌∙◌}
+use Rattle.std.proofs.Common.{◌++◌, ◌<◌, ◌∷◌, ◌≡◌, ◌≢◌, ◌≤◌}
+use Rattle.join_law.proofs.Prelude.{[], AllHeld, AreMapped, ap, arith, cond, find, find_tied, from_T, inl, inr, is_eq, is_sorted, is_sorted-put, IsAt, IsBetween, IsJoin, IsMap, IsPartialJoin, IsRoomFor, IsTotalOrder, IsTrue, length, List, map_itself, MapBelow, None, Option, OptionBelow, Ordering, refl, Some, subst, sym, to_T, zero, suc, ℕ, ◌∙◌}
 use Rattle.join_law.specs.{Maps.{joined_value, map_union}}
 use Rattle.chunked_pairs.specs.{Chunks.{all_pairs, AllKeys, AreChained, AreChunks, FallsTo, IsRun, later, run_at, with_run}, ChunkLaws.{find_falls, run_is}, EditLaws.{with_same, with_with}}
 use Rattle.join_law.proofs.RunEdits.{added_length, alike_falls, all_found, edited, found_has, keys_stay, no_more, run_between, run_join, run_partial, up_to_union}

@@ -1,6 +1,6 @@
 -- A walk that joins copies of pairs, some at a time, in order.
 use Rattle.std.proofs.Common.{◌==◌, ◌++◌, ◌+◌, ◌-◌, ◌<◌, ◌∷◌, ◌≡◌, ◌≢◌, ◌≤◌}
-use Rattle.join_law.proofs.Prelude.{[], AllHeld, and_parts, ap, append-nil, append_assoc, AreCopiesJoined, arith, below_all, Bool, drop, eq-eqb, eqb-true, false, find, get_or, inl, inr, is_sorted, IsBetween, IsJoin, IsMap, IsRoomFor, IsSinglePair, IsTotalOrder, IsTrue, length, length-take, List, map_chain, map_itself, MapBelow, None, Ordering, refl, subst, suc, sym, take, take-append-drop, true, zero, ℕ, ◌∙◌}
+use Rattle.join_law.proofs.Prelude.{[], AllHeld, and_parts, ap, append-nil, append_assoc, arith, below_all, Bool, drop, eq-eqb, eqb-true, false, find, get_or, inl, inr, is_sorted, IsBetween, IsJoin, IsMap, IsRoomFor, IsSinglePair, IsTotalOrder, IsTrue, length, length-take, List, map_chain, map_itself, MapBelow, None, Ordering, refl, subst, suc, sym, take, take-append-drop, true, zero, ℕ, ◌∙◌}
 use Rattle.chunked_pairs.specs.{Chunks.{AllKeys}, Searches.{both}}
 use Rattle.join_law.proofs.RunEdits.{below_parts}
 

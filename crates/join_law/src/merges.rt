@@ -131,7 +131,11 @@ fn room_in<K, V>(run: &[(K, V)]) -> usize
     ensures room { length run.now < 128 → length run.now + result ≤ 128 }
     ensures full { 128 ≤ length run.now → result ≤ 1 }
 {
-    if run.len() < MOST { MOST - run.len() } else { 1 }
+    if run.len() < MOST {
+        MOST - run.len()
+    } else {
+        1
+    }
 }
 
 // Joins copies of sorted pairs, one run at a time.

@@ -21,10 +21,7 @@ pub fn copy_chunks<K: Key, V: Join>(chunks: &Chunks<K, V>) -> Result<Chunks<K, V
 }
 
 // Returns a copy of the pairs.
-fn copy_pairs<K: Key, V: Join>(
-    alloc: Global,
-    pairs: &[(K, V)],
-) -> Result<Vec<(K, V)>, AllocError>
+fn copy_pairs<K: Key, V: Join>(alloc: Global, pairs: &[(K, V)]) -> Result<Vec<(K, V)>, AllocError>
     ensures copy { IfOk result (λ copy. copy.items ≡ pairs.now) }
 {
     let mut copy = Vec::with_capacity(alloc, pairs.len())?;

@@ -1,5 +1,5 @@
 use Rattle.std.proofs.Common.{◌∷◌, ◌≡◌, ◌≢◌}
-use Rattle.join_law.proofs.Prelude.{[], AreMapped, Bool, find, inr, is_some_and, IsJoin, MapBelow, None, Option, Some, subst, sym, true, ◌∙◌}
+use Rattle.join_law.proofs.Prelude.{[], AreMapped, Bool, inr, is_some_and, IsJoin, MapBelow, None, Option, Some, subst, sym, true, ◌∙◌}
 use Rattle.chunked_pairs.specs.{Chunks.{run_at}, EditLaws.{length_with}}
 use Rattle.join_law.proofs.{Outcomes.{by_made, on_false_weaker, on_true_made}, RunSteps.{edit_joined, edit_mapped, find_in_run, IsRunEdit, join_between, put_as_it_was, put_back, put_same, run_is_map}}
 use Rattle.join_law.proofs.changes.change_at_key.Given.{Over}
@@ -50,6 +50,6 @@ returns-clause-map g c =
     by_made c.change_pair-is_made.result
     (λ made joined. edit_mapped g.K.Ord.cmp g.met.K.Ord.total g.C.Value.Join.is_valid g.C.Value.Join.below g.met.C.Value.Join.reflexive g.met.C.Value.Join.transitive g.C.Value.Join.join g.met.C.Value.Join.joins _ _ _ _ _ (edit g c made joined))
     (λ made same.
-        let put = put_back c.args.chunks.now c.take-run.new.self c.put.new.self c.run_of-at.result c.change_pair-is_made.new.pairs.items c.take-run.ensures.left c.put.ensures.put in
-        subst (AreMapped g.K.Ord.cmp g.C.Value.Join.below g.C.Value.Join.is_valid) (sym (put ∙ put_as_it_was c.args.chunks.now c.run_of-at.result _ same)) c.requires.map)
+    let put = put_back c.args.chunks.now c.take-run.new.self c.put.new.self c.run_of-at.result c.change_pair-is_made.new.pairs.items c.take-run.ensures.left c.put.ensures.put in
+    subst (AreMapped g.K.Ord.cmp g.C.Value.Join.below g.C.Value.Join.is_valid) (sym (put ∙ put_as_it_was c.args.chunks.now c.run_of-at.result _ same)) c.requires.map)
     (rw c.take-run.ensures.run at c.change_pair-is_made.ensures.joined) (rw c.take-run.ensures.run at c.change_pair-is_made.ensures.same)

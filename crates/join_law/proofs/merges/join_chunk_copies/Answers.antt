@@ -1,5 +1,4 @@
-use Rattle.std.proofs.Common.{◌++◌}
-use Rattle.join_law.proofs.Prelude.{[], ap, arith, IsMap, length, length-append, subst, sym}
+use Rattle.join_law.proofs.Prelude.{ap, arith, IsMap, length, length-append, subst, sym}
 use Rattle.chunked_pairs.specs.Chunks.{all_pairs}
 use Rattle.join_law.proofs.{Outcomes.{not_ok, on_err}, Slices.{front_between, front_is_map, front_known, front_single, IsPassed, left_is_map, left_known, passed_all, passed_between, passed_more, passed_none, passed_single}}
 use Rattle.join_law.proofs.merges.join_chunk_copies.Goals as goal

@@ -1,5 +1,5 @@
 use Rattle.join_law.proofs.Prelude.{subst}
-use Rattle.join_law.proofs.{Ends.{IsUnderWay, under_way_done, under_way_first}, Lasts.{joined_in_part, last_smaller, more_joined}, Slices.{none_left, some_left}}
+use Rattle.join_law.proofs.{Ends.{IsUnderWay, under_way_done, under_way_first}, Lasts.{joined_in_part, last_smaller, more_joined}, Slices.{none_left}}
 use Rattle.join_law.proofs.merges.join_chunks.Goals as goal
 
 pub loop-chunks-init : goal.loop-chunks-init

@@ -1,5 +1,5 @@
 use Rattle.std.proofs.Common.{◌++◌, ◌<◌}
-use Rattle.join_law.proofs.Prelude.{[], arith, length, length-drop, subst, sym, take, take-append-drop, ◌∙◌}
+use Rattle.join_law.proofs.Prelude.{arith, length, length-drop, subst, sym, take, take-append-drop, ◌∙◌}
 use Rattle.join_law.proofs.{CopyWalks.{take_rest}, Outcomes.{not_ok, on_err}, Slices.{left_is_map, left_known, none_left, passed_all, passed_between, passed_more, passed_none, passed_single, some_left, some_taken, IsPassed}}
 use Rattle.join_law.proofs.merges.join_slice.Goals as goal
 
@@ -35,10 +35,9 @@ pub loop-left-preserved : goal.loop-left-preserved
 loop-left-preserved g c =
     let left = c.loop-left.left.now in
     let count = c.in_ok-count.count in
-    let rest = take_rest left count c.in_ok-count.ensures.within in
-    (
+    let rest = take_rest left count c.in_ok-count.ensures.within in (
       passed_more g.K.Ord.cmp g.met.K.Ord.total g.V.Join.is_valid g.V.Join.below g.met.V.Join.reflexive g.met.V.Join.transitive _ _ _ _ c.loop-left.invariant.0 c.requires.pairs_map (take count left) _ _
-      (sym (take-append-drop count left) ∙ (λ i. take count left ++ sym rest i)) (some_taken left count c.in_ok-count.ensures.some c.in_ok-count.ensures.within) c.in_ok-count.ensures.joined,
+          (sym (take-append-drop count left) ∙ (λ i. take count left ++ sym rest i)) (some_taken left count c.in_ok-count.ensures.some c.in_ok-count.ensures.within) c.in_ok-count.ensures.joined,
       c.in_ok-count.ensures.map,
     )
 

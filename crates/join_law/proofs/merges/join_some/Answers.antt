@@ -1,5 +1,4 @@
-use Rattle.join_law.proofs.Prelude.{arith, subst, sym}
-use Rattle.join_law.specs.{Maps.{MapBelow}, Order.{IsBetween}}
+use Rattle.join_law.proofs.Prelude.{arith}
 use Rattle.join_law.proofs.{Outcomes.{on_err}, RunSteps.{is_run}, Slices.{fewer_keys, room_for_some, taken_below, taken_between, taken_is_map}}
 use Rattle.join_law.proofs.merges.join_some.Goals as goal
 

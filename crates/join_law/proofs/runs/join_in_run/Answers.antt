@@ -1,6 +1,6 @@
-use Rattle.std.proofs.Common.{◌∷◌, ◌≡◌}
-use Rattle.join_law.proofs.Prelude.{[], subst, sym}
-use Rattle.chunked_pairs.specs.{Chunks.{run_at}, EditLaws.{length_with}}
+use Rattle.std.proofs.Common.{◌∷◌}
+use Rattle.join_law.proofs.Prelude.{[]}
+use Rattle.chunked_pairs.specs.{EditLaws.{length_with}}
 use Rattle.join_law.proofs.{Outcomes.{by_fault, if_err_weaker, on_ok_weaker}, RunSteps.{edit_joined, edit_mapped, edit_partly, find_in_run, IsRunEdit, join_between, partly_between, put_back, put_same, room_for_key, run_is_map}}
 use Rattle.join_law.proofs.runs.join_in_run.Given.{Over}
 use Rattle.join_law.proofs.runs.join_in_run.Goals as goal

@@ -1,4 +1,4 @@
-use Rattle.join_law.proofs.Prelude.{ap, subst, sym, zero, ◌∙◌}
+use Rattle.join_law.proofs.Prelude.{zero, ◌∙◌}
 use Rattle.chunked_pairs.specs.Chunks.{all_pairs}
 use Rattle.join_law.proofs.{MapEdits.{refused_is_join}, Outcomes.{if_err_weaker}}
 use Rattle.join_law.proofs.runs.join_key.Goals as goal

@@ -1,5 +1,5 @@
 use Rattle.std.proofs.Common.{◌+◌, ◌++◌, ◌<◌, ◌∷◌, ◌≡◌}
-use Rattle.join_law.proofs.Prelude.{[], ap, arith, get_or, length, List, refl, suc, sym, take, take_more, zero, ℕ, ◌∙◌}
+use Rattle.join_law.proofs.Prelude.{[], ap, arith, get_or, length, List, refl, suc, sym, take_more, zero, ℕ, ◌∙◌}
 use Rattle.chunked_pairs.specs.Chunks.{run_at}
 use Rattle.join_law.proofs.walks.copy_chunks.Goals as goal
 

@@ -26,8 +26,7 @@ loop-pair-smaller g c = omega (arith, ap length c.in-Some.ensures.first)
 
 pub loop-pair-preserved : goal.loop-pair-preserved
 loop-pair-preserved g c =
-    let head : c.in-Some.pair.now ≡ c.in-Some-next.other.now = c.if-not-same_pair.ensures.same.0 refl in
-    (
+    let head : c.in-Some.pair.now ≡ c.in-Some-next.other.now = c.if-not-same_pair.ensures.same.0 refl in (
       λ e. c.loop-pair.invariant.0 (c.in-Some.ensures.first ∙ (λ i. head i ∷ e i) ∙ sym c.in-Some-next.ensures.first),
       λ e. let t = sym c.in-Some.ensures.first ∙ c.loop-pair.invariant.1 e ∙ c.in-Some-next.ensures.first in cc (t),
     )
