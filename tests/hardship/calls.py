@@ -34,7 +34,7 @@ def lies_between(line, answer, between):
     if call in (b"put", b"remove"):
         return entries(between, b" ") == entries(rest.partition(b" ")[2], b" ")
     if call == b"at":
-        return between == rest.split(b" ")[0]
+        return entries(between, b",") == entries(rest.split(b" ")[0], b",")
     if call == b"join":
         return is_amid(rest.split(b" ")[0], between, answer, b",")
     if call in (b"exchange", b"sweep"):
@@ -67,14 +67,20 @@ def entries(text, parted):
     """The entries of a map or a store in words, by key or by path."""
     if text in (b"", b"none", b"nothing"):
         return {}
-    return dict(entry_of(word, parted) for word in text.split(parted))
+    return dict(entry for word in text.split(parted) for entry in entries_of(word, parted))
 
 
-def entry_of(word, parted):
-    """The key and the value of an entry in words."""
-    if parted == b",":
-        key, value = word.split(b":", 1)
-        return key, value
+def entries_of(word, parted):
+    """The key and the value of an entry in words; each key, where there is a range."""
+    if parted != b",":
+        return [entry_of(word)]
+    keys, value = word.split(b":", 1)
+    first, dash, last = keys.partition(b"-")
+    return [(b"%d" % key, value) for key in range(int(first), int(last if dash else first) + 1)]
+
+
+def entry_of(word):
+    """The path and the value of an entry in words."""
     version, placed = word.split(b":", 1)
     places = [place for place in (placed.find(b"="), placed.find(b">")) if place >= 0]
     end = min(places, default=len(placed))

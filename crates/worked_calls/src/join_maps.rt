@@ -1,7 +1,8 @@
 //! Calls on join maps: maps from numbers to versioned numbers, and maps of maps of such maps. Numbers are below 256.
 //!
-//! A map is written as its pairs, `KEY:VERSION=NUMBER`, separated by commas; `none` has no pair. In a map of maps of
-//! maps a key is three numbers, separated by slashes.
+//! A map is written as its pairs, `KEY:VERSION=NUMBER`, separated by commas, and read in their order; `none` has no pair,
+//! and `FIRST-LAST:VERSION=NUMBER` is read as a pair for each of these keys. In a map of maps of maps a key is three
+//! numbers, separated by slashes.
 use crate::joins::{append_value, joined, versioned};
 use join_law::{AddAt, AddValue, Addition, Join, JoinMap, Versioned};
 use worked_lines::{Answer, LineFault, Words, byte_of, cut_at, match_word, parts_of};
@@ -39,11 +40,27 @@ fn returned(
     )
 }
 
-// Joins the pair that a word writes to a map.
+// Joins the pair, or the pairs of a range of keys, that a word writes to a map.
 fn join_pair(map: &mut Numbers, pair: &[u8]) -> Result<(), LineFault> {
-    let (key, value) = cut_at(pair, b':').ok_or(LineFault::Words)?;
-    map.join_at(byte_of(key)?, versioned(value)?)?;
+    let (keys, value) = cut_at(pair, b':').ok_or(LineFault::Words)?;
+    match cut_at(keys, b'-') {
+        Some((first, last)) => join_keys(map, byte_of(first)?, byte_of(last)?, value),
+        None => join_key(map, byte_of(keys)?, value),
+    }
+}
+
+// Joins the value that a word writes to a map at a key.
+fn join_key(map: &mut Numbers, key: u8, value: &[u8]) -> Result<(), LineFault> {
+    map.join_at(key, versioned(value)?)?;
     Ok(())
+}
+
+// Joins the value that a word writes to a map at each key of a range.
+fn join_keys(map: &mut Numbers, first: u8, last: u8, value: &[u8]) -> Result<(), LineFault> {
+    for key in first..last {
+        join_key(map, key, value)?;
+    }
+    join_key(map, last, value)
 }
 
 /// Returns the next word as a map.
