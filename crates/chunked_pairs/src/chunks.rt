@@ -137,6 +137,9 @@ impl<K: Key, V: Drop> Chunks<K, V> {
         ensures falls { FallsTo K.cmp (S.key sought.now) self.now.1 result }
         ensures within { result ≤ length self.now.1 }
     {
+        if self.more.is_empty() {
+            return 0;
+        }
         run_among(&self.more, sought)
     }
 

@@ -1,13 +1,10 @@
 //! Inserting a pair into a run.
 ghost use Rattle.std.specs.{Prelude.{◌≡◌, ◌≤◌, vec_len, OnOk, OnErr, IfErr}, List.{insert}};
 
-use chunked_pairs::HALF;
+use chunked_pairs::{HALF, MOST};
 use std::alloc::AllocFailed;
 
-// How many places a long run grows by, so that few of them stay empty.
-const STEP: usize = 16;
-
-// Inserts a pair. If memory runs out, nothing is inserted.
+// Inserts a pair. A long run grows once, to the room of a full one. If memory runs out, nothing is inserted.
 pub fn insert_pair<K, V>(
     pairs: &mut Vec<(K, V)>,
     at: usize,
@@ -18,8 +15,10 @@ pub fn insert_pair<K, V>(
     ensures err { OnErr result (pairs.new.items ≡ pairs.old.items) }
     ensures back { IfErr result (λ fault. fault.value ≡ pair) }
 {
-    if is_long_and_full(pairs) && pairs.reserve_exact(STEP).is_err() {
-        return Err(AllocFailed { value: pair });
+    if is_long_and_full(pairs) {
+        if let Err(_) = pairs.reserve_exact(MOST.saturating_sub(pairs.len())) {
+            return Err(AllocFailed { value: pair });
+        }
     }
     pairs.insert(at, pair)
 }

@@ -11,6 +11,7 @@ use std::alloc::AllocError;
 
 // Returns the number of the run that a key falls to, which has the key, or room for it. Takes no memory if the key is
 // held. A refusal changes nothing.
+#[inline(always)]
 pub fn place_for<K: Key, V: Join>(chunks: &mut Chunks<K, V>, key: &K) -> Result<usize, AllocError>
     requires map { AreMapped K.cmp V.below V.is_valid chunks.old }
     ensures map { AreMapped K.cmp V.below V.is_valid chunks.new }
