@@ -1,21 +1,7 @@
--- A loop that joins copies of pairs, and a loop that compares pairs.
+-- A loop that joins copies of pairs.
 use Rattle.std.proofs.Common.{◌++◌, ◌+◌, ◌-◌, ◌<◌, ◌∷◌, ◌≡◌, ◌≤◌}
 use Rattle.join_law.proofs.Prelude.{[], AllHeld, and_parts, ap, AreCopiesJoined, arith, below_all, below_at, cond, drop, eq_by_cmp, Equal, false, find, find_tied, get_or, is_eq, is_equal, is_less, is_sorted, IsBetween, IsErr, IsHeld, IsJoin, IsMap, IsSinglePair, IsTotalOrder, IsTrue, length, length-drop, Less, List, map_chain, map_itself, MapBelow, None, Option, OptionBelow, Ordering, refl, Result, Some, subst, suc, sym, take, take-append-drop, take_more, tied_itself, true, turned, zero, ℕ, ◌∙◌}
 use Rattle.join_law.proofs.{Ends.{below_end}, Outcomes.{not_ok, on_err, on_err_weaker, on_ok_weaker}}
-
--- Equality of lists.
-
-pub same_at : {A : Type 0} (xs ys : List A) (i : ℕ) (x y : A) → x ≡ get_or xs i x → y ≡ get_or ys i y → i < length xs → xs ≡ ys → x ≡ y
-same_at {A} xs ys i x y p q lt e = p ∙ get_or_any xs i x y lt ∙ ap (λ zs. get_or zs i y) e ∙ sym q
-  where
-    get_or_any : (zs : List A) (j : ℕ) (c d : A) → j < length zs → get_or zs j c ≡ get_or zs j d
-    get_or_any [] j c d h = absurd (omega arith)
-    get_or_any (z ∷ zs) zero c d h = refl
-    get_or_any (z ∷ zs) (suc j) c d h = get_or_any zs j c d (omega arith)
-
-pub same_more : {A : Type 0} (xs ys : List A) (i : ℕ) (x y : A) → x ≡ get_or xs i x → y ≡ get_or ys i y → i < length xs → i < length ys → x ≡ y → take i xs ≡ take i ys → take (i + 1) xs ≡ take (i + 1) ys
-same_more xs ys i x y p q lt mt e h =
-    take_more xs i x lt ∙ (λ j. h j ++ (sym p ∙ e ∙ q) j ∷ []) ∙ sym (take_more ys i y mt)
 
 pub take_all : {A : Type 0} (es : List A) → take (length es) es ≡ es
 take_all [] = refl

@@ -9,4 +9,3 @@ pub mod RunEdits
 pub mod RunSteps
 pub mod Slices
 pub mod Lasts
-pub mod PrefixWalks

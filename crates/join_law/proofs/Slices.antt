@@ -146,17 +146,6 @@ some_left (x ∷ xs) b e t = omega arith
 pub some_taken : {A : Type 0} (xs : List A) (n : ℕ) → 0 < n → n ≤ length xs → 0 < length (take n xs)
 some_taken xs n some le = omega (arith, some, le, length-take n xs)
 
--- a single pair that is taken is all
-pub taken_single : {K V : Type 0} (is_single : V → Type 0) (es : List (K × V)) (n : ℕ) → 0 < n → IsSinglePair is_single es → IsSinglePair is_single (take n es)
-taken_single is_single [] n some s = absurd s
-taken_single is_single (e ∷ []) zero some s = absurd (omega arith)
-taken_single is_single (e ∷ []) (suc n) some s = by_rest n
-  where
-    by_rest : (n : ℕ) → IsSinglePair is_single (e ∷ take n [])
-    by_rest zero = s
-    by_rest (suc n) = s
-taken_single is_single (e ∷ f ∷ es) n some s = absurd s
-
 -- keys of fewer pairs
 pub fewer_keys : {K V : Type 0} (P : K → Type 0) (es : List (K × V)) (n m : ℕ) → n ≤ m → AllKeys P (take m es) → AllKeys P (take n es)
 fewer_keys P [] zero m le h = tt
