@@ -1,6 +1,6 @@
 -- How many pairs there are, and how many fall to a run.
-use Rattle.std.proofs.Common.{◌+◌, ◌<◌, ◌∷◌, ◌≡◌, ◌≢◌, ◌≤◌}
-use Rattle.chunked_pairs.proofs.Prelude.{[], AllKeys, and_parts, ap, AreChained, arith, below_all, FallsTo, first_run, from_below, get_or, Greater, is_less, is_sorted, IsAt, IsGap, IsTotalOrder, IsTrue, later, length, length-append, Less, List, not_below, Ordering, refl, subst, suc, sym, take, turned, Vec, viewed, zero, ℕ, ◌∙◌}
+use Rattle.std.proofs.Common.{◌+◌, ◌++◌, ◌<◌, ◌∷◌, ◌≡◌, ◌≢◌, ◌≤◌}
+use Rattle.chunked_pairs.proofs.Prelude.{[], AllKeys, and_parts, ap, AreChained, arith, below_all, FallsTo, first_run, from_below, get_or, Greater, is_less, is_sorted, IsAt, IsGap, IsTotalOrder, IsTrue, keys_fall, keys_parts, later, length, length-append, Less, List, not_below, Ordering, refl, run_at, subst, suc, sym, take, turned, Vec, viewed, zero, ℕ, ◌∙◌}
 use Rattle.chunked_pairs.specs.Chunks.{AreShort}
 
 pub short_runs : {K V : Type 0} (R : K → K → Ordering) (o : IsTotalOrder R) (run : List (K × V)) (ms : List (K × List (K × V))) → AreChained R run ms → AreShort ms
@@ -35,6 +35,12 @@ module _ {K V : Type 0} (R : K → K → Ordering) (o : IsTotalOrder R) where
     where
       at_least : R q m.0 ≡ Less → R k m.0 ≡ Less
       at_least l = from_below R o k q m.0 n l
+
+  -- a key that isn't below the last pair falls to the last run
+  pub falls_to_last : (k : K) (e : K × V) (es run : List (K × V)) (ms : List (K × List (K × V))) → AreChained R run ms → run_at run ms (length ms) ≡ es ++ e ∷ [] → R k e.0 ≢ Less → FallsTo R k ms (length ms)
+  falls_to_last k e es run ms c is n =
+      let all = subst (AllKeys (λ q. FallsTo R q ms (length ms))) is (keys_fall R o run ms (length ms) (omega arith) c) in
+      falls_last e.0 k ms (length ms) (keys_parts (λ q. FallsTo R q ms (length ms)) es (e ∷ []) all).1.0 n (omega arith)
 
   -- a key at or above one that falls to a run, and below the next separator
   falls_between : (k q s : K) (ms : List (K × List (K × V))) (j : ℕ) (d : K × List (K × V)) → FallsTo R k ms j → R q k ≢ Less → s ≡ (get_or ms j d).0 → R q s ≡ Less → j < length ms → FallsTo R q ms j

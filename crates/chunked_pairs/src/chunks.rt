@@ -1,11 +1,13 @@
 //! Runs of sorted pairs.
-ghost use Rattle.std.specs.{Prelude.{◌≡◌, ◌*◌, ◌<◌, ◌≤◌, ◌++◌, ◌∷◌, ◌==◌, [], List, length, None, Some, IsTrue, MatchOption, OnOk, OnErr, slice_index_or, take}, Option.{option_to_list, IfNone}, FinMap.{find, is_sorted}};
+ghost use Rattle.std.specs.{Prelude.{◌≡◌, ◌*◌, ◌<◌, ◌≤◌, ◌++◌, ◌∷◌, ◌==◌, [], List, length, None, Some, IsTrue, MatchOption, IfOk, IfErr, OnOk, OnErr, slice_index_or, take}, Option.{option_to_list, IfNone}, FinMap.{find, is_sorted}};
+ghost use Rattle.sorted_pairs.specs.Places.{IsAt, IsGap};
 ghost use Rattle.chunked_pairs.specs.Chunks.{all_pairs, AllKeys, AreChunks, AreShort, FallsTo, given_back, later, most_runs, run_at, viewed, with_run, without_last};
 
 use crate::cursors::Pairs;
-use crate::searches::{Sought, seek_by};
+use crate::searches::{Sought, search_by, seek_by};
 use plain_values::Key;
 use std::alloc::{AllocError, Global};
+use std::cmp::Ordering;
 use std::marker::Model;
 use std::mem;
 
@@ -25,6 +27,15 @@ pub(crate) const MOST_RUNS: usize = 281_474_976_710_656;
 pub struct Chunks<K, V> {
     pub(crate) first: Vec<(K, V)>,
     pub(crate) more: Vec<(K, Vec<(K, V)>)>,
+}
+
+/// Where a key stands among pairs in runs, or where it would be inserted.
+#[derive(Clone, Copy, Debug)]
+pub struct Position {
+    /// The number of the run that the key falls to.
+    pub run: usize,
+    /// The index of the key in that run, or as an error the index at which it would be inserted.
+    pub index: Result<usize, usize>,
 }
 
 impl<K, V> Model for Chunks<K, V> {
@@ -130,7 +141,7 @@ impl<K: Key, V: Drop> Chunks<K, V> {
         &self.more[at].0
     }
 
-    /// The number of the run that a key falls to. O(log n); for a key in the last run, a single comparison.
+    /// The number of the run that a key falls to. O(log n).
     #[inline(always)]
     pub fn run_of<S: Sought<K>>(&self, sought: &S) -> usize
         requires chunks { AreChunks K.cmp self.now }
@@ -141,6 +152,72 @@ impl<K: Key, V: Drop> Chunks<K, V> {
             return 0;
         }
         run_among(&self.more, sought)
+    }
+
+    /// Where a key stands, or would be inserted. O(log n); for a key at or after the last pair, a single comparison.
+    /// Allocates nothing.
+    #[inline(always)]
+    pub fn seek<S: Sought<K>>(&self, sought: &S) -> Position
+        requires chunks { AreChunks K.cmp self.now }
+        ensures within { result.run ≤ length self.now.1 }
+        ensures falls { FallsTo K.cmp (S.key sought.now) self.now.1 result.run }
+        ensures found { IfOk result.index (IsAt K.cmp (S.key sought.now) (run_at self.now.0 self.now.1 result.run)) }
+        ensures absent { IfErr result.index (IsGap K.cmp (S.key sought.now) (run_at self.now.0 self.now.1 result.run)) }
+        ensures at_within { IfOk result.index (λ at. at < length (run_at self.now.0 self.now.1 result.run)) }
+        ensures gap_within { IfErr result.index (λ at. at ≤ length (run_at self.now.0 self.now.1 result.run)) }
+    {
+        if self.more.is_empty() {
+            return Position {
+                run: 0,
+                index: seek_by(&self.first, sought),
+            };
+        }
+        self.seek_among(sought)
+    }
+
+    // The same, beginning with the last pair.
+    fn seek_among<S: Sought<K>>(&self, sought: &S) -> Position
+        requires chunks { AreChunks K.cmp self.now }
+        ensures within { result.run ≤ length self.now.1 }
+        ensures falls { FallsTo K.cmp (S.key sought.now) self.now.1 result.run }
+        ensures found { IfOk result.index (IsAt K.cmp (S.key sought.now) (run_at self.now.0 self.now.1 result.run)) }
+        ensures absent { IfErr result.index (IsGap K.cmp (S.key sought.now) (run_at self.now.0 self.now.1 result.run)) }
+        ensures at_within { IfOk result.index (λ at. at < length (run_at self.now.0 self.now.1 result.run)) }
+        ensures gap_within { IfErr result.index (λ at. at ≤ length (run_at self.now.0 self.now.1 result.run)) }
+    {
+        let last = self.last_run();
+        let run = self.run(last);
+        let Some((pair, before)) = run.split_last() else {
+            return self.seek_inside(sought);
+        };
+        match sought.order(&pair.0) {
+            Ordering::Less => Position {
+                run: last,
+                index: Err(run.len()),
+            },
+            Ordering::Equal => Position {
+                run: last,
+                index: Ok(before.len()),
+            },
+            Ordering::Greater => self.seek_inside(sought),
+        }
+    }
+
+    // The same, by a search among the separators, and one in a run.
+    fn seek_inside<S: Sought<K>>(&self, sought: &S) -> Position
+        requires chunks { AreChunks K.cmp self.now }
+        ensures within { result.run ≤ length self.now.1 }
+        ensures falls { FallsTo K.cmp (S.key sought.now) self.now.1 result.run }
+        ensures found { IfOk result.index (IsAt K.cmp (S.key sought.now) (run_at self.now.0 self.now.1 result.run)) }
+        ensures absent { IfErr result.index (IsGap K.cmp (S.key sought.now) (run_at self.now.0 self.now.1 result.run)) }
+        ensures at_within { IfOk result.index (λ at. at < length (run_at self.now.0 self.now.1 result.run)) }
+        ensures gap_within { IfErr result.index (λ at. at ≤ length (run_at self.now.0 self.now.1 result.run)) }
+    {
+        let run = self.run_of(sought);
+        Position {
+            run,
+            index: search_by(self.run(run), sought),
+        }
     }
 
     /// The pair with a key, if any. O(log n). Allocates nothing.
@@ -260,7 +337,7 @@ pub(crate) fn run_among<K: Ord, V, S: Sought<K>>(more: &[(K, Vec<(K, V)>)], soug
     ensures falls { FallsTo K.cmp (S.key sought.now) (viewed more.now) result }
     ensures within { result ≤ length more.now }
 {
-    match seek_by(more, sought) {
+    match search_by(more, sought) {
         Ok(at) => at + 1,
         Err(at) => at,
     }

@@ -85,6 +85,7 @@ impl<'a, K: Ord, V> Pairs<'a, K, V> {
         ensures found { option_copied result ≡ find K.cmp key.now self.old }
         ensures after { (k : K) → K.cmp key.now k ≡ Less → find K.cmp k self.new ≡ find K.cmp k self.old }
     {
+        self.step();
         let (order, left) = pass_near(self.left, key);
         self.left = left;
         match order {
@@ -94,6 +95,20 @@ impl<'a, K: Ord, V> Pairs<'a, K, V> {
                 Some(&pair.1)
             }
             Ordering::Greater => None,
+        }
+    }
+
+    // Goes on to the next run, if none is left of this one.
+    #[inline(always)]
+    fn step(&mut self)
+        ensures same { self.new ≡ self.old }
+    {
+        if !self.left.is_empty() {
+            return;
+        }
+        if let Some((behind, more)) = self.more.split_first() {
+            self.left = &behind.1;
+            self.more = more;
         }
     }
 

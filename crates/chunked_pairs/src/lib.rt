@@ -13,6 +13,6 @@ mod cursors;
 mod cuts;
 mod searches;
 
-pub use chunks::{Chunks, HALF, MOST};
+pub use chunks::{Chunks, HALF, MOST, Position};
 pub use cursors::Pairs;
 pub use searches::{Sought, seek_by};

@@ -38,6 +38,20 @@ pub fn seek_by<K: Ord, V, S: Sought<K>>(pairs: &[(K, V)], sought: &S) -> Result<
     match sought.order(&last.0) {
         Ordering::Less => Err(pairs.len()),
         Ordering::Equal => Ok(before.len()),
-        Ordering::Greater => pairs.binary_search_by(|pair| sought.order(&pair.0)),
+        Ordering::Greater => search_by(pairs, sought),
     }
+}
+
+// The same, by a binary search.
+pub(crate) fn search_by<K: Ord, V, S: Sought<K>>(
+    pairs: &[(K, V)],
+    sought: &S,
+) -> Result<usize, usize>
+    requires sorted { IsTrue (is_sorted K.cmp pairs.now) }
+    ensures found { IfOk result (IsAt K.cmp (S.key sought.now) pairs.now) }
+    ensures absent { IfErr result (IsGap K.cmp (S.key sought.now) pairs.now) }
+    ensures at_within { IfOk result (λ at. at < length pairs.now) }
+    ensures gap_within { IfErr result (λ at. at ≤ length pairs.now) }
+{
+    pairs.binary_search_by(|pair| sought.order(&pair.0))
 }

@@ -1,16 +1,16 @@
 //! Joins of one value into maps of maps, at any depth.
-ghost use Rattle.std.specs.{Prelude.{◌≡◌, ◌↔◌, ◌<◌, ◌≤◌, [], ◌∷◌, Bool, false, None, length, IsTrue, IsOk, IfOk, OnOk, OnErr}, Option.{IfNone, IfSome}};
+ghost use Rattle.std.specs.{Prelude.{◌≡◌, ◌↔◌, ◌<◌, ◌≤◌, [], ◌∷◌, Bool, false, None, length, IsTrue, IsOk, IfOk, IfErr, OnOk, OnErr}, Option.{IfNone, IfSome}};
 ghost use Rattle.std.specs.FinMap.{find};
-ghost use Rattle.chunked_pairs.specs.Chunks.{all_pairs, FallsTo, run_at};
-ghost use Rattle.join_law.specs.{Maps.{AreMapped, IsHeld, IsMap, MapBelow, is_none_or}, Order.{IsBetween, IsJoin, IsLeast}};
+ghost use Rattle.chunked_pairs.specs.Chunks.{all_pairs};
+ghost use Rattle.sorted_pairs.specs.Places.{IsAt, IsGap};
+ghost use Rattle.join_law.specs.{Maps.{AreMapped, IsHeld, IsMap, MapBelow, is_none_or}, Order.{IsBetween, IsJoin, IsLeast}, Outcomes.{IsSeat}};
 
 use crate::inserts::insert_pair;
 use crate::joins::Join;
 use crate::maps::JoinMap;
 use crate::runs::place_for;
-use chunked_pairs::Chunks;
+use chunked_pairs::{Chunks, Position};
 use plain_values::Key;
-use sorted_pairs::seek;
 use std::alloc::{AllocError, Global};
 
 /// Something that can be joined into a value.
@@ -131,23 +131,20 @@ fn add_at_key<K: Key, A: Addition>(
     ensures map { AreMapped K.cmp A.Value.below A.Value.is_valid chunks.new }
 {
     match place_for(chunks, &key) {
-        Ok(at) => add_in_run(chunks, at, key, addition),
+        Ok(position) => add_in_run(chunks, position, key, addition),
         Err(_) => Err(AllocError),
     }
 }
 
-// Joins at a key in the run to which it falls, which has the key, or room for it.
+// Joins where a key stands, or would be inserted.
 fn add_in_run<K: Key, A: Addition>(
     chunks: &mut Chunks<K, A::Value>,
-    at: usize,
+    position: Position,
     key: K,
     addition: A,
 ) -> Result<bool, AllocError>
     requires map { AreMapped K.cmp A.Value.below A.Value.is_valid chunks.old }
-    requires within { at ≤ length chunks.old.1 }
-    requires falls { FallsTo K.cmp key chunks.old.1 at }
-    requires room { find K.cmp key (run_at chunks.old.0 chunks.old.1 at) ≡ None →
-        length (run_at chunks.old.0 chunks.old.1 at) < 128 }
+    requires seated { IsSeat K.cmp key chunks.old position.run position.index }
     ensures ok { OnOk result (IsJoin (MapBelow K.cmp A.Value.below) (all_pairs chunks.old)
         ((key, A.added addition) ∷ []) (all_pairs chunks.new)) }
     ensures added { IfOk result (λ is_added. IsTrue is_added ↔
@@ -160,19 +157,25 @@ fn add_in_run<K: Key, A: Addition>(
         is_none_or (A.is_new addition) (find K.cmp key (all_pairs chunks.old)) ≡ false → IsOk result }
     ensures map { AreMapped K.cmp A.Value.below A.Value.is_valid chunks.new }
 {
-    let mut run = chunks.take(at);
-    let outcome = join_at_key(&mut run, key, addition);
-    chunks.put(at, run);
+    let mut run = chunks.take(position.run);
+    let outcome = join_at_key(&mut run, position.index, key, addition);
+    chunks.put(position.run, run);
     outcome
 }
 
-// Joins at a key of sorted pairs, and returns whether a key was added, here or in the value at the key.
+// Joins at the index of a key, or at which it would be inserted, and returns whether a key was added, here or in the
+// value at the key.
 fn join_at_key<K: Key, A: Addition>(
     pairs: &mut Vec<(K, A::Value)>,
+    index: Result<usize, usize>,
     key: K,
     addition: A,
 ) -> Result<bool, AllocError>
-    requires { IsMap K.cmp A.Value.below A.Value.is_valid pairs.old.items }
+    requires map { IsMap K.cmp A.Value.below A.Value.is_valid pairs.old.items }
+    requires found { IfOk index (IsAt K.cmp key pairs.old.items) }
+    requires absent { IfErr index (IsGap K.cmp key pairs.old.items) }
+    requires at_within { IfOk index (λ at. at < length pairs.old.items) }
+    requires gap_within { IfErr index (λ at. at ≤ length pairs.old.items) }
     ensures ok { OnOk result (IsJoin (MapBelow K.cmp A.Value.below) pairs.old.items
         ((key, A.added addition) ∷ []) pairs.new.items) }
     ensures added { IfOk result (λ is_added. IsTrue is_added ↔
@@ -185,7 +188,7 @@ fn join_at_key<K: Key, A: Addition>(
         is_none_or (A.is_new addition) (find K.cmp key pairs.old.items) ≡ false → IsOk result }
     ensures map { IsMap K.cmp A.Value.below A.Value.is_valid pairs.new.items }
 {
-    match seek(pairs, &key) {
+    match index {
         Ok(at) => {
             let place = &mut pairs[at];
             addition.join_to(&mut place.1)

@@ -1,19 +1,25 @@
 //! Joining an owned pair into sorted pairs.
-ghost use Rattle.std.specs.{Prelude.{◌≡◌, ◌↔◌, [], ◌∷◌, None, IsTrue, IsSome, IsOk, IfOk, OnOk, IfErr}, FinMap.{find}};
+ghost use Rattle.std.specs.{Prelude.{◌≡◌, ◌↔◌, ◌<◌, ◌≤◌, [], ◌∷◌, None, length, IsTrue, IsSome, IsOk, IfOk, OnOk, IfErr}, FinMap.{find}};
+ghost use Rattle.sorted_pairs.specs.Places.{IsAt, IsGap};
 ghost use Rattle.join_law.specs.{Maps.{IsMap, MapBelow}, Order.{IsJoin, IsLeast, IsPartialJoin}};
 
 use crate::inserts::insert_pair;
 use crate::joins::{Join, Rest};
 use plain_values::Key;
-use sorted_pairs::seek;
 
-// Joins one pair, and returns whether its key was added. A bottom value changes nothing.
+// Joins one pair at the index of its key, or at which it would be inserted, and returns whether it was added. A bottom
+// value changes nothing.
 pub fn join_pair<K: Key, V: Join>(
     pairs: &mut Vec<(K, V)>,
+    index: Result<usize, usize>,
     key: K,
     value: V,
 ) -> Result<bool, Rest<(K, V)>>
-    requires { IsMap K.cmp V.below V.is_valid pairs.old.items }
+    requires map { IsMap K.cmp V.below V.is_valid pairs.old.items }
+    requires found { IfOk index (IsAt K.cmp key pairs.old.items) }
+    requires absent { IfErr index (IsGap K.cmp key pairs.old.items) }
+    requires at_within { IfOk index (λ at. at < length pairs.old.items) }
+    requires gap_within { IfErr index (λ at. at ≤ length pairs.old.items) }
     ensures map { IsMap K.cmp V.below V.is_valid pairs.new.items }
     ensures ok { OnOk result (IsJoin (MapBelow K.cmp V.below) pairs.old.items
         ((key, value) ∷ []) pairs.new.items) }
@@ -30,7 +36,7 @@ pub fn join_pair<K: Key, V: Join>(
     if value.is_bottom() {
         return Ok(false);
     }
-    match seek(pairs, &key) {
+    match index {
         Ok(at) => {
             let place = &mut pairs[at];
             match place.1.join_from(value) {

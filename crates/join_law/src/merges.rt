@@ -118,7 +118,7 @@ fn join_some<K: Key, V: Join>(
     ensures single { OnErr result (IsSinglePair V.is_single pairs.now → all_pairs chunks.new ≡ all_pairs chunks.old) }
     ensures known { MapBelow K.cmp V.below pairs.now (all_pairs chunks.old) → IsOk result }
 {
-    let at = place_for(chunks, &pairs[0].0)?;
+    let at = place_for(chunks, &pairs[0].0)?.run;
     let count = chunks.fitting(at, pairs).min(room_in(chunks.run(at)));
     join_in_run(chunks, at, &pairs[..count])?;
     Ok(count)

@@ -1,51 +1,61 @@
 //! Edits of a map in chunks: a run is taken out, edited as one vector, and put back.
 ghost use Rattle.std.specs.{Prelude.{◌≡◌, ◌≢◌, ◌↔◌, ◌<◌, ◌≤◌, [], ◌∷◌, None, length, IsTrue, IsSome, IsOk, IfOk, OnOk, OnErr, IfErr}, FinMap.{find}};
 ghost use Rattle.chunked_pairs.specs.Chunks.{all_pairs, FallsTo, run_at};
-ghost use Rattle.join_law.specs.{Maps.{AreMapped, IsHeld, IsMap, MapBelow}, Order.{IsJoin, IsLeast, IsPartialJoin}};
+ghost use Rattle.join_law.specs.{Maps.{AreMapped, IsHeld, IsMap, MapBelow}, Order.{IsJoin, IsLeast, IsPartialJoin}, Outcomes.{IsSeat}};
 
 use crate::edits::join_pair;
 use crate::joins::{Join, Rest};
-use chunked_pairs::{Chunks, HALF, MOST, seek_by};
+use chunked_pairs::{Chunks, HALF, MOST, Position, seek_by};
 use plain_values::Key;
 use std::alloc::AllocError;
 
-// Returns the number of the run that a key falls to, which has the key, or room for it. Takes no memory if the key is
-// held. A refusal changes nothing.
+// Returns where a key stands, or would be inserted, in a run that has room for it. Takes no memory if the key is held. A
+// refusal changes nothing.
 #[inline(always)]
-pub fn place_for<K: Key, V: Join>(chunks: &mut Chunks<K, V>, key: &K) -> Result<usize, AllocError>
+pub fn place_for<K: Key, V: Join>(chunks: &mut Chunks<K, V>, key: &K) -> Result<Position, AllocError>
     requires map { AreMapped K.cmp V.below V.is_valid chunks.old }
     ensures map { AreMapped K.cmp V.below V.is_valid chunks.new }
     ensures same { all_pairs chunks.new ≡ all_pairs chunks.old }
     ensures err { OnErr result (chunks.new ≡ chunks.old) }
     ensures known { IsSome (find K.cmp key.now (all_pairs chunks.old)) → IsOk result }
-    ensures within { IfOk result (λ at. at ≤ length chunks.new.1) }
-    ensures falls { IfOk result (λ at. FallsTo K.cmp key.now chunks.new.1 at) }
-    ensures room { IfOk result (λ at. find K.cmp key.now (run_at chunks.new.0 chunks.new.1 at) ≡ None →
-        length (run_at chunks.new.0 chunks.new.1 at) < 128) }
+    ensures seated { IfOk result (λ p. IsSeat K.cmp key.now chunks.new p.run p.index) }
 {
-    let at = chunks.run_of(key);
-    let run = chunks.run(at);
-    if run.len() < MOST {
-        return Ok(at);
-    }
-    match seek_by(run, key) {
-        Ok(_) => Ok(at),
-        Err(_) => chunks.room_for(key, HALF),
+    let position = chunks.seek(key);
+    match position.index {
+        Ok(_) => Ok(position),
+        Err(_) => {
+            if chunks.run(position.run).len() < MOST {
+                return Ok(position);
+            }
+            cut_for(chunks, key)
+        }
     }
 }
 
-// Joins one pair into the run to which its key falls, which has the key, or room for it.
+// Cuts the full run to which a new key falls in two. A refusal changes nothing.
+fn cut_for<K: Key, V: Join>(chunks: &mut Chunks<K, V>, key: &K) -> Result<Position, AllocError>
+    requires map { AreMapped K.cmp V.below V.is_valid chunks.old }
+    ensures map { AreMapped K.cmp V.below V.is_valid chunks.new }
+    ensures same { all_pairs chunks.new ≡ all_pairs chunks.old }
+    ensures err { OnErr result (chunks.new ≡ chunks.old) }
+    ensures seated { IfOk result (λ p. IsSeat K.cmp key.now chunks.new p.run p.index) }
+{
+    let run = chunks.room_for(key, HALF)?;
+    Ok(Position {
+        run,
+        index: seek_by(chunks.run(run), key),
+    })
+}
+
+// Joins one pair where its key stands, or would be inserted.
 fn join_in_run<K: Key, V: Join>(
     chunks: &mut Chunks<K, V>,
-    at: usize,
+    position: Position,
     key: K,
     value: V,
 ) -> Result<bool, Rest<(K, V)>>
     requires map { AreMapped K.cmp V.below V.is_valid chunks.old }
-    requires within { at ≤ length chunks.old.1 }
-    requires falls { FallsTo K.cmp key chunks.old.1 at }
-    requires room { find K.cmp key (run_at chunks.old.0 chunks.old.1 at) ≡ None →
-        length (run_at chunks.old.0 chunks.old.1 at) < 128 }
+    requires seated { IsSeat K.cmp key chunks.old position.run position.index }
     ensures map { AreMapped K.cmp V.below V.is_valid chunks.new }
     ensures ok { OnOk result (IsJoin (MapBelow K.cmp V.below) (all_pairs chunks.old)
         ((key, value) ∷ []) (all_pairs chunks.new)) }
@@ -59,9 +69,9 @@ fn join_in_run<K: Key, V: Join>(
     ensures single { IfErr result (λ _. V.is_single value → all_pairs chunks.new ≡ all_pairs chunks.old) }
     ensures in_place { V.joins_in_place → IsSome (find K.cmp key (all_pairs chunks.old)) → IsOk result }
 {
-    let mut run = chunks.take(at);
-    let outcome = join_pair(&mut run, key, value);
-    chunks.put(at, run);
+    let mut run = chunks.take(position.run);
+    let outcome = join_pair(&mut run, position.index, key, value);
+    chunks.put(position.run, run);
     outcome
 }
 
@@ -89,7 +99,7 @@ pub fn join_key<K: Key, V: Join>(
         return Ok(false);
     }
     match place_for(chunks, &key) {
-        Ok(at) => join_in_run(chunks, at, key, value),
+        Ok(position) => join_in_run(chunks, position, key, value),
         Err(_) => Err(Rest { rest: (key, value) }),
     }
 }

@@ -6,24 +6,29 @@ use Rattle.join_law.proofs.runs.join_in_run.Given.{Over}
 use Rattle.join_law.proofs.runs.join_in_run.Goals as goal
 
 pub join_pair-outcome-requires : goal.join_pair-outcome-requires
-join_pair-outcome-requires g c = rw c.take-run.ensures.run
-    (run_is_map g.K.Ord.cmp g.met.K.Ord.total g.V.Join.is_valid g.V.Join.below g.met.V.Join.reflexive g.met.V.Join.transitive g.V.Join.join g.met.V.Join.joins c.args.chunks.now c.requires.map c.args.at c.requires.within)
+join_pair-outcome-requires g c = rw c.take-run.ensures.run (record {
+  map = run_is_map g.K.Ord.cmp g.met.K.Ord.total g.V.Join.is_valid g.V.Join.below g.met.V.Join.reflexive g.met.V.Join.transitive g.V.Join.join g.met.V.Join.joins c.args.chunks.now c.requires.map c.args.position.run c.requires.seated.within;
+  found = c.requires.seated.found;
+  absent = c.requires.seated.absent;
+  at_within = c.requires.seated.at_within;
+  gap_within = c.requires.seated.gap_within;
+})
 
 pub put-requires : goal.put-requires
-put-requires g c = record { within = rw (c.take-run.ensures.left, length_with c.args.chunks.now.0 c.args.chunks.now.1 c.args.at []) c.requires.within }
+put-requires g c = record { within = rw (c.take-run.ensures.left, length_with c.args.chunks.now.0 c.args.chunks.now.1 c.args.position.run []) c.requires.seated.within }
 
-edit : (g : Over) (c : goal.After-put g) → IsRunEdit g.K.Ord.cmp g.V.Join.is_valid g.V.Join.below c.args.chunks.now c.args.at ((c.args.key, c.args.value) ∷ []) c.join_pair-outcome.new.pairs.items c.put.new.self
+edit : (g : Over) (c : goal.After-put g) → IsRunEdit g.K.Ord.cmp g.V.Join.is_valid g.V.Join.below c.args.chunks.now c.args.position.run ((c.args.key, c.args.value) ∷ []) c.join_pair-outcome.new.pairs.items c.put.new.self
 edit g c = record {
   mapped = c.requires.map;
-  within = c.requires.within;
-  falls = (c.requires.falls, tt);
-  room = room_for_key g.K.Ord.cmp g.met.K.Ord.total g.V.Join.is_valid g.V.Join.below g.met.V.Join.reflexive g.met.V.Join.transitive g.V.Join.join g.met.V.Join.joins c.args.chunks.now c.requires.map c.args.at c.requires.within c.args.key c.args.value c.requires.room;
+  within = c.requires.seated.within;
+  falls = (c.requires.seated.falls, tt);
+  room = room_for_key g.K.Ord.cmp g.met.K.Ord.total g.V.Join.is_valid g.V.Join.below g.met.V.Join.reflexive g.met.V.Join.transitive g.V.Join.join g.met.V.Join.joins c.args.chunks.now c.requires.map c.args.position.run c.requires.seated.within c.args.key c.args.value c.requires.seated.room;
   map = c.join_pair-outcome.ensures.map;
   between = by_fault c.join_pair-outcome.result
       (join_between g.K.Ord.cmp g.V.Join.below g.met.V.Join.reflexive g.met.V.Join.transitive _ _ _)
       (λ fault. partly_between g.K.Ord.cmp g.V.Join.below _ _ _ (fault.rest ∷ []))
       (rw c.take-run.ensures.run at c.join_pair-outcome.ensures.ok) (rw c.take-run.ensures.run at c.join_pair-outcome.ensures.refused);
-  put_is = put_back c.args.chunks.now c.take-run.new.self c.put.new.self c.args.at c.join_pair-outcome.new.pairs.items c.take-run.ensures.left c.put.ensures.put;
+  put_is = put_back c.args.chunks.now c.take-run.new.self c.put.new.self c.args.position.run c.join_pair-outcome.new.pairs.items c.take-run.ensures.left c.put.ensures.put;
 }
 
 pub returns-clause-map : goal.returns-clause-map
@@ -36,7 +41,7 @@ returns-clause-ok g c =
     (rw c.take-run.ensures.run at c.join_pair-outcome.ensures.ok)
 
 pub returns-clause-added : goal.returns-clause-added
-returns-clause-added g c = rw (find_in_run g.K.Ord.cmp g.met.K.Ord.total g.V.Join.is_valid g.V.Join.below g.met.V.Join.reflexive g.met.V.Join.transitive g.V.Join.join g.met.V.Join.joins c.args.chunks.now c.requires.map c.args.at c.requires.within c.args.key c.requires.falls)
+returns-clause-added g c = rw (find_in_run g.K.Ord.cmp g.met.K.Ord.total g.V.Join.is_valid g.V.Join.below g.met.V.Join.reflexive g.met.V.Join.transitive g.V.Join.join g.met.V.Join.joins c.args.chunks.now c.requires.map c.args.position.run c.requires.seated.within c.args.key c.requires.seated.falls)
     (rw c.take-run.ensures.run at c.join_pair-outcome.ensures.added)
 
 pub returns-clause-refused : goal.returns-clause-refused
@@ -48,9 +53,9 @@ returns-clause-refused g c =
 pub returns-clause-single : goal.returns-clause-single
 returns-clause-single g c =
     if_err_weaker c.join_pair-outcome.result
-    (λ fault same single. put_same _ _ c.args.at _ (edit g c).put_is (same single))
+    (λ fault same single. put_same _ _ c.args.position.run _ (edit g c).put_is (same single))
     (rw c.take-run.ensures.run at c.join_pair-outcome.ensures.single)
 
 pub returns-clause-in_place : goal.returns-clause-in_place
-returns-clause-in_place g c = rw (find_in_run g.K.Ord.cmp g.met.K.Ord.total g.V.Join.is_valid g.V.Join.below g.met.V.Join.reflexive g.met.V.Join.transitive g.V.Join.join g.met.V.Join.joins c.args.chunks.now c.requires.map c.args.at c.requires.within c.args.key c.requires.falls)
+returns-clause-in_place g c = rw (find_in_run g.K.Ord.cmp g.met.K.Ord.total g.V.Join.is_valid g.V.Join.below g.met.V.Join.reflexive g.met.V.Join.transitive g.V.Join.join g.met.V.Join.joins c.args.chunks.now c.requires.map c.args.position.run c.requires.seated.within c.args.key c.requires.seated.falls)
     (rw c.take-run.ensures.run at c.join_pair-outcome.ensures.in_place)
