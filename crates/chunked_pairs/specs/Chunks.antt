@@ -43,6 +43,10 @@ module _ {K V : Type 0} where
   with_run run [] (suc j) new = (run, [])
   with_run run (m ∷ ms) (suc j) new = let r = with_run m.1 ms j new in (run, (m.0, r.0) ∷ r.1)
 
+  -- the run with a number and the first one have changed places
+  abbrev pub swapped : List (K × V) → List (K × List (K × V)) → ℕ → List (K × V) × List (K × List (K × V))
+  swapped run ms j = (run_at run ms j, (with_run run ms j run).1)
+
   -- the run with a number is cut in two, the second behind a separator
   abbrev pub cut_run : List (K × V) → List (K × List (K × V)) → ℕ → ℕ → K → List (K × V) × List (K × List (K × V))
   cut_run run ms zero cut s = (take cut run, (s, drop cut run) ∷ ms)

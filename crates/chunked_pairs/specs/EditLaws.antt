@@ -1,7 +1,7 @@
 -- What an edit of one run does to runs that stand side by side.
 use Rattle.std.proofs.Common.{◌+◌, ◌++◌, ◌<◌, ◌∷◌, ◌≡◌, ◌≢◌, ◌≤◌}
 use Rattle.chunked_pairs.specs.Prelude.{[], and_parts, ap, append-nil, append_assoc, arith, below_all, below_at, drop, get_or, insert, is_less, is_sorted, IsTotalOrder, IsTrue, length, length-append, length-drop, Less, List, Ordering, refl, subst, suc, sym, take, take-append-drop, tied_itself, zero, ℕ, ◌∙◌}
-use Rattle.chunked_pairs.specs.{Chunks.{AllKeys, all_pairs, AreChained, AreChunks, cut_run, FallsTo, given_back, IsRun, later, run_at, with_run, without_last}, Searches.{both, keys_parts, keys_weaker, not_below}}
+use Rattle.chunked_pairs.specs.{Chunks.{AllKeys, all_pairs, AreChained, AreChunks, cut_run, FallsTo, given_back, IsRun, later, run_at, swapped, with_run, without_last}, Searches.{both, keys_parts, keys_weaker, not_below}}
 
 module _ {K V : Type 0} where
   pub run_with : (run : List (K × V)) (ms : List (K × List (K × V))) (j : ℕ) (new : List (K × V)) → j ≤ length ms → run_at (with_run run ms j new).0 (with_run run ms j new).1 j ≡ new
@@ -18,6 +18,15 @@ module _ {K V : Type 0} where
   with_same run ms zero = refl
   with_same run [] (suc j) = refl
   with_same run (m ∷ ms) (suc j) = let h = with_same m.1 ms j in λ i. (run, (m.0, (h i).0) ∷ (h i).1)
+
+  -- a run that is edited while it stands first
+  pub swapped_back : (run : List (K × V)) (ms : List (K × List (K × V))) (j : ℕ) (new : List (K × V)) → j ≤ length ms → swapped new (swapped run ms j).1 j ≡ with_run run ms j new
+  swapped_back run ms zero new le = refl
+  swapped_back run [] (suc j) new le = absurd (omega arith)
+  swapped_back run (m ∷ ms) (suc j) new le =
+      let there = run_with m.1 ms j run (omega arith) in
+      let h = with_with m.1 ms j run new in
+      λ i. (there i, (m.0, (h i).0) ∷ (h i).1)
 
   pub length_with : (run : List (K × V)) (ms : List (K × List (K × V))) (j : ℕ) (new : List (K × V)) → length (with_run run ms j new).1 ≡ length ms
   length_with run ms zero new = refl

@@ -1,7 +1,7 @@
 //! Runs of sorted pairs.
 ghost use Rattle.std.specs.{Prelude.{◌≡◌, ◌*◌, ◌<◌, ◌≤◌, ◌++◌, ◌∷◌, ◌==◌, [], List, length, None, Some, IsTrue, MatchOption, IfOk, IfErr, OnOk, OnErr, slice_index_or, take}, Option.{option_to_list, IfNone}, FinMap.{find, is_sorted}};
 ghost use Rattle.sorted_pairs.specs.Places.{IsAt, IsGap};
-ghost use Rattle.chunked_pairs.specs.Chunks.{all_pairs, AllKeys, AreChunks, AreShort, FallsTo, given_back, later, most_runs, run_at, viewed, with_run, without_last};
+ghost use Rattle.chunked_pairs.specs.Chunks.{all_pairs, AllKeys, AreChunks, AreShort, FallsTo, given_back, later, most_runs, run_at, swapped, viewed, with_run, without_last};
 
 use crate::cursors::Pairs;
 use crate::searches::{Sought, search_by, seek_by};
@@ -25,7 +25,8 @@ pub(crate) const MOST_RUNS: usize = 281_474_976_710_656;
 /// A separator is above all keys before it, and at most the least key of its run.
 #[derive(Debug, Drop)]
 pub struct Chunks<K, V> {
-    pub(crate) first: Vec<(K, V)>,
+    /// The run before all others, which may be edited in its place.
+    pub first: Vec<(K, V)>,
     pub(crate) more: Vec<(K, Vec<(K, V)>)>,
 }
 
@@ -117,6 +118,20 @@ impl<K: Key, V: Drop> Chunks<K, V> {
         ensures put { self.new ≡ with_run self.old.0 self.old.1 at run.items }
     {
         let _old = self.replace(at, run);
+    }
+
+    /// Swaps a run with the first one, so that it can be edited there; the same call swaps them back. O(1). Allocates
+    /// nothing.
+    #[inline(always)]
+    pub fn swap(&mut self, at: usize)
+        requires within { at ≤ length self.old.1 }
+        ensures swapped { self.new ≡ swapped self.old.0 self.old.1 at }
+    {
+        if at == 0 {
+            return;
+        }
+        let place = &mut self.more[at - 1];
+        mem::swap(&mut self.first, &mut place.1);
     }
 
     // Puts a run into the place of another one, and returns that one.

@@ -2,7 +2,7 @@
 use Rattle.std.proofs.Common.{◌++◌, ◌<◌, ◌∷◌, ◌≡◌, ◌≢◌, ◌≤◌}
 use Rattle.join_law.proofs.Prelude.{[], AllHeld, AreMapped, ap, arith, cond, find, find_tied, from_T, inl, inr, is_eq, is_sorted, is_sorted-put, IsAt, IsBetween, IsJoin, IsMap, IsPartialJoin, IsRoomFor, IsTotalOrder, IsTrue, length, List, map_itself, MapBelow, None, Option, OptionBelow, Ordering, refl, Some, subst, sym, to_T, zero, suc, ℕ, ◌∙◌}
 use Rattle.join_law.specs.{Maps.{joined_value, map_union}}
-use Rattle.chunked_pairs.specs.{Chunks.{all_pairs, AllKeys, AreChained, AreChunks, FallsTo, IsRun, later, run_at, with_run}, ChunkLaws.{find_falls, run_is}, EditLaws.{with_same, with_with}}
+use Rattle.chunked_pairs.specs.{Chunks.{all_pairs, AllKeys, AreChained, AreChunks, FallsTo, IsRun, later, run_at, swapped, with_run}, ChunkLaws.{find_falls, run_is}, EditLaws.{length_with, swapped_back, with_same, with_with}}
 use Rattle.join_law.proofs.RunEdits.{added_length, alike_falls, all_found, edited, found_has, keys_stay, no_more, run_between, run_join, run_partial, up_to_union}
 
 module _ {K V : Type 0} (R : K → K → Ordering) (below : V → V → Type 0) where
@@ -86,6 +86,17 @@ pub record IsRunEdit {K V : Type 0} (R : K → K → Ordering) (valid : V → Ty
 -- what is put where a run was taken out
 pub put_back : {K V : Type 0} (c left put : List (K × V) × List (K × List (K × V))) (j : ℕ) (now : List (K × V)) → left ≡ with_run c.0 c.1 j [] → put ≡ with_run left.0 left.1 j now → put ≡ with_run c.0 c.1 j now
 put_back c left put j now l p = p ∙ ap (λ d. with_run d.0 d.1 j now) l ∙ with_with c.0 c.1 j [] now
+
+-- what stands first while a run has changed places with the first one
+pub first_is : {K V : Type 0} (c view : List (K × V) × List (K × List (K × V))) (j : ℕ) (first : List (K × V)) (more : List (K × List (K × V))) → (first, more) ≡ view → view ≡ swapped c.0 c.1 j → first ≡ run_at c.0 c.1 j
+first_is c view j first more v w = ap (λ d. d.0) (v ∙ w)
+
+pub more_is : {K V : Type 0} (c view : List (K × V) × List (K × List (K × V))) (j : ℕ) (first : List (K × V)) (more : List (K × List (K × V))) → (first, more) ≡ view → view ≡ swapped c.0 c.1 j → j ≤ length c.1 → j ≤ length more
+more_is c view j first more v w le = subst (λ ms. j ≤ length ms) (sym (ap (λ d. d.1) (v ∙ w))) (subst (λ n. j ≤ n) (sym (length_with c.0 c.1 j c.0)) le)
+
+-- what is there once both have changed places again
+pub swap_back : {K V : Type 0} (c view put : List (K × V) × List (K × List (K × V))) (j : ℕ) (first now : List (K × V)) (more : List (K × List (K × V))) → (first, more) ≡ view → view ≡ swapped c.0 c.1 j → j ≤ length c.1 → put ≡ swapped now more j → put ≡ with_run c.0 c.1 j now
+swap_back c view put j first now more v w le p = p ∙ ap (λ d. swapped now d.1 j) (v ∙ w) ∙ swapped_back c.0 c.1 j now le
 
 -- a run that is put back as it was
 pub put_as_it_was : {K V : Type 0} (c : List (K × V) × List (K × List (K × V))) (j : ℕ) (now : List (K × V)) → now ≡ run_at c.0 c.1 j → with_run c.0 c.1 j now ≡ c

@@ -3,13 +3,13 @@ ghost use Rattle.std.specs.{Prelude.{◌≡◌, ◌↔◌, ◌<◌, ◌≤◌, [
 ghost use Rattle.std.specs.FinMap.{find};
 ghost use Rattle.chunked_pairs.specs.Chunks.{all_pairs};
 ghost use Rattle.sorted_pairs.specs.Places.{IsAt, IsGap};
-ghost use Rattle.join_law.specs.{Maps.{AreMapped, IsHeld, IsMap, MapBelow, is_none_or}, Order.{IsBetween, IsJoin, IsLeast}, Outcomes.{IsSeat}};
+ghost use Rattle.join_law.specs.{Maps.{AreMapped, IsHeld, IsMap, MapBelow, is_none_or}, Order.{IsBetween, IsJoin, IsLeast}};
 
 use crate::inserts::insert_pair;
 use crate::joins::Join;
 use crate::maps::JoinMap;
 use crate::runs::place_for;
-use chunked_pairs::{Chunks, Position};
+use chunked_pairs::Chunks;
 use plain_values::Key;
 use std::alloc::{AllocError, Global};
 
@@ -130,36 +130,10 @@ fn add_at_key<K: Key, A: Addition>(
         is_none_or (A.is_new addition) (find K.cmp key (all_pairs chunks.old)) ≡ false → IsOk result }
     ensures map { AreMapped K.cmp A.Value.below A.Value.is_valid chunks.new }
 {
-    match place_for(chunks, &key) {
-        Ok(position) => add_in_run(chunks, position, key, addition),
-        Err(_) => Err(AllocError),
-    }
-}
-
-// Joins where a key stands, or would be inserted.
-fn add_in_run<K: Key, A: Addition>(
-    chunks: &mut Chunks<K, A::Value>,
-    position: Position,
-    key: K,
-    addition: A,
-) -> Result<bool, AllocError>
-    requires map { AreMapped K.cmp A.Value.below A.Value.is_valid chunks.old }
-    requires seated { IsSeat K.cmp key chunks.old position.run position.index }
-    ensures ok { OnOk result (IsJoin (MapBelow K.cmp A.Value.below) (all_pairs chunks.old)
-        ((key, A.added addition) ∷ []) (all_pairs chunks.new)) }
-    ensures added { IfOk result (λ is_added. IsTrue is_added ↔
-        (IsTrue (is_none_or (A.is_new addition) (find K.cmp key (all_pairs chunks.old)))
-        × ¬ IsLeast (MapBelow K.cmp A.Value.below) ((key, A.added addition) ∷ []))) }
-    ensures refused { OnErr result (IsBetween (MapBelow K.cmp A.Value.below) (all_pairs chunks.old)
-        ((key, A.added addition) ∷ []) (all_pairs chunks.new)) }
-    ensures single { OnErr result (A.Value.is_single (A.added addition) → all_pairs chunks.new ≡ all_pairs chunks.old) }
-    ensures in_place { A.joins_in_place →
-        is_none_or (A.is_new addition) (find K.cmp key (all_pairs chunks.old)) ≡ false → IsOk result }
-    ensures map { AreMapped K.cmp A.Value.below A.Value.is_valid chunks.new }
-{
-    let mut run = chunks.take(position.run);
-    let outcome = join_at_key(&mut run, position.index, key, addition);
-    chunks.put(position.run, run);
+    let position = place_for(chunks, &key)?;
+    chunks.swap(position.run);
+    let outcome = join_at_key(&mut chunks.first, position.index, key, addition);
+    chunks.swap(position.run);
     outcome
 }
 

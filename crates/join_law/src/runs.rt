@@ -47,34 +47,6 @@ fn cut_for<K: Key, V: Join>(chunks: &mut Chunks<K, V>, key: &K) -> Result<Positi
     })
 }
 
-// Joins one pair where its key stands, or would be inserted.
-fn join_in_run<K: Key, V: Join>(
-    chunks: &mut Chunks<K, V>,
-    position: Position,
-    key: K,
-    value: V,
-) -> Result<bool, Rest<(K, V)>>
-    requires map { AreMapped K.cmp V.below V.is_valid chunks.old }
-    requires seated { IsSeat K.cmp key chunks.old position.run position.index }
-    ensures map { AreMapped K.cmp V.below V.is_valid chunks.new }
-    ensures ok { OnOk result (IsJoin (MapBelow K.cmp V.below) (all_pairs chunks.old)
-        ((key, value) ∷ []) (all_pairs chunks.new)) }
-    ensures added { IfOk result (λ added. IsTrue added ↔
-        ((find K.cmp key (all_pairs chunks.old) ≡ None) × ¬ IsLeast V.below value)) }
-    ensures key { IfErr result (λ fault. fault.rest.0 ≡ key) }
-    ensures refused { IfErr result (λ fault. IsPartialJoin (MapBelow K.cmp V.below) (all_pairs chunks.old)
-        ((key, value) ∷ []) (all_pairs chunks.new) (fault.rest ∷ [])) }
-    ensures left { IfErr result (λ fault. ¬ IsLeast V.below fault.rest.1) }
-    ensures rest_valid { IfErr result (λ fault. V.is_valid fault.rest.1) }
-    ensures single { IfErr result (λ _. V.is_single value → all_pairs chunks.new ≡ all_pairs chunks.old) }
-    ensures in_place { V.joins_in_place → IsSome (find K.cmp key (all_pairs chunks.old)) → IsOk result }
-{
-    let mut run = chunks.take(position.run);
-    let outcome = join_pair(&mut run, position.index, key, value);
-    chunks.put(position.run, run);
-    outcome
-}
-
 // Joins one pair, and returns whether its key was added. A bottom value changes nothing.
 pub fn join_key<K: Key, V: Join>(
     chunks: &mut Chunks<K, V>,
@@ -99,7 +71,12 @@ pub fn join_key<K: Key, V: Join>(
         return Ok(false);
     }
     match place_for(chunks, &key) {
-        Ok(position) => join_in_run(chunks, position, key, value),
+        Ok(position) => {
+            chunks.swap(position.run);
+            let outcome = join_pair(&mut chunks.first, position.index, key, value);
+            chunks.swap(position.run);
+            outcome
+        }
         Err(_) => Err(Rest { rest: (key, value) }),
     }
 }
