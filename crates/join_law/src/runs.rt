@@ -1,7 +1,7 @@
-//! Edits of a map in chunks: a run is taken out, edited as one vector, and put back.
-ghost use Rattle.std.specs.{Prelude.{◌≡◌, ◌≢◌, ◌↔◌, ◌<◌, ◌≤◌, [], ◌∷◌, None, length, IsTrue, IsSome, IsOk, IfOk, OnOk, OnErr, IfErr}, FinMap.{find}};
-ghost use Rattle.chunked_pairs.specs.Chunks.{all_pairs, FallsTo, run_at};
-ghost use Rattle.join_law.specs.{Maps.{AreMapped, IsHeld, IsMap, MapBelow}, Order.{IsJoin, IsLeast, IsPartialJoin}, Outcomes.{IsSeat}};
+//! Edits of a map in chunks: a run changes places with the first one, is edited there as one vector, and goes back.
+ghost use Rattle.std.specs.{Prelude.{◌≡◌, ◌↔◌, [], ◌∷◌, None, IsTrue, IsSome, IsOk, IfOk, OnOk, OnErr, IfErr}, FinMap.{find}};
+ghost use Rattle.chunked_pairs.specs.Chunks.{all_pairs};
+ghost use Rattle.join_law.specs.{Maps.{AreMapped, MapBelow}, Order.{IsJoin, IsLeast, IsPartialJoin}, Outcomes.{IsSeat}};
 
 use crate::edits::join_pair;
 use crate::joins::{Join, Rest};
@@ -12,7 +12,10 @@ use std::alloc::AllocError;
 // Returns where a key stands, or would be inserted, in a run that has room for it. Takes no memory if the key is held. A
 // refusal changes nothing.
 #[inline(always)]
-pub fn place_for<K: Key, V: Join>(chunks: &mut Chunks<K, V>, key: &K) -> Result<Position, AllocError>
+pub fn place_for<K: Key, V: Join>(
+    chunks: &mut Chunks<K, V>,
+    key: &K,
+) -> Result<Position, AllocError>
     requires map { AreMapped K.cmp V.below V.is_valid chunks.old }
     ensures map { AreMapped K.cmp V.below V.is_valid chunks.new }
     ensures same { all_pairs chunks.new ≡ all_pairs chunks.old }
