@@ -3,7 +3,8 @@
 //!
 //! Promise: merge is the least upper bound.
 //!
-//! - `Chunks`: the runs, which are searched, taken out, put back and cut in two.
+//! - `Chunks`: the runs, which are searched, edited one at a time, and cut in two.
+//! - `Position`: where a key stands, or where it would be inserted.
 //! - `Pairs`: a cursor over the pairs, which also meets keys in ascending order.
 //! - `Sought`: a key that is looked for, maybe in another form than the keys that are held.
 #![tactic(auto)]
