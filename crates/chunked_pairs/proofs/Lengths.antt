@@ -1,6 +1,6 @@
 -- How many pairs there are, and how many fall to a run.
 use Rattle.std.proofs.Common.{◌+◌, ◌++◌, ◌<◌, ◌∷◌, ◌≡◌, ◌≢◌, ◌≤◌}
-use Rattle.chunked_pairs.proofs.Prelude.{[], AllKeys, and_parts, ap, AreChained, arith, below_all, FallsTo, first_run, from_below, get_or, Greater, is_less, is_sorted, IsAt, IsGap, IsTotalOrder, IsTrue, keys_fall, keys_parts, later, length, length-append, Less, List, not_below, Ordering, refl, run_at, subst, suc, sym, take, turned, Vec, viewed, zero, ℕ, ◌∙◌}
+use Rattle.chunked_pairs.proofs.Prelude.{[], AllKeys, and_parts, ap, AreChained, arith, below_all, Equal, FallsTo, first_run, from_below, get_or, Greater, is_less, is_sorted, IsAt, IsGap, IsTotalOrder, IsTrue, keys_fall, keys_parts, later, length, length-append, Less, List, not_below, Ordering, refl, run_at, subst, suc, sym, take, turned, Vec, viewed, zero, ℕ, ◌∙◌}
 use Rattle.chunked_pairs.specs.Chunks.{AreShort}
 
 pub short_runs : {K V : Type 0} (R : K → K → Ordering) (o : IsTotalOrder R) (run : List (K × V)) (ms : List (K × List (K × V))) → AreChained R run ms → AreShort ms
@@ -79,6 +79,16 @@ module _ {K V : Type 0} (R : K → K → Ordering) (o : IsTotalOrder R) where
   falls_under k s (m ∷ ms) zero d f e lt = subst (λ x. R k x ≡ Less) (sym e) f
   falls_under k s (m ∷ ms) (suc j) d f e lt = falls_under k s ms j d f.1 e (omega arith)
 
+  at_index : (s : K) (es : List (K × V)) (i : ℕ) (d : K × V) → IsAt R s es i → R s (get_or es i d).0 ≡ Equal
+  at_index s [] i d a = absurd a
+  at_index s (e ∷ es) zero d a = a
+  at_index s (e ∷ es) (suc i) d a = at_index s es i d a.1
+
+  gap_index : (s : K) (es : List (K × V)) (i : ℕ) (d : K × V) → IsGap R s es i → i < length es → R s (get_or es i d).0 ≡ Less
+  gap_index s [] i d g lt = absurd (omega arith)
+  gap_index s (e ∷ es) zero d g lt = g
+  gap_index s (e ∷ es) (suc i) d g lt = gap_index s es i d g.1 (omega arith)
+
   module _ (s : K) (ms : List (K × List (K × V))) (j : ℕ) (is : (d : K × List (K × V)) → s ≡ (get_or ms j d).0) (lt : j < length ms) where
     fit_more : (e : K × V) (es : List (K × V)) (i : ℕ) → IsTrue (is_sorted R (e ∷ es)) → FallsTo R e.0 ms j → AllKeys (λ q. R q s ≡ Less) (take i es) → AllKeys (λ q. FallsTo R q ms j) (take (suc i) (e ∷ es))
     fit_more e es i h f under = (
@@ -96,3 +106,16 @@ module _ {K V : Type 0} (R : K → K → Ordering) (o : IsTotalOrder R) where
     fit_gap [] i h some f a = absurd (omega arith)
     fit_gap (e ∷ es) zero h some f a = let t = turned R o e.0 s Less (falls_under e.0 s ms j (s, []) f.0 (is (s, [])) lt) in cc (t, a)
     fit_gap (e ∷ es) (suc i) h some f a = (omega arith, fit_more e es i h f.0 (lesser_keys (λ q. R q s ≡ Less) s es i a.1 (λ q l. l)))
+
+    -- a pair at or above the next separator doesn't fall to the run
+    pub none_at : (es : List (K × V)) (i : ℕ) (d : K × V) → IsAt R s es i → ¬ FallsTo R (get_or es i d).0 ms j
+    none_at es i d a f =
+        let same = turned R o s (get_or es i d).0 Equal (at_index s es i d a) in
+        let under = falls_under (get_or es i d).0 s ms j (s, []) f (is (s, [])) lt in
+        cc (same, under)
+
+    pub none_from : (es : List (K × V)) (i : ℕ) (d : K × V) → IsGap R s es i → i < length es → ¬ FallsTo R (get_or es i d).0 ms j
+    none_from es i d g le f =
+        let above = turned R o s (get_or es i d).0 Less (gap_index s es i d g le) in
+        let under = falls_under (get_or es i d).0 s ms j (s, []) f (is (s, [])) lt in
+        cc (above, under)

@@ -271,6 +271,8 @@ impl<K: Key, V: Drop> Chunks<K, V> {
         ensures some { 0 < result }
         ensures within { result ≤ length pairs.now }
         ensures falls { AllKeys (λ q. FallsTo K.cmp q self.now.1 at) (take result pairs.now) }
+        ensures most { result < length pairs.now →
+            (d : K × V) → ¬ FallsTo K.cmp (slice_index_or pairs.now result d).0 self.now.1 at }
     {
         if at >= self.more.len() {
             return pairs.len();

@@ -65,8 +65,8 @@ impl Piece {
         Piece { store }
     }
 
-    // Returns the piece's store by value.
-    pub(crate) fn into_store(self) -> Store
+    /// Returns the piece's entries as a store. Allocates nothing.
+    pub fn into_store(self) -> Store
         ensures store { result ≡ self }
     {
         let Piece { store } = self;

@@ -89,7 +89,10 @@ impl Shell {
             return Ok(0);
         }
         let piece = delta_between(alloc, self.nodes[from].replica(), self.nodes[to].replica())?;
-        self.nodes[to].merge(piece.store())
+        match self.nodes[to].absorb(piece.into_store()) {
+            Ok(changed) => Ok(changed),
+            Err(_) => Err(AllocError),
+        }
     }
 
     // Merges each of the other nodes into the first.

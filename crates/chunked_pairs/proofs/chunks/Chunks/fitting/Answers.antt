@@ -1,5 +1,5 @@
 use Rattle.std.proofs.Common.{◌<◌, ◌≡◌, ◌≤◌}
-use Rattle.chunked_pairs.proofs.{Lengths.{fit_at, fit_gap, fit_last}, Prelude.{arith, get_or, length, subst, viewed}, Views.{length_viewed, viewed_get}}
+use Rattle.chunked_pairs.proofs.{Lengths.{fit_at, fit_gap, fit_last, none_at, none_from}, Prelude.{arith, get_or, length, subst, viewed}, Views.{length_viewed, viewed_get}}
 use Rattle.chunked_pairs.proofs.chunks.Chunks.fitting.Goals as goal
 
 pub returns-then-at-len-clause-falls : goal.returns-then-at-len-clause-falls
@@ -15,7 +15,10 @@ returns-in-Ok g c =
     (λ d. subst (λ v. c.index.result.now.0 ≡ (get_or v.1 c.args.at d).0) c.self.view_is (viewed_get c.self.inside.more.items c.args.at c.index.result.now d lt c.index.ensures))
     (subst (λ v. c.args.at < length v.1) c.self.view_is under)
     c.args.pairs.now c.in-Ok.fitting c.requires.sorted c.requires.some c.requires.falls c.in-Ok.ensures.found in
-    record { some = fit.0; within = omega (arith, c.in-Ok.ensures.at_within); falls = fit.1 }
+    let most = none_at g.K.Ord.cmp g.met.K.Ord.total c.index.result.now.0 c.args.self.now.1 c.args.at
+    (λ d. subst (λ v. c.index.result.now.0 ≡ (get_or v.1 c.args.at d).0) c.self.view_is (viewed_get c.self.inside.more.items c.args.at c.index.result.now d lt c.index.ensures))
+    (subst (λ v. c.args.at < length v.1) c.self.view_is under) c.args.pairs.now c.in-Ok.fitting in
+    record { some = fit.0; within = omega (arith, c.in-Ok.ensures.at_within); falls = fit.1; most = λ _ d. most d c.in-Ok.ensures.found }
 
 pub returns-in-Err : goal.returns-in-Err
 returns-in-Err g c =
@@ -25,4 +28,7 @@ returns-in-Err g c =
     (λ d. subst (λ v. c.index.result.now.0 ≡ (get_or v.1 c.args.at d).0) c.self.view_is (viewed_get c.self.inside.more.items c.args.at c.index.result.now d lt c.index.ensures))
     (subst (λ v. c.args.at < length v.1) c.self.view_is under)
     c.args.pairs.now c.in-Err.fitting c.requires.sorted c.requires.some c.requires.falls c.in-Err.ensures.absent in
-    record { some = fit.0; within = c.in-Err.ensures.gap_within; falls = fit.1 }
+    let most = none_from g.K.Ord.cmp g.met.K.Ord.total c.index.result.now.0 c.args.self.now.1 c.args.at
+    (λ d. subst (λ v. c.index.result.now.0 ≡ (get_or v.1 c.args.at d).0) c.self.view_is (viewed_get c.self.inside.more.items c.args.at c.index.result.now d lt c.index.ensures))
+    (subst (λ v. c.args.at < length v.1) c.self.view_is under) c.args.pairs.now c.in-Err.fitting in
+    record { some = fit.0; within = c.in-Err.ensures.gap_within; falls = fit.1; most = λ more d. most d c.in-Err.ensures.absent more }
