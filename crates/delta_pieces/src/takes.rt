@@ -15,7 +15,7 @@ pub struct TakeFault {
 }
 
 /// Joins a piece into a replica, and returns how many places changed. Reads both side by side; joining then costs a
-/// search for each new entry, or one pass over both, whichever is less.
+/// search for each entry.
 ///
 /// If memory runs out, the replica's store lies between its old state and the join, and taking the returned rest
 /// completes the join; if the piece has one entry, the replica is unchanged.

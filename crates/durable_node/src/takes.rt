@@ -95,8 +95,8 @@ impl<L: EditLog> NodeFile<L> {
         Ok(changed)
     }
 
-    /// Joins a piece into the replica alone, as `take` does, but copies nothing of the replica: costs what the piece has, a
-    /// search for each of its places, or one pass over both, whichever is less.
+    /// Joins a piece into the replica alone, as `take` does, but copies nothing of the replica: costs what the piece has,
+    /// and a search for each of its places.
     ///
     /// Fails with `Counter` exactly if the piece has a counter of 2^63 or more, and changes nothing. Fails with `Memory` only
     /// if memory runs out: then it changes nothing, or the node is spent, and what stands in its log is as it was.

@@ -375,7 +375,7 @@ impl Store {
     }
 
     /// Joins what another store holds, and answers how many places changed. Both are read side by side; where there is
-    /// news, the join then costs what is news and a search for each, or one pass over both, whichever is less.
+    /// news, the join then costs a search for each entry of the other, and a map that is empty here is taken over.
     ///
     /// Where memory is refused, the store lies between what it was and the join, and joining the rest that comes back
     /// gives that join; where the other has one entry, the store is as it was.

@@ -190,8 +190,7 @@ impl Replica {
     }
 
     /// Joins what a store holds, and returns how many places changed. Reads both side by side to count what changes; if
-    /// anything does, the join costs the changed entries and a search for each, or one pass over both, whichever is
-    /// less.
+    /// anything does, the join costs a search for each entry of the other store.
     ///
     /// Fails only if memory runs out. The store then lies between what it was and the join, and joining the returned
     /// rest gives that join; if the other store has just one entry, the replica is unchanged.
