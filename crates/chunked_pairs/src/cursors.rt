@@ -55,6 +55,18 @@ impl<'a, K: Ord, V> Pairs<'a, K, V> {
             self.left = left;
             return Some(pair);
         }
+        self.next_of_any()
+    }
+
+    // Returns the same as `next`, which calls this only where a run is passed.
+    #[inline(never)]
+    fn next_of_any(&mut self) -> Option<&'a (K, V)>
+        ensures first { MatchOption result ((self.old ≡ []) × (self.new ≡ [])) (λ pair. self.old ≡ pair.now ∷ self.new) }
+    {
+        if let Some((pair, left)) = self.left.split_first() {
+            self.left = left;
+            return Some(pair);
+        }
         let (behind, more) = self.more.split_first()?;
         let (pair, left) = behind.1.split_first()?;
         self.left = left;
@@ -85,6 +97,24 @@ impl<'a, K: Ord, V> Pairs<'a, K, V> {
         ensures found { option_copied result ≡ find K.cmp key.now self.old }
         ensures after { (k : K) → K.cmp key.now k ≡ Less → find K.cmp k self.new ≡ find K.cmp k self.old }
     {
+        let (order, left) = pass_near(self.left, key);
+        self.left = left;
+        match order {
+            Ordering::Less => self.meet_further(key),
+            Ordering::Equal => {
+                let pair = self.next()?;
+                Some(&pair.1)
+            }
+            Ordering::Greater => None,
+        }
+    }
+
+    // Returns the same as `meet`: looks at the first pairs of the next run, if none is left of this one, and searches then.
+    #[inline(never)]
+    fn meet_further(&mut self, key: &K) -> Option<&'a V>
+        ensures found { option_copied result ≡ find K.cmp key.now self.old }
+        ensures after { (k : K) → K.cmp key.now k ≡ Less → find K.cmp k self.new ≡ find K.cmp k self.old }
+    {
         self.step();
         let (order, left) = pass_near(self.left, key);
         self.left = left;
@@ -99,7 +129,6 @@ impl<'a, K: Ord, V> Pairs<'a, K, V> {
     }
 
     // Goes on to the next run, if none is left of this one.
-    #[inline(always)]
     fn step(&mut self)
         ensures same { self.new ≡ self.old }
     {

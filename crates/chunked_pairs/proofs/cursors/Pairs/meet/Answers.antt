@@ -13,15 +13,15 @@ invariant_of-self-in-Greater g c = after_chained g.K.Ord.cmp g.met.K.Ord.total c
 pub returns-in-Less-clause-found : goal.returns-in-Less-clause-found
 returns-in-Less-clause-found g c =
     let k = c.args.key.now in
-    c.search.ensures.found
+    c.meet_further.ensures.found
     ∙ after_find g.K.Ord.cmp g.met.K.Ord.total k c.self.inside.left.now c.pass_near-order.result.1.now (later (viewed c.self.inside.more.now)) c.pass_near-order.ensures.after k (not_itself g.K.Ord.cmp g.met.K.Ord.total k)
-    ∙ ap (find g.K.Ord.cmp k) (c.self.view_is ∙ c.step.ensures.same)
+    ∙ ap (find g.K.Ord.cmp k) c.self.view_is
 
 pub returns-in-Less-clause-after : goal.returns-in-Less-clause-after
 returns-in-Less-clause-after g c k less =
-    c.search.ensures.after k less
+    c.meet_further.ensures.after k less
     ∙ after_find g.K.Ord.cmp g.met.K.Ord.total c.args.key.now c.self.inside.left.now c.pass_near-order.result.1.now (later (viewed c.self.inside.more.now)) c.pass_near-order.ensures.after k (not_below g.K.Ord.cmp g.met.K.Ord.total c.args.key.now k less)
-    ∙ ap (find g.K.Ord.cmp k) (c.self.view_is ∙ c.step.ensures.same)
+    ∙ ap (find g.K.Ord.cmp k) c.self.view_is
 
 pub returns-in_ok-pair-in-Equal-clause-found : goal.returns-in_ok-pair-in-Equal-clause-found
 returns-in_ok-pair-in-Equal-clause-found g c =
@@ -30,7 +30,7 @@ returns-in_ok-pair-in-Equal-clause-found g c =
     let ys = later (viewed c.self.inside.more.now) in
     (met g.K.Ord.cmp g.met.K.Ord.total k left ys c.next.new.self c.in_ok-pair-in-Equal.pair.now c.pass_near-order.result.0 c.pass_near-order.ensures.order c.in-Equal.is c.in_ok-pair-in-Equal.ensures.first).0
     ∙ after_find g.K.Ord.cmp g.met.K.Ord.total k c.self.inside.left.now left ys c.pass_near-order.ensures.after k (not_itself g.K.Ord.cmp g.met.K.Ord.total k)
-    ∙ ap (find g.K.Ord.cmp k) (c.self.view_is ∙ c.step.ensures.same)
+    ∙ ap (find g.K.Ord.cmp k) c.self.view_is
 
 pub returns-in_ok-pair-in-Equal-clause-after : goal.returns-in_ok-pair-in-Equal-clause-after
 returns-in_ok-pair-in-Equal-clause-after g c k less =
@@ -38,7 +38,7 @@ returns-in_ok-pair-in-Equal-clause-after g c k less =
     let ys = later (viewed c.self.inside.more.now) in
     (met g.K.Ord.cmp g.met.K.Ord.total c.args.key.now left ys c.next.new.self c.in_ok-pair-in-Equal.pair.now c.pass_near-order.result.0 c.pass_near-order.ensures.order c.in-Equal.is c.in_ok-pair-in-Equal.ensures.first).1 k less
     ∙ after_find g.K.Ord.cmp g.met.K.Ord.total c.args.key.now c.self.inside.left.now left ys c.pass_near-order.ensures.after k (not_below g.K.Ord.cmp g.met.K.Ord.total c.args.key.now k less)
-    ∙ ap (find g.K.Ord.cmp k) (c.self.view_is ∙ c.step.ensures.same)
+    ∙ ap (find g.K.Ord.cmp k) c.self.view_is
 
 pub returns-in-Greater-clause-found : goal.returns-in-Greater-clause-found
 returns-in-Greater-clause-found g c =
@@ -47,9 +47,9 @@ returns-in-Greater-clause-found g c =
     let ms = viewed c.self.inside.more.now in
     unmet g.K.Ord.cmp g.met.K.Ord.total k left ms c.pass_near-order.result.0 c.pass_near-order.ensures.order c.in-Greater.is (after_chained g.K.Ord.cmp g.met.K.Ord.total k c.self.inside.left.now left ms c.pass_near-order.ensures.after c.self.invariant)
     ∙ after_find g.K.Ord.cmp g.met.K.Ord.total k c.self.inside.left.now left (later ms) c.pass_near-order.ensures.after k (not_itself g.K.Ord.cmp g.met.K.Ord.total k)
-    ∙ ap (find g.K.Ord.cmp k) (c.self.view_is ∙ c.step.ensures.same)
+    ∙ ap (find g.K.Ord.cmp k) c.self.view_is
 
 pub returns-in-Greater-clause-after : goal.returns-in-Greater-clause-after
 returns-in-Greater-clause-after g c k less =
     after_find g.K.Ord.cmp g.met.K.Ord.total c.args.key.now c.self.inside.left.now c.pass_near-order.result.1.now (later (viewed c.self.inside.more.now)) c.pass_near-order.ensures.after k (not_below g.K.Ord.cmp g.met.K.Ord.total c.args.key.now k less)
-    ∙ ap (find g.K.Ord.cmp k) (c.self.view_is ∙ c.step.ensures.same)
+    ∙ ap (find g.K.Ord.cmp k) c.self.view_is
