@@ -90,8 +90,8 @@ impl<'a, K: Ord, V> Pairs<'a, K, V> {
     }
 
     /// Returns the value at a key, and passes the pairs up to the key: what is left serves greater keys. A comparison for
-    /// each of the first pairs that are passed; where the key lies further on, also a search among the runs, and one in a
-    /// run. Allocates nothing.
+    /// each of the first pairs that are passed, and of the next run's where this one is passed; where the key lies further
+    /// on, also a search among the runs, and one in a run. Allocates nothing.
     #[inline(always)]
     pub fn meet(&mut self, key: &K) -> Option<&'a V>
         ensures found { option_copied result ≡ find K.cmp key.now self.old }

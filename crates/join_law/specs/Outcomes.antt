@@ -29,7 +29,7 @@ module _ {K V : Type 0} (R : K → K → Ordering) where
   IsRoomFor run pairs = (length run + length pairs ≤ 128) ⊎ AllKeys (λ q. find R q run ≢ None) pairs
 
   -- where a key stands in a run, or would be inserted in one that has room
-  pub record IsSeat (k : K) (c : List (K × V) × List (K × List (K × V))) (at : ℕ) (index : Result ℕ ℕ) : Type 0 where
+  pub record IsPosition (k : K) (c : List (K × V) × List (K × List (K × V))) (at : ℕ) (index : Result ℕ ℕ) : Type 0 where
     pub within : at ≤ length c.1
     pub falls : FallsTo R k c.1 at
     pub found : IfOk index (IsAt R k (run_at c.0 c.1 at))

@@ -1,7 +1,7 @@
 //! Edits of a map in chunks: a run changes places with the first one, is edited there as one vector, and goes back.
 ghost use Rattle.std.specs.{Prelude.{◌≡◌, ◌↔◌, [], ◌∷◌, None, IsTrue, IsSome, IsOk, IfOk, OnOk, OnErr, IfErr}, FinMap.{find}};
 ghost use Rattle.chunked_pairs.specs.Chunks.{all_pairs};
-ghost use Rattle.join_law.specs.{Maps.{AreMapped, MapBelow}, Order.{IsJoin, IsLeast, IsPartialJoin}, Outcomes.{IsSeat}};
+ghost use Rattle.join_law.specs.{Maps.{AreMapped, MapBelow}, Order.{IsJoin, IsLeast, IsPartialJoin}, Outcomes.{IsPosition}};
 
 use crate::edits::join_pair;
 use crate::joins::{Join, Rest};
@@ -21,7 +21,7 @@ pub fn place_for<K: Key, V: Join>(
     ensures same { all_pairs chunks.new ≡ all_pairs chunks.old }
     ensures err { OnErr result (chunks.new ≡ chunks.old) }
     ensures known { IsSome (find K.cmp key.now (all_pairs chunks.old)) → IsOk result }
-    ensures seated { IfOk result (λ p. IsSeat K.cmp key.now chunks.new p.run p.index) }
+    ensures position { IfOk result (λ p. IsPosition K.cmp key.now chunks.new p.run p.index) }
 {
     let position = chunks.seek(key);
     match position.index {
@@ -41,7 +41,7 @@ fn cut_for<K: Key, V: Join>(chunks: &mut Chunks<K, V>, key: &K) -> Result<Positi
     ensures map { AreMapped K.cmp V.below V.is_valid chunks.new }
     ensures same { all_pairs chunks.new ≡ all_pairs chunks.old }
     ensures err { OnErr result (chunks.new ≡ chunks.old) }
-    ensures seated { IfOk result (λ p. IsSeat K.cmp key.now chunks.new p.run p.index) }
+    ensures position { IfOk result (λ p. IsPosition K.cmp key.now chunks.new p.run p.index) }
 {
     let run = chunks.room_for(key, HALF)?;
     Ok(Position {

@@ -7,10 +7,10 @@ use Rattle.join_law.proofs.additions.add_at_key.Goals as goal
 
 pub join_at_key-outcome-requires-clause-map : goal.join_at_key-outcome-requires-clause-map
 join_at_key-outcome-requires-clause-map g c = rw (first_is c.place_for.new.chunks c.swap.new.self c.in_ok-position.position.run c.chunks.inside.first.items _ c.chunks.view_is c.swap.ensures.swapped)
-    (run_is_map g.K.Ord.cmp g.met.K.Ord.total g.A.Value.Join.is_valid g.A.Value.Join.below g.met.A.Value.Join.reflexive g.met.A.Value.Join.transitive g.A.Value.Join.join g.met.A.Value.Join.joins c.place_for.new.chunks c.in_ok-position.ensures.map c.in_ok-position.position.run c.in_ok-position.ensures.seated.within)
+    (run_is_map g.K.Ord.cmp g.met.K.Ord.total g.A.Value.Join.is_valid g.A.Value.Join.below g.met.A.Value.Join.reflexive g.met.A.Value.Join.transitive g.A.Value.Join.join g.met.A.Value.Join.joins c.place_for.new.chunks c.in_ok-position.ensures.map c.in_ok-position.position.run c.in_ok-position.ensures.position.within)
 
 pub swap-requires-2 : goal.swap-requires-2
-swap-requires-2 g c = record { within = more_is c.place_for.new.chunks c.swap.new.self c.in_ok-position.position.run c.chunks.inside.first.items _ c.chunks.view_is c.swap.ensures.swapped c.in_ok-position.ensures.seated.within }
+swap-requires-2 g c = record { within = more_is c.place_for.new.chunks c.swap.new.self c.in_ok-position.position.run c.chunks.inside.first.items _ c.chunks.view_is c.swap.ensures.swapped c.in_ok-position.ensures.position.within }
 
 first : (g : Over) (c : goal.After-swap-2 g) → c.chunks.inside.first.items ≡ run_at c.place_for.new.chunks.0 c.place_for.new.chunks.1 c.in_ok-position.position.run
 first g c = first_is c.place_for.new.chunks c.swap.new.self c.in_ok-position.position.run c.chunks.inside.first.items _ c.chunks.view_is c.swap.ensures.swapped
@@ -18,15 +18,15 @@ first g c = first_is c.place_for.new.chunks c.swap.new.self c.in_ok-position.pos
 edit : (g : Over) (c : goal.After-swap-2 g) → IsRunEdit g.K.Ord.cmp g.A.Value.Join.is_valid g.A.Value.Join.below c.place_for.new.chunks c.in_ok-position.position.run ((c.args.key, g.A.Addition.added c.args.addition) ∷ []) c.join_at_key-outcome.new.pairs.items c.swap-2.new.self
 edit g c = record {
   mapped = c.in_ok-position.ensures.map;
-  within = c.in_ok-position.ensures.seated.within;
-  falls = (c.in_ok-position.ensures.seated.falls, tt);
-  room = room_for_key g.K.Ord.cmp g.met.K.Ord.total g.A.Value.Join.is_valid g.A.Value.Join.below g.met.A.Value.Join.reflexive g.met.A.Value.Join.transitive g.A.Value.Join.join g.met.A.Value.Join.joins c.place_for.new.chunks c.in_ok-position.ensures.map c.in_ok-position.position.run c.in_ok-position.ensures.seated.within c.args.key (g.A.Addition.added c.args.addition) c.in_ok-position.ensures.seated.room;
+  within = c.in_ok-position.ensures.position.within;
+  falls = (c.in_ok-position.ensures.position.falls, tt);
+  room = room_for_key g.K.Ord.cmp g.met.K.Ord.total g.A.Value.Join.is_valid g.A.Value.Join.below g.met.A.Value.Join.reflexive g.met.A.Value.Join.transitive g.A.Value.Join.join g.met.A.Value.Join.joins c.place_for.new.chunks c.in_ok-position.ensures.map c.in_ok-position.position.run c.in_ok-position.ensures.position.within c.args.key (g.A.Addition.added c.args.addition) c.in_ok-position.ensures.position.room;
   map = c.join_at_key-outcome.ensures.map;
   between = by_outcome c.join_at_key-outcome.result
       (join_between g.K.Ord.cmp g.A.Value.Join.below g.met.A.Value.Join.reflexive g.met.A.Value.Join.transitive _ _ _)
       (λ between. between)
       (rw (first g c) at c.join_at_key-outcome.ensures.ok) (rw (first g c) at c.join_at_key-outcome.ensures.refused);
-  put_is = swap_back c.place_for.new.chunks c.swap.new.self c.swap-2.new.self c.in_ok-position.position.run c.chunks.inside.first.items c.join_at_key-outcome.new.pairs.items _ c.chunks.view_is c.swap.ensures.swapped c.in_ok-position.ensures.seated.within c.swap-2.ensures.swapped;
+  put_is = swap_back c.place_for.new.chunks c.swap.new.self c.swap-2.new.self c.in_ok-position.position.run c.chunks.inside.first.items c.join_at_key-outcome.new.pairs.items _ c.chunks.view_is c.swap.ensures.swapped c.in_ok-position.ensures.position.within c.swap-2.ensures.swapped;
 }
 
 pub returns-clause-map : goal.returns-clause-map
@@ -48,9 +48,9 @@ returns-clause-single g c =
     (rw (first g c) at c.join_at_key-outcome.ensures.single)
 
 pub returns-clause-added : goal.returns-clause-added
-returns-clause-added g c = rw (sym c.in_ok-position.ensures.same) (rw (find_in_run g.K.Ord.cmp g.met.K.Ord.total g.A.Value.Join.is_valid g.A.Value.Join.below g.met.A.Value.Join.reflexive g.met.A.Value.Join.transitive g.A.Value.Join.join g.met.A.Value.Join.joins c.place_for.new.chunks c.in_ok-position.ensures.map c.in_ok-position.position.run c.in_ok-position.ensures.seated.within c.args.key c.in_ok-position.ensures.seated.falls)
+returns-clause-added g c = rw (sym c.in_ok-position.ensures.same) (rw (find_in_run g.K.Ord.cmp g.met.K.Ord.total g.A.Value.Join.is_valid g.A.Value.Join.below g.met.A.Value.Join.reflexive g.met.A.Value.Join.transitive g.A.Value.Join.join g.met.A.Value.Join.joins c.place_for.new.chunks c.in_ok-position.ensures.map c.in_ok-position.position.run c.in_ok-position.ensures.position.within c.args.key c.in_ok-position.ensures.position.falls)
     (rw (first g c) at c.join_at_key-outcome.ensures.added))
 
 pub returns-clause-in_place : goal.returns-clause-in_place
-returns-clause-in_place g c = rw (sym c.in_ok-position.ensures.same) (rw (find_in_run g.K.Ord.cmp g.met.K.Ord.total g.A.Value.Join.is_valid g.A.Value.Join.below g.met.A.Value.Join.reflexive g.met.A.Value.Join.transitive g.A.Value.Join.join g.met.A.Value.Join.joins c.place_for.new.chunks c.in_ok-position.ensures.map c.in_ok-position.position.run c.in_ok-position.ensures.seated.within c.args.key c.in_ok-position.ensures.seated.falls)
+returns-clause-in_place g c = rw (sym c.in_ok-position.ensures.same) (rw (find_in_run g.K.Ord.cmp g.met.K.Ord.total g.A.Value.Join.is_valid g.A.Value.Join.below g.met.A.Value.Join.reflexive g.met.A.Value.Join.transitive g.A.Value.Join.join g.met.A.Value.Join.joins c.place_for.new.chunks c.in_ok-position.ensures.map c.in_ok-position.position.run c.in_ok-position.ensures.position.within c.args.key c.in_ok-position.ensures.position.falls)
     (rw (first g c) at c.join_at_key-outcome.ensures.in_place))

@@ -5,7 +5,7 @@ use Rattle.join_law.proofs.merges.join_some.Goals as goal
 pub room_in-requires : goal.room_in-requires
 room_in-requires g c = record {
   within = rw c.run.ensures.run
-      (is_run g.K.Ord.cmp g.met.K.Ord.total g.V.Join.is_valid g.V.Join.below g.met.V.Join.reflexive g.met.V.Join.transitive g.V.Join.join g.met.V.Join.joins c.place_for.new.chunks c.in_ok-at.ensures.map c.in_ok-at.field-0.run c.in_ok-at.ensures.seated.within).within;
+      (is_run g.K.Ord.cmp g.met.K.Ord.total g.V.Join.is_valid g.V.Join.below g.met.V.Join.reflexive g.met.V.Join.transitive g.V.Join.join g.met.V.Join.joins c.place_for.new.chunks c.in_ok-at.ensures.map c.in_ok-at.field-0.run c.in_ok-at.ensures.position.within).within;
 }
 
 pub join_in_run-requires-clause-pairs_map : goal.join_in_run-requires-clause-pairs_map
@@ -17,7 +17,7 @@ join_in_run-requires-clause-falls g c = fewer_keys _ c.args.pairs.now c.min-coun
 pub join_in_run-requires-clause-room : goal.join_in_run-requires-clause-room
 join_in_run-requires-clause-room g c =
     room_for_some g.K.Ord.cmp _ c.args.pairs.now c.index-pairs-0.result c.min-count.result c.room_in.result c.requires.some (omega (arith, c.min-count.ensures))
-    (rw c.run.ensures.run at c.room_in.ensures.room) (rw c.run.ensures.run at c.room_in.ensures.full) c.in_ok-at.ensures.seated.room
+    (rw c.run.ensures.run at c.room_in.ensures.room) (rw c.run.ensures.run at c.room_in.ensures.full) c.in_ok-at.ensures.position.room
 
 pub returns-in_err-join_in_run-clause-refused : goal.returns-in_err-join_in_run-clause-refused
 returns-in_err-join_in_run-clause-refused g c =

@@ -4,8 +4,8 @@ use Rattle.chunked_pairs.specs.Chunks.{all_pairs}
 use Rattle.join_law.proofs.RunSteps.{at_some, find_in_run, run_is_map}
 use Rattle.join_law.proofs.runs.place_for.Goals as goal
 
-pub returns-in-Ok-clause-seated : goal.returns-in-Ok-clause-seated
-returns-in-Ok-clause-seated g c = record {
+pub returns-in-Ok-clause-position : goal.returns-in-Ok-clause-position
+returns-in-Ok-clause-position g c = record {
   within = c.seek-position.ensures.within;
   falls = c.seek-position.ensures.falls;
   found = c.seek-position.ensures.found;
