@@ -35,16 +35,13 @@ impl<C: Cursor, O: Cursor<Item = C>> Cursor for Nested<C, O> {
 
     #[inline(always)]
     fn next(&mut self) -> Option<C::Item> {
-        if let Some(item) = next_of(&mut self.inner) {
-            return Some(item);
-        }
-        while let Some(mut inner) = self.outer.next() {
-            if let Some(item) = inner.next() {
-                self.inner = Some(inner);
+        // Each cursor is called in one place: inlining would double what it copies at each depth otherwise.
+        loop {
+            if let Some(item) = next_of(&mut self.inner) {
                 return Some(item);
             }
+            self.inner = Some(self.outer.next()?);
         }
-        None
     }
 }
 
