@@ -1,6 +1,5 @@
 pub mod Prelude
 pub mod Joins
 pub mod Rounds
-pub mod Seen
 pub mod Shown
 pub mod Runs

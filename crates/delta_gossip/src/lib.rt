@@ -17,6 +17,6 @@ mod worlds;
 pub use delta_pieces::{Digest, Piece, Rest, TakeFault, delta_at, delta_for, digest, take};
 pub use exchanges::exchange;
 pub use laws::joins_of_all;
-pub use sweeps::{HasReplica, sweep};
+pub use sweeps::sweep;
 pub use world_law::{Event, Places};
 pub use worlds::{World, run_world};

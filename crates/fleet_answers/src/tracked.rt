@@ -11,7 +11,6 @@ use crate::caches::SnapshotCache;
 use crate::names::whole_names;
 use crate::questions::{Answer, AnswerFault, Question};
 use crate::renewing::LoadResources;
-use delta_gossip::HasReplica;
 use parallel_load::{Gate, LoadFault, is_worker_count};
 use replica_store::{Content, EditFault, Place, Replica, Rest, Store, Version, Viewer};
 use std::alloc::{AllocError, Global};
@@ -179,17 +178,5 @@ impl TrackedReplica {
             Err(LoadFault::TooManyUnits) => Ok(Answer::TooManyUnits),
             Err(_) => Err(AnswerFault::Memory),
         }
-    }
-}
-
-impl HasReplica for TrackedReplica {
-    ghost replica = { λ r. r };
-
-    fn store(&self) -> &Store {
-        TrackedReplica::store(self)
-    }
-
-    fn merge(&mut self, other: &Store) -> Result<u64, AllocError> {
-        TrackedReplica::merge(self, other)
     }
 }
