@@ -14,6 +14,9 @@ module _ {K V : Type 0} (R : K → K → Ordering) (k : K) where
     below = keys_append (λ q. R q k ≡ Less) a.passed (e ∷ []) a.below (less, tt);
   }
 
+  pub after_first : (pairs rest : List (K × V)) (e : K × V) (order : Ordering) → pairs ≡ e ∷ rest → order ≡ R e.0 k → order ≡ Less → IsAfter R k pairs rest
+  after_first pairs rest e order is by less = after_more pairs pairs rest e (after_none pairs) is (sym by ∙ less)
+
   pub stands : (left rest : List (K × V)) (e : K × V) (order : Ordering) → left ≡ e ∷ rest → order ≡ R e.0 k → StandsFirst R k left order
   stands left rest e order is by = subst (λ l. StandsFirst R k l order) (sym is) (head order by)
     where

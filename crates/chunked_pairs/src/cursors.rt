@@ -55,6 +55,9 @@ impl<'a, K: Ord, V> Pairs<'a, K, V> {
             self.left = left;
             return Some(pair);
         }
+        if self.more.is_empty() {
+            return None;
+        }
         self.next_of_any()
     }
 
@@ -97,19 +100,24 @@ impl<'a, K: Ord, V> Pairs<'a, K, V> {
         ensures found { option_copied result ≡ find K.cmp key.now self.old }
         ensures after { (k : K) → K.cmp key.now k ≡ Less → find K.cmp k self.new ≡ find K.cmp k self.old }
     {
-        let (order, left) = pass_near(self.left, key);
-        self.left = left;
-        match order {
-            Ordering::Less => self.meet_further(key),
+        let Some((pair, left)) = self.left.split_first() else {
+            return self.meet_further(key);
+        };
+        match pair.0.cmp(key) {
+            Ordering::Less => {
+                self.left = left;
+                self.meet_further(key)
+            }
             Ordering::Equal => {
-                let pair = self.next()?;
+                self.left = left;
                 Some(&pair.1)
             }
             Ordering::Greater => None,
         }
     }
 
-    // Returns the same as `meet`: looks at the first pairs of the next run, if none is left of this one, and searches then.
+    // Returns the same as `meet`: looks at some more pairs, those of the next run if none is left of this one, and searches
+    // then.
     #[inline(never)]
     fn meet_further(&mut self, key: &K) -> Option<&'a V>
         ensures found { option_copied result ≡ find K.cmp key.now self.old }
