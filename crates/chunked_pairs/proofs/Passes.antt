@@ -1,6 +1,6 @@
 -- Pairs that a cursor passes.
 use Rattle.std.proofs.Common.{◌+◌, ◌++◌, ◌-◌, ◌∷◌, ◌≡◌, ◌≢◌, ◌≤◌}
-use Rattle.chunked_pairs.proofs.Prelude.{[], add-one, and_parts, ap, append_assoc, AreChained, arith, chained_after, chained_from, cond, drop, Equal, FallsTo, find, find_above, find_before, find_falls, find_later, find_none, find_second, from_below, get_or, Greater, is_eq, is_sorted, IsAfter, IsAt, IsGap, IsTotalOrder, IsTrue, later, length, length-drop, Less, List, None, not_equal, Option, Ordering, refl, run_at, Some, sorted_all, StandsFirst, subst, suc, sym, take, take-append-drop, take_all, tied_itself, turned, zero, ℕ, ◌∙◌}
+use Rattle.chunked_pairs.proofs.Prelude.{[], add-one, and_parts, ap, append_assoc, AreChained, arith, chained_after, chained_from, cond, drop, Equal, FallsTo, find, find_above, find_before, find_falls, find_later, find_none, find_second, from_below, get_or, Greater, is_eq, is_sorted, IsAfter, IsAt, IsGap, IsRun, IsTotalOrder, IsTrue, later, length, length-drop, Less, List, None, not_equal, Option, Ordering, refl, run_at, Some, sorted_all, StandsFirst, subst, suc, sym, take, take-append-drop, take_all, tied_itself, turned, zero, ℕ, ◌∙◌}
 use Rattle.chunked_pairs.specs.{Searches.{keys_append}}
 
 module _ {K V : Type 0} (R : K → K → Ordering) (k : K) where
@@ -126,3 +126,9 @@ module _ {K V : Type 0} (R : K → K → Ordering) (o : IsTotalOrder R) (k : K) 
       none (x ∷ xs) t h =
           let less : R k x.0 ≡ Less = turned R o x.0 k Greater t in
           sym (ap (λ r. cond (is_eq r) (Some x.1) (find R k (xs ++ later ms))) less ∙ find_before R k o x.0 less (xs ++ later ms) (and_parts _ _ h).0)
+
+-- a pair that stands alone is a run
+pub one_is_run : {K V : Type 0} (R : K → K → Ordering) (run : List (K × V)) → length run ≡ 1 → IsRun R run
+one_is_run R [] one = absurd (omega (arith, one))
+one_is_run R (e ∷ []) one = record { sorted = refl; within = omega arith }
+one_is_run R (e ∷ f ∷ run) one = absurd (omega (arith, one))

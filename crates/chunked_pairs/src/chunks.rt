@@ -4,7 +4,7 @@ ghost use Rattle.sorted_pairs.specs.Places.{IsAt, IsGap};
 ghost use Rattle.chunked_pairs.specs.Chunks.{all_pairs, AllKeys, AreChunks, AreShort, FallsTo, given_back, later, most_runs, run_at, swapped, viewed, with_run, without_last};
 
 use crate::cursors::Pairs;
-use crate::searches::{Sought, search_by, seek_by};
+use crate::searches::{Sought, find_by, search_by, seek_by};
 use plain_values::Key;
 use std::alloc::{AllocError, Global};
 use std::cmp::Ordering;
@@ -241,7 +241,7 @@ impl<K: Key, V: Drop> Chunks<K, V> {
         ensures found { MatchOption result (find K.cmp (S.key sought.now) (all_pairs self.now) ≡ None)
             (λ pair. (pair.now.0 ≡ S.key sought.now) × (find K.cmp (S.key sought.now) (all_pairs self.now) ≡ Some pair.now.1)) }
     {
-        pair_in(self.run(self.run_of(sought)), sought)
+        find_by(self.run(self.run_of(sought)), sought)
     }
 
     /// The pairs, in order.
@@ -329,21 +329,6 @@ impl<K: Key, V: Drop> Chunks<K, V> {
         ensures left { self.new ≡ without_last self.old.0 self.old.1 }
     {
         let _gone = self.more.pop();
-    }
-}
-
-// The pair with a key in a run, if any.
-fn pair_in<'a, K: Key, V, S: Sought<K>>(run: &'a [(K, V)], sought: &S) -> Option<&'a (K, V)>
-    requires sorted { IsTrue (is_sorted K.cmp run.now) }
-    ensures found { MatchOption result (find K.cmp (S.key sought.now) run.now ≡ None)
-        (λ pair. (pair.now.0 ≡ S.key sought.now) × (find K.cmp (S.key sought.now) run.now ≡ Some pair.now.1)) }
-{
-    match seek_by(run, sought) {
-        Ok(at) => {
-            let pair = &run[at];
-            Some(pair)
-        }
-        Err(_) => None,
     }
 }
 

@@ -46,6 +46,14 @@ impl<'a, K: Ord, V> Pairs<'a, K, V> {
         Pairs::of(&[], &[])
     }
 
+    /// One pair, which stands alone.
+    #[inline(always)]
+    pub fn of_one(pair: &'a [(K, V); 1]) -> Self
+        ensures one { result ≡ pair.now }
+    {
+        Pairs::of(&pair[..], &[])
+    }
+
     /// Takes the next pair, if one is left. O(1). Allocates nothing.
     #[inline(always)]
     pub fn next(&mut self) -> Option<&'a (K, V)>

@@ -16,4 +16,4 @@ mod searches;
 
 pub use chunks::{Chunks, HALF, MOST, Position};
 pub use cursors::Pairs;
-pub use searches::{Sought, seek_by};
+pub use searches::{Sought, find_by, seek_by};

@@ -1,7 +1,8 @@
 //! Searches among sorted pairs for a key in any form.
-ghost use Rattle.std.specs.{Prelude.{◌≡◌, ◌≤◌, ◌<◌, length, IsTrue, IfOk, IfErr}, FinMap.{is_sorted}};
+ghost use Rattle.std.specs.{Prelude.{◌≡◌, ◌≤◌, ◌<◌, length, None, Some, IsTrue, IfOk, IfErr, MatchOption}, FinMap.{find, is_sorted}};
 ghost use Rattle.sorted_pairs.specs.Places.{IsAt, IsGap};
 
+use plain_values::Key;
 use std::cmp::Ordering;
 
 /// A key that is looked for, maybe in another form than the keys that are held.
@@ -54,4 +55,19 @@ pub(crate) fn search_by<K: Ord, V, S: Sought<K>>(
     ensures gap_within { IfErr result (λ at. at ≤ length pairs.now) }
 {
     pairs.binary_search_by(|pair| sought.order(&pair.0))
+}
+
+/// Returns the pair with a key among sorted pairs, if there is one. O(log n). Allocates nothing.
+pub fn find_by<'a, K: Key, V, S: Sought<K>>(pairs: &'a [(K, V)], sought: &S) -> Option<&'a (K, V)>
+    requires sorted { IsTrue (is_sorted K.cmp pairs.now) }
+    ensures found { MatchOption result (find K.cmp (S.key sought.now) pairs.now ≡ None)
+        (λ pair. (pair.now.0 ≡ S.key sought.now) × (find K.cmp (S.key sought.now) pairs.now ≡ Some pair.now.1)) }
+{
+    match seek_by(pairs, sought) {
+        Ok(at) => {
+            let pair = &pairs[at];
+            Some(pair)
+        }
+        Err(_) => None,
+    }
 }
