@@ -9,3 +9,4 @@ pub mod RunEdits
 pub mod RunSteps
 pub mod Slices
 pub mod Lasts
+pub mod HeldPairs

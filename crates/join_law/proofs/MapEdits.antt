@@ -1,6 +1,6 @@
 -- The map after an edit of one pair.
-use Rattle.std.proofs.Common.{◌↔◌, ◌∷◌, ◌≡◌}
-use Rattle.join_law.proofs.Prelude.{[], AllHeld, ap, below_at_key, between_at_key, Bool, bounds_at_key, cond, entry_least, entry_not_least, find, find_at, find_gap, get_or, insert, insert_is_put, is_eq, is_map-put, IsAt, IsBetween, IsGap, IsJoin, IsLeast, IsMap, IsPartialJoin, IsTotalOrder, IsTrue, join_at_key, List, map_itself, MapBelow, None, Option, option_bounds, option_join, option_new, OptionBelow, OptionBounds, OptionJoin, Ordering, put, refl, set, set_is_put, Some, subst, suc, sym, tied_itself, zero, ℕ, ◌∙◌}
+use Rattle.std.proofs.Common.{◌++◌, ◌↔◌, ◌∷◌, ◌≡◌}
+use Rattle.join_law.proofs.Prelude.{[], AllHeld, ap, arith, below_at_key, between_at_key, Bool, bounds_at_key, cond, drop, entry_least, entry_not_least, find, find_at, find_gap, get_or, insert, insert_is_put, is_eq, is_map-put, IsAt, IsBetween, IsGap, IsJoin, IsLeast, IsMap, IsPartialJoin, IsTotalOrder, IsTrue, join_at_key, length, List, map_itself, MapBelow, None, Option, option_bounds, option_join, option_new, OptionBelow, OptionBounds, OptionJoin, Ordering, put, refl, set, set_is_put, Some, subst, suc, sym, take, tied_itself, zero, ℕ, ◌∙◌}
 
 at_itself : {K V : Type 0} (R : K → K → Ordering) (o : IsTotalOrder R) (below : V → V → Type 0) (k : K) (v : V) (es : List (K × V)) → MapBelow R below ((k, v) ∷ []) es → OptionBelow below (Some v) (find R k es)
 at_itself R o below k v es h = subst (λ r. OptionBelow below (cond (is_eq r) (Some v) None) (find R k es)) (tied_itself o k) (h.at k)
@@ -10,6 +10,16 @@ pub set_same : {A : Type 0} (es : List A) (i : ℕ) (e : A) → e ≡ get_or es 
 set_same [] i e h = refl
 set_same (f ∷ fs) zero e h = ap (λ x. x ∷ fs) h
 set_same (f ∷ fs) (suc i) e h = ap (λ xs. f ∷ xs) (set_same fs i e h)
+
+-- what was borrowed as a slice, and came back as it was
+pub written_same : {A : Type 0} (items new : List A) (n : ℕ) → n ≡ length items → new ≡ items → take n (new ++ drop (length new) items) ≡ items
+written_same items new n len same = ap (λ l. take n (l ++ drop (length l) items)) same ∙ back items n len
+  where
+    back : {A : Type 0} (xs : List A) (n : ℕ) → n ≡ length xs → take n (xs ++ drop (length xs) xs) ≡ xs
+    back [] zero len = refl
+    back [] (suc n) len = absurd (omega (arith, len))
+    back (x ∷ xs) zero len = absurd (omega (arith, len))
+    back (x ∷ xs) (suc n) len = ap (λ l. x ∷ l) (back xs n (omega (arith, len)))
 
 -- a pair adds a key exactly if its value does
 pub added_with : {K V : Type 0} (R : K → K → Ordering) (o : IsTotalOrder R) (below : V → V → Type 0) (k : K) (v : V) (added new : Bool) → IsTrue added ↔ (IsTrue new × ¬ IsLeast below v) → IsTrue added ↔ (IsTrue new × ¬ IsLeast (MapBelow R below) ((k, v) ∷ []))

@@ -5,6 +5,7 @@ pub mod VersionOrderLaws
 pub mod EntryLaws
 pub mod VersionedLaws
 pub mod Maps
+pub mod Held
 pub mod Outcomes
 pub mod MapLaws
 pub mod UnionLaws

@@ -3,8 +3,9 @@ ghost use Rattle.std.specs.{Prelude.{◌≡◌, ◌↔◌, ◌<◌, ◌≤◌, [
 ghost use Rattle.std.specs.FinMap.{find};
 ghost use Rattle.chunked_pairs.specs.Chunks.{all_pairs};
 ghost use Rattle.sorted_pairs.specs.Places.{IsAt, IsGap};
-ghost use Rattle.join_law.specs.{Maps.{AreMapped, IsHeld, IsMap, MapBelow, is_none_or}, Order.{IsBetween, IsJoin, IsLeast}};
+ghost use Rattle.join_law.specs.{Held.{held_pairs, IsHeldMap}, Maps.{AreMapped, IsHeld, IsMap, MapBelow, is_none_or}, Order.{IsBetween, IsJoin, IsLeast}};
 
+use crate::held::Held;
 use crate::inserts::insert_pair;
 use crate::joins::Join;
 use crate::maps::JoinMap;
@@ -99,19 +100,55 @@ impl<K: Key, A: Addition> Addition for AddAt<K, A> {
     ghost joins_in_place = { A.joins_in_place };
 
     /// Costs a search and at most one shift of the pairs in each map. Creates a map only to hold the value.
+    #[inline(always)]
     fn join_to(self, map: &mut JoinMap<K, A::Value>) -> Result<bool, AllocError> {
-        add_at_key(&mut map.chunks, self.key, self.addition)
+        if map.is_bottom() {
+            let Some(made) = self.into_value(map.allocator())? else {
+                return Ok(false);
+            };
+            *map = made;
+            return Ok(true);
+        }
+        add_to_held(&mut map.held, self.key, self.addition)
     }
 
     fn into_value(self, alloc: Global) -> Result<Option<JoinMap<K, A::Value>>, AllocError> {
         match self.addition.into_value(alloc)? {
-            Some(value) => Ok(Some(JoinMap::of_pair(alloc, self.key, value)?)),
+            Some(value) => Ok(Some(JoinMap::of_pair(alloc, self.key, value))),
             None => Ok(None),
         }
     }
 }
 
+// Joins at a key of what a map holds, and returns whether a key was added, here or in the value at the key.
+#[inline(always)]
+fn add_to_held<K: Key, A: Addition>(
+    held: &mut Held<K, A::Value>,
+    key: K,
+    addition: A,
+) -> Result<bool, AllocError>
+    requires map { IsHeldMap K.cmp A.Value.below A.Value.is_valid held.old }
+    ensures ok { OnOk result (IsJoin (MapBelow K.cmp A.Value.below) (held_pairs held.old)
+        ((key, A.added addition) ∷ []) (held_pairs held.new)) }
+    ensures added { IfOk result (λ is_added. IsTrue is_added ↔
+        (IsTrue (is_none_or (A.is_new addition) (find K.cmp key (held_pairs held.old)))
+        × ¬ IsLeast (MapBelow K.cmp A.Value.below) ((key, A.added addition) ∷ []))) }
+    ensures refused { OnErr result (IsBetween (MapBelow K.cmp A.Value.below) (held_pairs held.old)
+        ((key, A.added addition) ∷ []) (held_pairs held.new)) }
+    ensures single { OnErr result (A.Value.is_single (A.added addition) → held_pairs held.new ≡ held_pairs held.old) }
+    ensures in_place { A.joins_in_place →
+        is_none_or (A.is_new addition) (find K.cmp key (held_pairs held.old)) ≡ false → IsOk result }
+    ensures map { IsHeldMap K.cmp A.Value.below A.Value.is_valid held.new }
+{
+    held.seat(&key)?;
+    match held {
+        Held::Alone(_, alone) => add_to_value(&mut alone[..], key, addition),
+        Held::Runs(chunks) => add_at_key(chunks, key, addition),
+    }
+}
+
 // Joins at a key, and returns whether a key was added, here or in the value at the key.
+#[inline(always)]
 fn add_at_key<K: Key, A: Addition>(
     chunks: &mut Chunks<K, A::Value>,
     key: K,
@@ -175,4 +212,29 @@ fn join_at_key<K: Key, A: Addition>(
             None => Ok(false),
         },
     }
+}
+
+// Joins into the value of a pair that stands alone, which has the key, and returns whether a key was added in it.
+fn add_to_value<K: Key, A: Addition>(
+    pairs: &mut [(K, A::Value)],
+    key: K,
+    addition: A,
+) -> Result<bool, AllocError>
+    requires map { IsMap K.cmp A.Value.below A.Value.is_valid pairs.old }
+    requires found { IsAt K.cmp key pairs.old 0 }
+    requires within { 0 < length pairs.old }
+    ensures ok { OnOk result (IsJoin (MapBelow K.cmp A.Value.below) pairs.old ((key, A.added addition) ∷ []) pairs.new) }
+    ensures added { IfOk result (λ is_added. IsTrue is_added ↔
+        (IsTrue (is_none_or (A.is_new addition) (find K.cmp key pairs.old))
+        × ¬ IsLeast (MapBelow K.cmp A.Value.below) ((key, A.added addition) ∷ []))) }
+    ensures refused { OnErr result (IsBetween (MapBelow K.cmp A.Value.below) pairs.old
+        ((key, A.added addition) ∷ []) pairs.new) }
+    ensures single { OnErr result (A.Value.is_single (A.added addition) → pairs.new ≡ pairs.old) }
+    ensures in_place { A.joins_in_place →
+        is_none_or (A.is_new addition) (find K.cmp key pairs.old) ≡ false → IsOk result }
+    ensures map { IsMap K.cmp A.Value.below A.Value.is_valid pairs.new }
+{
+    let _key = key;
+    let place = &mut pairs[0];
+    addition.join_to(&mut place.1)
 }

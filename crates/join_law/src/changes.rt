@@ -3,6 +3,7 @@ ghost use Rattle.std.specs.{Prelude.{◌≡◌, [], ◌∷◌, Bool}, Bool.{OnTr
 ghost use Rattle.chunked_pairs.specs.Chunks.{all_pairs};
 ghost use Rattle.join_law.specs.{Maps.{AreMapped, IsMap, MapBelow, is_some_and}, Order.{IsJoin}, VersionOrder.{has_other}};
 
+use crate::held::Held;
 use crate::joins::Join;
 use crate::maps::JoinMap;
 use crate::versions::{Entry, Versioned};
@@ -84,11 +85,15 @@ impl<'a, K: Key, C: Change> Change for ChangeAt<'a, K, C> {
     /// Costs a search, and the change of the value found.
     fn make(self, map: &mut JoinMap<K, C::Value>) -> bool {
         let ChangeAt { key, change } = self;
-        change_at_key(&mut map.chunks, key, change)
+        match &mut map.held {
+            Held::Alone(_, alone) => change_value(&mut alone[..], key, change),
+            Held::Runs(chunks) => change_at_key(chunks, key, change),
+        }
     }
 }
 
 // Changes the value at a key, and returns whether the change applied.
+#[inline(always)]
 fn change_at_key<K: Key, C: Change>(chunks: &mut Chunks<K, C::Value>, key: &K, change: C) -> bool
     requires map { AreMapped K.cmp C.Value.below C.Value.is_valid chunks.old }
     ensures made { result ≡ is_some_and (C.is_made change) (find K.cmp key.now (all_pairs chunks.old)) }
@@ -104,7 +109,8 @@ fn change_at_key<K: Key, C: Change>(chunks: &mut Chunks<K, C::Value>, key: &K, c
     is_made
 }
 
-// Changes the value at a key of sorted pairs, and returns whether the change applied.
+// Changes the value at a key of a run, and returns whether the change applied.
+#[inline(always)]
 fn change_pair<K: Key, C: Change>(pairs: &mut Vec<(K, C::Value)>, key: &K, change: C) -> bool
     requires { IsMap K.cmp C.Value.below C.Value.is_valid pairs.old.items }
     ensures made { result ≡ is_some_and (C.is_made change) (find K.cmp key.now pairs.old.items) }
@@ -112,6 +118,18 @@ fn change_pair<K: Key, C: Change>(pairs: &mut Vec<(K, C::Value)>, key: &K, chang
         ((key.now, C.added change) ∷ []) pairs.new.items) }
     ensures same { OnFalse result (pairs.new.items ≡ pairs.old.items) }
     ensures map { IsMap K.cmp C.Value.below C.Value.is_valid pairs.new.items }
+{
+    change_value(pairs, key, change)
+}
+
+// Changes the value at a key of sorted pairs, and returns whether the change applied.
+fn change_value<K: Key, C: Change>(pairs: &mut [(K, C::Value)], key: &K, change: C) -> bool
+    requires { IsMap K.cmp C.Value.below C.Value.is_valid pairs.old }
+    ensures made { result ≡ is_some_and (C.is_made change) (find K.cmp key.now pairs.old) }
+    ensures joined { OnTrue result (IsJoin (MapBelow K.cmp C.Value.below) pairs.old
+        ((key.now, C.added change) ∷ []) pairs.new) }
+    ensures same { OnFalse result (pairs.new ≡ pairs.old) }
+    ensures map { IsMap K.cmp C.Value.below C.Value.is_valid pairs.new }
 {
     match seek(pairs, key) {
         Ok(at) => {

@@ -1,6 +1,7 @@
 //! Joining copies of pairs into sorted pairs.
-ghost use Rattle.std.specs.{Prelude.{◌≡◌, ◌↔◌, ◌≤◌, None, [], ◌∷◌, map, vec_len, IsTrue, IsOk, IfOk, OnOk, OnErr}, Bool.{OnTrue, OnFalse}};
+ghost use Rattle.std.specs.{Prelude.{◌≡◌, ◌↔◌, ◌<◌, ◌≤◌, None, [], ◌∷◌, length, map, vec_len, IsTrue, IsOk, IfOk, OnOk, OnErr}, Bool.{OnTrue, OnFalse}};
 ghost use Rattle.std.specs.{FinMap.{find}, List.{insert}};
+ghost use Rattle.sorted_pairs.specs.Places.{IsAt};
 ghost use Rattle.join_law.specs.{Maps.{IsHeld, IsMap, MapBelow}, Order.{IsBetween, IsJoin}, Outcomes.{AreCopiesJoined}};
 
 use crate::inserts::insert_pair;
@@ -32,8 +33,7 @@ fn join_pair_copy<K: Key, V: Join>(
 {
     match seek(pairs, key) {
         Ok(at) => {
-            let place = &mut pairs[at];
-            place.1.join_copy(value)?;
+            join_value_copy(pairs, at, key, value)?;
             Ok(true)
         }
         Err(at) => {
@@ -44,6 +44,27 @@ fn join_pair_copy<K: Key, V: Join>(
             Ok(true)
         }
     }
+}
+
+// Joins a copy of a value into the one at an index, which has its key.
+pub fn join_value_copy<K: Key, V: Join>(
+    pairs: &mut [(K, V)],
+    at: usize,
+    key: &K,
+    value: &V,
+) -> Result<(), AllocError>
+    requires map { IsMap K.cmp V.below V.is_valid pairs.old }
+    requires found { IsAt K.cmp key.now pairs.old at }
+    requires within { at < length pairs.old }
+    ensures map { IsMap K.cmp V.below V.is_valid pairs.new }
+    ensures ok { OnOk result (IsJoin (MapBelow K.cmp V.below) pairs.old ((key.now, value.now) ∷ []) pairs.new) }
+    ensures refused { OnErr result (IsBetween (MapBelow K.cmp V.below) pairs.old ((key.now, value.now) ∷ []) pairs.new) }
+    ensures single { OnErr result (V.is_single value.now → pairs.new ≡ pairs.old) }
+    ensures known { MapBelow K.cmp V.below ((key.now, value.now) ∷ []) pairs.old → IsOk result }
+{
+    let _key = key;
+    let place = &mut pairs[at];
+    place.1.join_copy(value)
 }
 
 // Inserts a copy of one pair. If memory runs out, nothing is inserted.

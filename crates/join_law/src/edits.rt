@@ -1,5 +1,5 @@
 //! Joining an owned pair into sorted pairs.
-ghost use Rattle.std.specs.{Prelude.{◌≡◌, ◌↔◌, ◌<◌, ◌≤◌, [], ◌∷◌, None, length, IsTrue, IsSome, IsOk, IfOk, OnOk, IfErr}, FinMap.{find}};
+ghost use Rattle.std.specs.{Prelude.{◌≡◌, ◌↔◌, ◌<◌, ◌≤◌, [], ◌∷◌, false, None, length, IsTrue, IsSome, IsOk, IfOk, OnOk, IfErr}, FinMap.{find}};
 ghost use Rattle.sorted_pairs.specs.Places.{IsAt, IsGap};
 ghost use Rattle.join_law.specs.{Maps.{IsMap, MapBelow}, Order.{IsJoin, IsLeast, IsPartialJoin}};
 
@@ -37,16 +37,38 @@ pub fn join_pair<K: Key, V: Join>(
         return Ok(false);
     }
     match index {
-        Ok(at) => {
-            let place = &mut pairs[at];
-            match place.1.join_from(value) {
-                Ok(()) => Ok(false),
-                Err(Rest { rest }) => Err(Rest { rest: (key, rest) }),
-            }
-        }
+        Ok(at) => join_value(pairs, at, key, value),
         Err(at) => match insert_pair(pairs, at, (key, value)) {
             Ok(()) => Ok(true),
             Err(fault) => Err(Rest { rest: fault.value }),
         },
+    }
+}
+
+// Joins a value into the one at an index, which has its key. No key is added.
+pub fn join_value<K: Key, V: Join>(
+    pairs: &mut [(K, V)],
+    at: usize,
+    key: K,
+    value: V,
+) -> Result<bool, Rest<(K, V)>>
+    requires map { IsMap K.cmp V.below V.is_valid pairs.old }
+    requires found { IsAt K.cmp key pairs.old at }
+    requires within { at < length pairs.old }
+    ensures map { IsMap K.cmp V.below V.is_valid pairs.new }
+    ensures ok { OnOk result (IsJoin (MapBelow K.cmp V.below) pairs.old ((key, value) ∷ []) pairs.new) }
+    ensures added { IfOk result (λ added. added ≡ false) }
+    ensures key { IfErr result (λ fault. fault.rest.0 ≡ key) }
+    ensures refused { IfErr result (λ fault. IsPartialJoin (MapBelow K.cmp V.below) pairs.old
+        ((key, value) ∷ []) pairs.new (fault.rest ∷ [])) }
+    ensures left { IfErr result (λ fault. ¬ IsLeast V.below fault.rest.1) }
+    ensures rest_valid { IfErr result (λ fault. V.is_valid fault.rest.1) }
+    ensures single { IfErr result (λ _. V.is_single value → pairs.new ≡ pairs.old) }
+    ensures in_place { V.joins_in_place → IsOk result }
+{
+    let place = &mut pairs[at];
+    match place.1.join_from(value) {
+        Ok(()) => Ok(false),
+        Err(Rest { rest }) => Err(Rest { rest: (key, rest) }),
     }
 }

@@ -3,11 +3,11 @@ ghost use Rattle.std.specs.Prelude.{◌≡◌, ◌↔◌, [], ◌∷◌, ◌++�
 ghost use Rattle.std.specs.{Option.{option_copied, option_to_list, IfNone, IfSome}, FinMap.{find}};
 ghost use Rattle.join_law.specs.{Maps.{IsHeld, IsMap, MapBelow}, Order.{IsJoin, IsLeast, IsPartialJoin}};
 
+use crate::held::Held;
 use crate::joins::{Join, Rest};
-use crate::merges::{join_chunk_copies, join_chunks};
-use crate::runs::join_key;
-use crate::walks::{copy_chunks, keys_of, same_chunks};
-use chunked_pairs::{Chunks, Pairs, Sought};
+use crate::meetings::{join_all, join_all_copies, join_held};
+use crate::walks::{copy_chunks, copy_pair, keys_of, same_maps};
+use chunked_pairs::{Chunks, Pairs, Sought, find_by};
 use plain_values::Key;
 use std::alloc::{AllocError, Global};
 use std::marker::Model;
@@ -15,24 +15,23 @@ use std::marker::Model;
 /// A map from keys to values with a join; two maps are joined key by key.
 ///
 /// An absent key means the bottom value, and a bottom value is never held: in a map of maps, an empty inner map is
-/// absent.
+/// absent. A map that was made with one pair holds it in itself, and takes no memory besides.
 #[derive(Debug, Drop)]
 pub struct JoinMap<K: Key, V: Join> {
-    pub(crate) chunks: Chunks<K, V>,
+    pub(crate) held: Held<K, V>,
 }
 
 impl<K: Key, V: Join> Model for JoinMap<K, V> {
     ghost use Rattle.std.specs.{Prelude.{List}, Coded.{coded_list, coded×}};
-    ghost use Rattle.chunked_pairs.specs.Chunks.{all_pairs};
-    ghost use Rattle.join_law.specs.Maps.{AreMapped};
+    ghost use Rattle.join_law.specs.Held.{held_pairs, IsHeldMap};
 
     ghost Value = { List (K × V) };
 
     ghost coded = { coded_list (coded× K.code V.code) };
 
-    ghost view = { λ m. all_pairs m.chunks };
+    ghost view = { λ m. held_pairs m.held };
 
-    ghost invariant = { λ m. AreMapped K.cmp V.below V.is_valid m.chunks };
+    ghost invariant = { λ m. IsHeldMap K.cmp V.below V.is_valid m.held };
 }
 
 impl<K: Key, V: Join> JoinMap<K, V> {
@@ -41,20 +40,18 @@ impl<K: Key, V: Join> JoinMap<K, V> {
         ensures empty { result ≡ [] }
     {
         JoinMap {
-            chunks: Chunks::new(alloc),
+            held: Held::Runs(Chunks::new(alloc)),
         }
     }
 
-    /// Returns a map of one pair. Fails only if memory runs out.
-    pub fn of_pair(alloc: Global, key: K, value: V) -> Result<Self, AllocError>
+    /// Returns a map of one pair. Allocates nothing.
+    pub fn of_pair(alloc: Global, key: K, value: V) -> Self
         requires held { IsHeld V.below V.is_valid value }
-        ensures pair { IfOk result (λ map. map ≡ (key, value) ∷ []) }
+        ensures pair { result ≡ (key, value) ∷ [] }
     {
-        let mut run = Vec::with_capacity(alloc, 1)?;
-        run.push((key, value))?;
-        Ok(JoinMap {
-            chunks: Chunks::of_run(run),
-        })
+        JoinMap {
+            held: Held::Alone(alloc, [(key, value)]),
+        }
     }
 
     /// A cursor over the pairs, sorted by key. O(1). Allocates nothing.
@@ -63,26 +60,32 @@ impl<K: Key, V: Join> JoinMap<K, V> {
         ensures pairs { result ≡ self.now }
         ensures map { IsMap K.cmp V.below V.is_valid self.now }
     {
-        self.chunks.pairs()
+        match &self.held {
+            Held::Alone(_, alone) => Pairs::of_one(alone),
+            Held::Runs(chunks) => chunks.pairs(),
+        }
     }
 
     /// Returns the allocator that the map takes its memory from.
     pub fn allocator(&self) -> Global {
-        self.chunks.allocator()
+        self.held.allocator()
     }
 
     /// Returns the number of keys. O(n / 128). Allocates nothing.
     pub fn len(&self) -> usize
         ensures len { result ≡ length self.now }
     {
-        self.chunks.len()
+        match &self.held {
+            Held::Alone(_, _) => 1,
+            Held::Runs(chunks) => chunks.len(),
+        }
     }
 
     /// Returns the value at a key, if any. O(log n). Allocates nothing.
     pub fn get(&self, key: &K) -> Option<&V>
         ensures value { option_copied result ≡ find K.cmp key.now self.now }
     {
-        let pair = self.chunks.find(key)?;
+        let pair = self.find(key)?;
         Some(&pair.1)
     }
 
@@ -91,14 +94,17 @@ impl<K: Key, V: Join> JoinMap<K, V> {
         ensures found { MatchOption result (find K.cmp (S.key sought.now) self.now ≡ None)
             (λ pair. (pair.now.0 ≡ S.key sought.now) × (find K.cmp (S.key sought.now) self.now ≡ Some pair.now.1)) }
     {
-        self.chunks.find(sought)
+        match &self.held {
+            Held::Alone(_, alone) => find_by(&alone[..], sought),
+            Held::Runs(chunks) => chunks.find(sought),
+        }
     }
 
     /// Borrows the keys, in order. Fails only if memory runs out.
     pub fn keys(&self) -> Result<Vec<&K>, AllocError>
         ensures keys { IfOk result (λ keys. map (λ k. k.now) keys.items ≡ map (λ pair. pair.0) self.now) }
     {
-        keys_of(&self.chunks)
+        keys_of(self)
     }
 
     /// Removes and returns the pair with the greatest key, if any. O(1). Allocates nothing.
@@ -107,7 +113,7 @@ impl<K: Key, V: Join> JoinMap<K, V> {
         ensures none { IfNone result (self.old ≡ []) }
         ensures held { IfSome result (λ pair. IsHeld V.below V.is_valid pair.1) }
     {
-        self.chunks.pop_last()
+        self.held.pop_last()
     }
 
     /// Joins a value into the one at a key, and returns whether the key was added. Costs a search, and for a new key a
@@ -129,7 +135,7 @@ impl<K: Key, V: Join> JoinMap<K, V> {
         ensures in_place { V.joins_in_place → IsSome (find K.cmp key self.old) → IsOk result }
         ensures map { IsMap K.cmp V.below V.is_valid self.new }
     {
-        join_key(&mut self.chunks, key, value)
+        join_held(&mut self.held, key, value)
     }
 }
 
@@ -158,34 +164,53 @@ impl<K: Key, V: Join> Join for JoinMap<K, V> {
     ghost one = { maps_one K.cmp V.below K.total V.is_valid K.exact V.one };
 
     fn is_bottom(&self) -> bool {
-        self.chunks.is_empty()
+        match &self.held {
+            Held::Alone(_, _) => false,
+            Held::Runs(chunks) => chunks.is_empty(),
+        }
     }
 
     /// Joins key by key: a search for each pair, and for each new key a shift of at most 127 pairs. An empty map takes
     /// over the other one unchanged.
     ///
     /// A pair whose join fails is put back into the room that it came from.
-    fn join_from(&mut self, mut other: Self) -> Result<(), Rest<Self>> {
-        if join_chunks(&mut self.chunks, &mut other.chunks) {
+    fn join_from(&mut self, other: Self) -> Result<(), Rest<Self>> {
+        if self.is_bottom() {
+            *self = other;
             return Ok(());
         }
-        Err(Rest { rest: other })
+        let JoinMap { held } = other;
+        let Err(Rest { rest: held }) = join_all(&mut self.held, held) else {
+            return Ok(());
+        };
+        Err(Rest {
+            rest: JoinMap { held },
+        })
     }
 
     /// Joins copies key by key. Keys that are held move nothing; new ones that fall to one run cost one pass over that
-    /// run.
+    /// run. An empty map becomes a copy.
     fn join_copy(&mut self, other: &Self) -> Result<(), AllocError> {
-        join_chunk_copies(&mut self.chunks, &other.chunks)
+        if self.is_bottom() {
+            if other.is_bottom() {
+                return Ok(());
+            }
+            *self = other.try_clone()?;
+            return Ok(());
+        }
+        join_all_copies(&mut self.held, other)
     }
 
     /// Returns an equal map, with one allocation for each run and a copy of each pair. Fails only if memory runs out.
     fn try_clone(&self) -> Result<Self, AllocError> {
-        Ok(JoinMap {
-            chunks: copy_chunks(&self.chunks)?,
-        })
+        let held = match &self.held {
+            Held::Alone(alloc, alone) => Held::Alone(*alloc, [copy_pair(&alone[0])?]),
+            Held::Runs(chunks) => Held::Runs(copy_chunks(chunks)?),
+        };
+        Ok(JoinMap { held })
     }
 
     fn same(&self, other: &Self) -> bool {
-        same_chunks(&self.chunks, &other.chunks)
+        same_maps(self, other)
     }
 }

@@ -139,7 +139,7 @@ fn room_in<K, V>(run: &[(K, V)]) -> usize
 }
 
 // Joins copies of sorted pairs, one run at a time.
-fn join_slice<K: Key, V: Join>(
+pub fn join_slice<K: Key, V: Join>(
     chunks: &mut Chunks<K, V>,
     pairs: &[(K, V)],
 ) -> Result<(), AllocError>
@@ -154,26 +154,6 @@ fn join_slice<K: Key, V: Join>(
     while !left.is_empty() {
         let count = join_some(chunks, left)?;
         left = &left[count..];
-    }
-    Ok(())
-}
-
-// Joins copies of what `other` has more. Where its pairs fall among those of a run, they cost a search and one pass over
-// that run.
-pub fn join_chunk_copies<K: Key, V: Join>(
-    chunks: &mut Chunks<K, V>,
-    other: &Chunks<K, V>,
-) -> Result<(), AllocError>
-    requires map { AreMapped K.cmp V.below V.is_valid chunks.old }
-    requires other_map { AreMapped K.cmp V.below V.is_valid other.now }
-    ensures chunks { AreChunks K.cmp chunks.new }
-    ensures joined { AreCopiesJoined K.cmp V.below V.is_valid V.is_single result (all_pairs chunks.old)
-        (all_pairs other.now) (all_pairs chunks.new) }
-    ensures known { MapBelow K.cmp V.below (all_pairs other.now) (all_pairs chunks.old) → IsOk result }
-{
-    let mut left = other.pairs();
-    while let Some(run) = left.next_run() {
-        join_slice(chunks, run)?;
     }
     Ok(())
 }

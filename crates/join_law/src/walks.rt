@@ -1,8 +1,8 @@
 //! Walks over all pairs in chunks: copying, comparing, and borrowing the keys.
 ghost use Rattle.std.specs.Prelude.{◌≡◌, ◌↔◌, IsTrue, IfOk, map};
-ghost use Rattle.chunked_pairs.specs.Chunks.{all_pairs, AreChunks};
 
 use crate::joins::Join;
+use crate::maps::JoinMap;
 use chunked_pairs::Chunks;
 use plain_values::Key;
 use std::alloc::{AllocError, Global};
@@ -26,16 +26,21 @@ fn copy_pairs<K: Key, V: Join>(alloc: Global, pairs: &[(K, V)]) -> Result<Vec<(K
 {
     let mut copy = Vec::with_capacity(alloc, pairs.len())?;
     for pair in pairs {
-        copy.push((pair.0.try_clone()?, pair.1.try_clone()?))?;
+        copy.push(copy_pair(pair)?)?;
     }
     Ok(copy)
 }
 
+// Returns a copy of a pair.
+pub fn copy_pair<K: Key, V: Join>(pair: &(K, V)) -> Result<(K, V), AllocError>
+    ensures copy { IfOk result (λ copy. copy ≡ pair.now) }
+{
+    Ok((pair.0.try_clone()?, pair.1.try_clone()?))
+}
+
 // Returns whether all pairs are equal, however they stand in runs.
-pub fn same_chunks<K: Key, V: Join>(left: &Chunks<K, V>, right: &Chunks<K, V>) -> bool
-    requires left { AreChunks K.cmp left.now }
-    requires right { AreChunks K.cmp right.now }
-    ensures same { IsTrue result ↔ (all_pairs left.now ≡ all_pairs right.now) }
+pub fn same_maps<K: Key, V: Join>(left: &JoinMap<K, V>, right: &JoinMap<K, V>) -> bool
+    ensures same { IsTrue result ↔ (left.now ≡ right.now) }
 {
     let mut pairs = left.pairs();
     let mut others = right.pairs();
@@ -61,12 +66,11 @@ fn same_pair<K: Key, V: Join>(left: &(K, V), right: &(K, V)) -> bool
 }
 
 // Borrows the keys of the pairs, in order.
-pub fn keys_of<K: Key, V: Join>(chunks: &Chunks<K, V>) -> Result<Vec<&K>, AllocError>
-    requires chunks { AreChunks K.cmp chunks.now }
-    ensures keys { IfOk result (λ keys. map (λ k. k.now) keys.items ≡ map (λ pair. pair.0) (all_pairs chunks.now)) }
+pub fn keys_of<K: Key, V: Join>(all: &JoinMap<K, V>) -> Result<Vec<&K>, AllocError>
+    ensures keys { IfOk result (λ keys. map (λ k. k.now) keys.items ≡ map (λ pair. pair.0) all.now) }
 {
-    let mut keys = Vec::with_capacity(chunks.allocator(), chunks.len())?;
-    let mut pairs = chunks.pairs();
+    let mut keys = Vec::with_capacity(all.allocator(), all.len())?;
+    let mut pairs = all.pairs();
     while let Some(pair) = pairs.next() {
         keys.push(&pair.0)?;
     }

@@ -135,6 +135,7 @@ impl Addition for AddInFolder {
 
     ghost joins_in_place = { Unit {0} };
 
+    #[inline(always)]
     fn join_to(self, map: &mut FolderMap) -> Result<bool, AllocError> {
         self.addition.join_to(&mut map.folders)
     }

@@ -1,6 +1,6 @@
 use Rattle.std.proofs.Common.{◌∷◌, ◌≡◌}
 use Rattle.join_law.proofs.Prelude.{ap, arith, length, refl, sym, ◌∙◌}
-use Rattle.join_law.proofs.walks.same_chunks.Goals as goal
+use Rattle.join_law.proofs.walks.same_maps.Goals as goal
 
 pub loop-pair-init : goal.loop-pair-init
 loop-pair-init g c = (λ e. sym c.pairs-pairs.ensures.pairs ∙ e ∙ c.pairs-others.ensures.pairs, λ e. c.pairs-pairs.ensures.pairs ∙ e ∙ sym c.pairs-others.ensures.pairs)
