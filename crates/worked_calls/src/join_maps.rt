@@ -51,7 +51,9 @@ fn join_pair(map: &mut Numbers, pair: &[u8]) -> Result<(), LineFault> {
 
 // Joins the value that a word writes to a map at a key.
 fn join_key(map: &mut Numbers, key: u8, value: &[u8]) -> Result<(), LineFault> {
-    map.join_at(key, versioned(value)?)?;
+    let value = versioned(value)?;
+    let addition = AddValue { value };
+    AddAt { key, addition }.join_to(map)?;
     Ok(())
 }
 
