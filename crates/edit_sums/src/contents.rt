@@ -163,8 +163,8 @@ fn is_printable(b: u8) -> bool
 impl Content {
     ghost use Rattle.edit_sums.specs.{Contents.{file_of, link_of, sort_of, bytes_of}, declared.contents.Content.TheVariants.{Gone}};
 
-    /// Makes a file of these bytes without copying them, or returns `FileTooLarge`. `Memory` if memory runs out, which
-    /// happens only for a valid length.
+    /// Makes a file of these bytes, or returns `FileTooLarge`. More than 30 bytes are moved, not copied. `Memory` if
+    /// memory runs out, which happens only for a valid length.
     pub fn file(bytes: Vec<u8>) -> Result<Content, ContentFault>
         ensures made { (result ≡ Err ContentFault.Memory) ⊎ (result ≡ file_of bytes.items) }
         ensures faults { IsErr (file_of bytes.items) → result ≡ file_of bytes.items }
@@ -178,8 +178,8 @@ impl Content {
         }
     }
 
-    /// Makes a symbolic link to this target without copying it, or returns `BadLink`. `Memory` if memory runs out,
-    /// which happens only for a valid target.
+    /// Makes a symbolic link to this target, or returns `BadLink`. A target of more than 30 bytes is moved, not copied.
+    /// `Memory` if memory runs out, which happens only for a valid target.
     pub fn link(target: Vec<u8>) -> Result<Content, ContentFault>
         ensures made { (result ≡ Err ContentFault.Memory) ⊎ (result ≡ link_of target.items) }
         ensures faults { IsErr (link_of target.items) → result ≡ link_of target.items }

@@ -1,4 +1,5 @@
 pub mod Prelude
 pub mod BytesLaws
+pub mod Blocks
 pub mod Holding
 pub mod Spelling

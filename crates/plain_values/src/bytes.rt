@@ -4,16 +4,19 @@ ghost use Rattle.std.specs.Prelude.{◌≡◌, ◌++◌, IfOk};
 use crate::keys::{Key, TryClone};
 use crate::orders::{order, same};
 use crate::shared::SharedBytes;
-use crate::short::{SHORT, ShortBytes};
+use crate::short::ShortBytes;
 use std::alloc::{AllocError, Global};
 use std::cmp::Ordering;
 use std::hash::{Hash, Hasher};
 use std::marker::Model;
 
+// The most bytes that are stored inline.
+const SHORT: usize = 22;
+
 // Where the bytes are stored.
 #[derive(Debug)]
 enum Held {
-    Short(ShortBytes),
+    Short(ShortBytes<SHORT>),
     Shared(SharedBytes),
 }
 
@@ -59,7 +62,7 @@ impl Bytes {
             let held = Held::Short(ShortBytes::of(alloc, bytes));
             return Ok(Bytes { held });
         }
-        let shared = SharedBytes::from_vec(Vec::from_slice(alloc, bytes)?)?;
+        let shared = SharedBytes::from_slice(alloc, bytes)?;
         Ok(Bytes {
             held: Held::Shared(shared),
         })

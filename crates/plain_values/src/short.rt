@@ -4,18 +4,15 @@ ghost use Rattle.std.specs.Prelude.{◌≡◌, ◌≤◌, ◌+◌, ◌++◌, len
 use std::alloc::Global;
 use std::marker::Model;
 
-/// The most bytes that are stored inline.
-pub const SHORT: usize = 22;
-
-/// At most 22 bytes, stored inline.
+/// At most `N` bytes, stored inline, where `N` is at most 255.
 #[derive(Debug)]
-pub struct ShortBytes {
+pub struct ShortBytes<const N: usize> {
     alloc: Global,
     len: u8,
-    bytes: [u8; 22],
+    bytes: [u8; N],
 }
 
-impl Drop for ShortBytes {
+impl<const N: usize> Drop for ShortBytes<N> {
     fn drop(self) {
         let ShortBytes {
             alloc: _,
@@ -25,23 +22,24 @@ impl Drop for ShortBytes {
     }
 }
 
-impl Model for ShortBytes {
+impl<const N: usize> Model for ShortBytes<N> {
     ghost use Rattle.std.specs.Prelude.{List, ℕ, ◌≤◌, take};
 
     ghost Value = { List ℕ };
 
     ghost view = { λ s. take s.len s.bytes };
 
-    ghost invariant = { λ s. s.len ≤ 22 };
+    ghost invariant = { λ s. s.len ≤ N };
 }
 
-impl ShortBytes {
+impl<const N: usize> ShortBytes<N> {
     /// Returns a copy of `bytes`. Allocates nothing.
-    pub fn of(alloc: Global, bytes: &[u8]) -> ShortBytes
-        requires few { length bytes.now ≤ 22 }
+    pub fn of(alloc: Global, bytes: &[u8]) -> Self
+        requires few { length bytes.now ≤ N }
+        requires byte { N ≤ 255 }
         ensures copy { result ≡ bytes.now }
     {
-        let mut held = [0; 22];
+        let mut held = [0; N];
         held[..bytes.len()].copy_from_slice(bytes);
         ShortBytes {
             alloc,
@@ -51,14 +49,16 @@ impl ShortBytes {
     }
 
     /// Returns the concatenation of two byte strings. Allocates nothing.
-    pub fn joined(alloc: Global, prefix: &[u8], back: &[u8]) -> ShortBytes
-        requires few { length prefix.now + length back.now ≤ 22 }
+    pub fn joined(alloc: Global, prefix: &[u8], back: &[u8]) -> Self
+        requires few { length prefix.now + length back.now ≤ N }
+        requires byte { N ≤ 255 }
         ensures joined { result ≡ prefix.now ++ back.now }
     {
         let len = prefix.len() + back.len();
-        let mut held = [0; 22];
-        held[..prefix.len()].copy_from_slice(prefix);
-        held[prefix.len()..len].copy_from_slice(back);
+        let mut held = [0; N];
+        let room = &mut held[..];
+        room[..prefix.len()].copy_from_slice(prefix);
+        room[prefix.len()..len].copy_from_slice(back);
         ShortBytes {
             alloc,
             len: len as u8,
@@ -80,7 +80,7 @@ impl ShortBytes {
     }
 
     /// Returns an equal byte string.
-    pub fn copy(&self) -> ShortBytes
+    pub fn copy(&self) -> Self
         ensures copy { result ≡ self.now }
     {
         ShortBytes {

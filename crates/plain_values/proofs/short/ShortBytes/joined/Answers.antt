@@ -14,4 +14,4 @@ following prefix back head tail rest k is_head is_tail =
     ∙ ap (λ ys. prefix ++ ys) is_tail
 
 pub returns : goal.returns
-returns c = record { joined = following _ _ _ _ _ _ c.copy_from_slice.ensures.after c.copy_from_slice-2.ensures.after }
+returns g c = record { joined = following _ _ _ _ _ _ c.copy_from_slice.ensures.after c.copy_from_slice-2.ensures.after }
