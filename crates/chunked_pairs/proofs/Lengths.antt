@@ -42,6 +42,11 @@ module _ {K V : Type 0} (R : K → K → Ordering) (o : IsTotalOrder R) where
       let all = subst (AllKeys (λ q. FallsTo R q ms (length ms))) is (keys_fall R o run ms (length ms) (omega arith) c) in
       falls_last e.0 k ms (length ms) (keys_parts (λ q. FallsTo R q ms (length ms)) es (e ∷ []) all).1.0 n (omega arith)
 
+  -- a key that isn't above the first pair falls to the first run
+  pub falls_to_first : (k : K) (e : K × V) (es run : List (K × V)) (ms : List (K × List (K × V))) → AreChained R run ms → run ≡ e ∷ es → R e.0 k ≢ Less → FallsTo R k ms 0
+  falls_to_first k e es run [] c is n = tt
+  falls_to_first k e es run (m ∷ ms) c is n = from_below R o k e.0 m.0 n (subst (AllKeys (λ q. R q m.0 ≡ Less)) is c.1.below).0
+
   -- a key at or above one that falls to a run, and below the next separator
   falls_between : (k q s : K) (ms : List (K × List (K × V))) (j : ℕ) (d : K × List (K × V)) → FallsTo R k ms j → R q k ≢ Less → s ≡ (get_or ms j d).0 → R q s ≡ Less → j < length ms → FallsTo R q ms j
   falls_between k q s [] j d f n e l lt = absurd (omega arith)

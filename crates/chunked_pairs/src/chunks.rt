@@ -169,8 +169,8 @@ impl<K: Key, V: Drop> Chunks<K, V> {
         run_among(&self.more, sought)
     }
 
-    /// Where a key stands, or would be inserted. O(log n); for a key at or after the last pair, a single comparison.
-    /// Allocates nothing.
+    /// Where a key stands, or would be inserted. O(log n), but only one comparison for a key at or after the last pair,
+    /// and among several runs two for one at or before the first pair. Allocates nothing.
     #[inline(always)]
     pub fn seek<S: Sought<K>>(&self, sought: &S) -> Position
         requires chunks { AreChunks K.cmp self.now }
@@ -218,8 +218,34 @@ impl<K: Key, V: Drop> Chunks<K, V> {
         }
     }
 
-    // The same, by a search among the separators, and one in a run.
+    // The same, beginning with the first pair.
     fn seek_inside<S: Sought<K>>(&self, sought: &S) -> Position
+        requires chunks { AreChunks K.cmp self.now }
+        ensures within { result.run ≤ length self.now.1 }
+        ensures falls { FallsTo K.cmp (S.key sought.now) self.now.1 result.run }
+        ensures found { IfOk result.index (IsAt K.cmp (S.key sought.now) (run_at self.now.0 self.now.1 result.run)) }
+        ensures absent { IfErr result.index (IsGap K.cmp (S.key sought.now) (run_at self.now.0 self.now.1 result.run)) }
+        ensures at_within { IfOk result.index (λ at. at < length (run_at self.now.0 self.now.1 result.run)) }
+        ensures gap_within { IfErr result.index (λ at. at ≤ length (run_at self.now.0 self.now.1 result.run)) }
+    {
+        let Some((pair, _)) = self.first.split_first() else {
+            return self.seek_between(sought);
+        };
+        match sought.order(&pair.0) {
+            Ordering::Less => self.seek_between(sought),
+            Ordering::Equal => Position {
+                run: 0,
+                index: Ok(0),
+            },
+            Ordering::Greater => Position {
+                run: 0,
+                index: Err(0),
+            },
+        }
+    }
+
+    // The same, by a search among the separators, and one in a run.
+    fn seek_between<S: Sought<K>>(&self, sought: &S) -> Position
         requires chunks { AreChunks K.cmp self.now }
         ensures within { result.run ≤ length self.now.1 }
         ensures falls { FallsTo K.cmp (S.key sought.now) self.now.1 result.run }
