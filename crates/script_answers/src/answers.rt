@@ -11,6 +11,9 @@ use script_commands::LineRefusal;
 use std::alloc::{AllocError, Global};
 use std::fmt::Write;
 
+// The most bytes of the line of an edit that was put.
+const OK_ROOM: usize = 35;
+
 // The code and the name of a refusal.
 fn code_and_name(refusal: &LineRefusal) -> &'static [u8]
     ensures name { result.now ≡ refusal_name refusal.now }
@@ -96,7 +99,9 @@ pub fn put_done(alloc: Global, version: Version) -> Result<Vec<u8>, AllocError>
 {
     let counter = version.counter;
     let writer = version.writer;
-    Ok(format!(in alloc; "ok {counter}.{writer}\n")?.into_bytes())
+    let mut line = String::with_capacity(alloc, OK_ROOM)?;
+    write!(line, "ok {counter}.{writer}\n")?;
+    Ok(line.into_bytes())
 }
 
 /// Returns the line of a merge.
