@@ -1,4 +1,4 @@
-//! Cutting a run in two, to make room in it.
+//! Cutting a run in two.
 ghost use Rattle.std.specs.Prelude.{◌≡◌, ◌≢◌, ◌+◌, ◌-◌, ◌<◌, ◌≤◌, length, take, drop, slice_index_or, IfOk, OnOk, OnErr, vec_len, vec_capacity};
 ghost use Rattle.std.specs.declared.cmp.Ordering.TheVariants.{Less};
 ghost use Rattle.chunked_pairs.specs.Chunks.{all_pairs, AreChunks, cut_run, FallsTo, in_runs, run_at, viewed, with_run};
@@ -8,35 +8,16 @@ use plain_values::Key;
 use std::alloc::AllocError;
 
 impl<K: Key, V: Drop> Chunks<K, V> {
-    /// Returns the number of the run that a key falls to, in which there is room for so many more pairs. A full run is cut
-    /// in two; one that grows at an end of all pairs only loses the pair there.
+    /// Cuts the run to which a key falls in two, and returns the number of the part to which it falls, which has at most
+    /// half as many pairs as a run may have. The cut is in the middle; a run that grows at an end of all pairs only loses
+    /// the pair there. Moves at most half of the run's pairs, and all separators behind it.
     ///
     /// Fails only if memory runs out, before anything is moved.
-    pub fn room_for(&mut self, key: &K, more: usize) -> Result<usize, AllocError>
-        requires chunks { AreChunks K.cmp self.old }
-        requires few { more ≤ HALF }
-        ensures same { all_pairs self.new ≡ all_pairs self.old }
-        ensures chunks { AreChunks K.cmp self.new }
-        ensures err { OnErr result (self.new ≡ self.old) }
-        ensures within { IfOk result (λ at. at ≤ length self.new.1) }
-        ensures falls { IfOk result (λ at. FallsTo K.cmp key.now self.new.1 at) }
-        ensures room { IfOk result (λ at. length (run_at self.new.0 self.new.1 at) + more ≤ MOST) }
-    {
-        let at = self.run_of(key);
-        if self.run(at).len() <= MOST - more {
-            return Ok(at);
-        }
-        let at = self.cut_for_key(key, at)?;
-        Ok(at)
-    }
-
-    // Cuts the run to which a key falls in two, and returns the number of the part to which it falls, which has at most
-    // half. If memory runs out, nothing has changed.
-    fn cut_for_key(&mut self, key: &K, at: usize) -> Result<usize, AllocError>
+    pub fn cut_for_key(&mut self, key: &K, at: usize) -> Result<usize, AllocError>
         requires chunks { AreChunks K.cmp self.old }
         requires within { at ≤ length self.old.1 }
         requires falls { FallsTo K.cmp key.now self.old.1 at }
-        requires long { HALF < length (run_at self.old.0 self.old.1 at) }
+        requires long { 1 < length (run_at self.old.0 self.old.1 at) }
         ensures same { all_pairs self.new ≡ all_pairs self.old }
         ensures chunks { AreChunks K.cmp self.new }
         ensures err { OnErr result (self.new ≡ self.old) }
@@ -118,7 +99,7 @@ fn cut_off<K: Key, V: Drop>(
 // Where to cut a run so that the part to which a key falls has at most half: in the middle, or at the end of all pairs
 // where the key belongs there.
 fn cut_for<K: Key, V>(run: &[(K, V)], key: &K, is_first: bool, is_last: bool) -> usize
-    requires long { HALF < length run.now }
+    requires long { 1 < length run.now }
     requires within { length run.now ≤ MOST }
     ensures some { 0 < result }
     ensures within { result < length run.now }
@@ -132,5 +113,5 @@ fn cut_for<K: Key, V>(run: &[(K, V)], key: &K, is_first: bool, is_last: bool) ->
     if is_first && key.cmp(&run[1].0).is_lt() {
         return 1;
     }
-    HALF
+    run.len() / 2
 }

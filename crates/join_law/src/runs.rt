@@ -1,6 +1,6 @@
 //! Edits of a map in chunks: a run changes places with the first one, is edited there as one vector, and goes back.
-ghost use Rattle.std.specs.{Prelude.{◌≡◌, ◌↔◌, [], ◌∷◌, None, IsTrue, IsSome, IsOk, IfOk, OnOk, OnErr, IfErr}, FinMap.{find}};
-ghost use Rattle.chunked_pairs.specs.Chunks.{all_pairs};
+ghost use Rattle.std.specs.{Prelude.{◌≡◌, ◌↔◌, ◌<◌, ◌≤◌, [], ◌∷◌, false, length, None, IsTrue, IsSome, IsOk, IfOk, OnOk, OnErr, IfErr}, FinMap.{find}};
+ghost use Rattle.chunked_pairs.specs.Chunks.{all_pairs, FallsTo, run_at};
 ghost use Rattle.join_law.specs.{Maps.{AreMapped, MapBelow}, Order.{IsJoin, IsLeast, IsPartialJoin}, Outcomes.{IsPosition}};
 
 use crate::edits::join_pair;
@@ -26,24 +26,48 @@ pub fn place_for<K: Key, V: Join>(
     let position = chunks.seek(key);
     match position.index {
         Ok(_) => Ok(position),
-        Err(_) => {
-            if chunks.run(position.run).len() < MOST {
+        Err(at) => {
+            if takes_one(chunks, position.run, at) {
                 return Ok(position);
             }
-            cut_for(chunks, key)
+            cut_for(chunks, key, position.run)
         }
     }
 }
 
-// Cuts the full run to which a new key falls in two. A refusal changes nothing.
-fn cut_for<K: Key, V: Join>(chunks: &mut Chunks<K, V>, key: &K) -> Result<Position, AllocError>
+// Returns whether a run takes one more pair at an index as it is: half of a full run does, and one that isn't full where
+// it grows at an end of all pairs. So pairs that come in order fill their runs, and others find short ones, of which few
+// pairs move.
+fn takes_one<K: Key, V: Join>(chunks: &Chunks<K, V>, run: usize, at: usize) -> bool
+    requires within { run ≤ length chunks.now.1 }
+    ensures room { IsTrue result → length (run_at chunks.now.0 chunks.now.1 run) < MOST }
+    ensures long { result ≡ false → HALF ≤ length (run_at chunks.now.0 chunks.now.1 run) }
+{
+    let len = chunks.run(run).len();
+    if len < HALF {
+        return true;
+    }
+    let is_first = run == 0 && at == 0;
+    let is_last = run == chunks.last_run() && at == len;
+    len < MOST && (is_first || is_last)
+}
+
+// Cuts the run to which a new key falls in two. A refusal changes nothing.
+fn cut_for<K: Key, V: Join>(
+    chunks: &mut Chunks<K, V>,
+    key: &K,
+    at: usize,
+) -> Result<Position, AllocError>
     requires map { AreMapped K.cmp V.below V.is_valid chunks.old }
+    requires within { at ≤ length chunks.old.1 }
+    requires falls { FallsTo K.cmp key.now chunks.old.1 at }
+    requires long { 1 < length (run_at chunks.old.0 chunks.old.1 at) }
     ensures map { AreMapped K.cmp V.below V.is_valid chunks.new }
     ensures same { all_pairs chunks.new ≡ all_pairs chunks.old }
     ensures err { OnErr result (chunks.new ≡ chunks.old) }
     ensures position { IfOk result (λ p. IsPosition K.cmp key.now chunks.new p.run p.index) }
 {
-    let run = chunks.room_for(key, HALF)?;
+    let run = chunks.cut_for_key(key, at)?;
     Ok(Position {
         run,
         index: seek_by(chunks.run(run), key),

@@ -15,8 +15,8 @@ returns-in-Ok-clause-position g c = record {
   room = λ none. absurd (at_some g.K.Ord.cmp c.args.key.now _ _ (rw c.in-Ok.is at c.seek-position.ensures.found) none);
 }
 
-pub returns-else-run-lt-MOST-clause-known : goal.returns-else-run-lt-MOST-clause-known
-returns-else-run-lt-MOST-clause-known g c = λ some.
+pub returns-else-takes_one-clause-known : goal.returns-else-takes_one-clause-known
+returns-else-takes_one-clause-known g c = λ some.
     let chunks = c.args.chunks.now in
     let at = c.seek-position.result.run in
     let within = c.seek-position.ensures.within in
