@@ -13,12 +13,15 @@ REFUSED = (b"memory", b"out of memory")
 
 AT = b"; refused at "
 
-# Calls at what is held, or where there is room, which take no memory: these are never made again, and all others at some request.
+# Calls at what is held, where there is room, or where a pair stands alone in its map, which take no memory: these are never made again,
+# and all others at some request.
 HELD = (
     b"again remove ",
+    b"again put E/x=A",
     b"again put E/x=B 1.2:E/x=A",
+    b"again split 1 ",
     b"again at 1:1.1=65,2:1.1=65,3:1.1=65,4:1.1=65 4 ",
-    b"again join 1:1.1=65 1:1.2=66,2:1.1=67",
+    b"again join 1:1.1=65,2:1.1=65,3:1.1=65 1:1.2=66,4:1.1=67",
 )
 
 
