@@ -99,8 +99,8 @@ fn join_in_run<K: Key, V: Join>(
     outcome
 }
 
-// Joins copies of the first of some sorted pairs, as many as one run takes, and returns how many. A full run is cut in
-// two where a key is new.
+// Joins copies of the first of some sorted pairs, as many as one run takes, and returns how many. Where the first key is
+// new and its run doesn't take one more, the run is cut in two.
 fn join_some<K: Key, V: Join>(
     chunks: &mut Chunks<K, V>,
     pairs: &[(K, V)],
