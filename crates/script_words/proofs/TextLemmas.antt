@@ -1,6 +1,6 @@
 -- Steps of reading a text.
-use Rattle.std.proofs.Common.{◌++◌, ◌<◌, ◌==◌, ◌∷◌, ◌≡◌, ◌⊎◌}
-use Rattle.script_words.proofs.Prelude.{[], and_parts, ap, append-nil, append_assoc, arith, backslash, Bool, byte_read, cond, eqb-false, eqb-true, escape_read, false, hex_read, inl, inr, IsBadText, IsSpelling, itself, length, line_feed, List, ltb-true, None, none_read, refl, same_read, Some, spells_none, spells_read, subst, sym, tab, true, two_digits, ℕ, ⊎_elim, ◌∙◌}
+use Rattle.std.proofs.Common.{◌++◌, ◌+◌, ◌<◌, ◌==◌, ◌∷◌, ◌≡◌, ◌≢◌, ◌⊎◌}
+use Rattle.script_words.proofs.Prelude.{[], All-take_before, AllByRecursion, and_parts, ap, append-nil, append_assoc, arith, backslash, Bool, byte_read, cond, cond-false, cut_around, drop, eqb-false, eqb-true, escape_read, false, get_or, hex_read, inl, inr, IsBadText, IsSpelling, itself, length, line_feed, List, ltb-true, ne_eqb, None, none_read, recursion_from_All, refl, same_read, Some, spells_none, spells_read, subst, sym, tab, take, take_all, true, two_digits, ℕ, ⊎_elim, ◌∙◌}
 use Rattle.script_words.specs.Text.{Spells}
 
 by_test : {A : Type 0} (t : Bool) (x y z : A) → cond t x y ≡ z → ((t ≡ true) × (x ≡ z)) ⊎ ((t ≡ false) × (y ≡ z))
@@ -86,9 +86,29 @@ read_more text done rest after byte so_far read =
           (cut.0, later.1 ∙ ap (λ v. done ++ v) cut.1 ∙ sym (append_assoc done (byte ∷ []) cut.0), cut.2);
     }
 
-pub read_all : (text done rest : List ℕ) → IsReadTo text done rest → rest ≡ [] → Spells text done
+-- bytes without a backslash are read as they stand
+read_plain : (text done front back : List ℕ) → AllByRecursion (λ b. b ≢ 92) front → IsReadTo text done (front ++ back) → IsReadTo text (done ++ front) back
+read_plain text done [] back plain so_far = rw append-nil so_far
+read_plain text done (b ∷ front) back plain so_far =
+    let one = read_more text done (b ∷ front ++ back) (front ++ back) b so_far (cond-false _ _ _ (ne_eqb b 92 plain.0)) in
+    subst (λ v. IsReadTo text v back) (append_assoc done (b ∷ []) front) (read_plain text (done ++ b ∷ []) front back plain.1 one)
+
+-- the bytes before a text's first backslash
+pub read_before : (text done rest : List ℕ) (at : ℕ) → at < length rest → get_or rest at 0 ≡ 92 → ((k : ℕ) → k < at → get_or rest k 0 ≢ 92) → IsReadTo text done rest
+    → IsReadTo text (done ++ take at rest) (92 ∷ drop (at + 1) rest)
+read_before text done rest at lt is before so_far =
+    read_plain text done (take at rest) (92 ∷ drop (at + 1) rest)
+    (recursion_from_All (λ b. b ≢ 92) (take at rest) (All-take_before (λ b. b ≢ 92) rest at (omega (arith, lt)) before))
+    (subst (λ v. IsReadTo text done v) (cut_around rest at 92 lt is) so_far)
+
+-- The text ends without another backslash.
+pub read_all : (text done rest : List ℕ) → ((k : ℕ) → k < length rest → get_or rest k 0 ≢ 92) → IsReadTo text done rest → Spells text (done ++ rest)
 unfolding Spells
-read_all text done rest so_far end = subst (λ v. Spells text v) (append-nil done) (so_far.joins [] end)
+read_all text done rest plain so_far =
+    let all = subst (λ v. AllByRecursion (λ b. b ≢ 92) v) (take_all (length rest) rest (omega arith))
+    (recursion_from_All (λ b. b ≢ 92) (take (length rest) rest) (All-take_before (λ b. b ≢ 92) rest (length rest) (omega arith) plain)) in
+    let end = read_plain text done rest [] all (subst (λ v. IsReadTo text done v) (sym (append-nil rest)) so_far) in
+    subst (λ v. Spells text v) (append-nil (done ++ rest)) (end.joins [] refl)
 
 pub read_bad : (text done rest : List ℕ) → IsReadTo text done rest → 0 < length rest → byte_read rest ≡ None → IsBadText text
 unfolding Spells

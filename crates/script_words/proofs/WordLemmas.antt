@@ -1,6 +1,6 @@
 -- How the first word of a line is split off.
 use Rattle.std.proofs.Common.{◌+◌, ◌<◌, ◌∷◌, ◌≡◌, ◌≢◌, ◌≤◌}
-use Rattle.script_words.proofs.Prelude.{[], All-take_before, ap, arith, cases_Bool, cases_lt, cond-true, cut_around, drop, drop_all, drop_more, eqb-false, eqb-true, fails_before_first, false, get_or, is_space, IsWord, length, length-drop, length-take-le, List, nil_from_length, not, passes_at_first, position_or_len, prefix_len, prefix_len-le-length, refl, skip_spaces, skip_spaces-other, skip_spaces-space, skip_word, subst, sym, take, take_all, true, words_of, words_of-nil, words_of-space, words_of-word, words_of-word_space, ℕ, ⊎_elim, ◌∙◌}
+use Rattle.script_words.proofs.Prelude.{[], All-take_before, ap, arith, cases_Bool, cases_lt, cond-true, cut_around, drop, drop_all, drop_more, eqb-false, eqb-true, fails_before_first, false, false_from_ne_true, get_or, is_byte, is_space, IsFirstByte, IsWord, length, length-drop, length-take-le, List, nil_from_length, None, not, Option, passes_at_first, position_or_len, position_or_len_is, prefix_len, prefix_len-le-length, refl, skip_spaces, skip_spaces-other, skip_spaces-space, skip_word, Some, subst, sym, take, take_all, true, unwrap_or, words_of, words_of-nil, words_of-space, words_of-word, words_of-word_space, ℕ, ⊎_elim, ◌∙◌}
 use Rattle.script_words.specs.Words.{after_word}
 
 words_of-skip : (line : List ℕ) → words_of line ≡ words_of (skip_spaces line)
@@ -25,6 +25,13 @@ word_begins (b ∷ line) some = by_cases (word_begins line) some
         let long : position_or_len is_space (b ∷ line) ≡ 1 + position_or_len is_space line = cond-true _ _ _ (ap not is) in
         subst (λ v. 0 < position_or_len is_space v) (sym (skip_spaces-other b line is)) (omega (arith, long)))
         (cases_Bool (is_space b))
+
+-- a search for the first space, where none is told by the end
+pub first_space : (line : List ℕ) (found : Option ℕ) (end : ℕ) → IsFirstByte (is_byte 32) line found → end ≡ unwrap_or found (length line) → end ≡ position_or_len is_space line
+first_space line None end none is =
+    is ∙ sym (position_or_len_is is_space line (length line) 0 (omega arith) (λ k h. false_from_ne_true _ (none k (omega arith) h)) (λ lt. absurd (omega (arith, lt))))
+first_space line (Some at) end first is =
+    is ∙ sym (position_or_len_is is_space line at 0 (omega (arith, first.0.high)) (λ k h. false_from_ne_true _ (first.0.before k (omega arith) h)) (λ lt. first.1))
 
 -- the bytes before the first space are a word, if there are any
 word_before : (body : List ℕ) → 0 < position_or_len is_space body → IsWord (take (position_or_len is_space body) body)

@@ -2,6 +2,7 @@
 ghost use Rattle.std.specs.{Prelude.{◌≡◌, ◌<◌, MatchOption, IfOk, IfSome, SomeIff, length}, Char.{digit_value}};
 ghost use Rattle.script_words.specs.Text.{Spells, IsBadText, byte_read, escape_read, hex_read};
 
+use bstr::ByteSlice;
 use std::alloc::{AllocError, Global};
 
 /// Returns the bytes that a text spells, or `None` if a backslash in it doesn't begin an escape.
@@ -14,28 +15,16 @@ pub fn unescape(alloc: Global, text: &[u8]) -> Result<Option<Vec<u8>>, AllocErro
 {
     let mut bytes = Vec::with_capacity(alloc, text.len())?;
     let mut rest = text;
-    while !rest.is_empty() {
-        let Some((byte, after)) = read_byte(rest) else {
+    while let Some(at) = rest.find_byte(b'\\') {
+        bytes.extend_from_slice(&rest[..at])?;
+        let Some((byte, after)) = read_escape(&rest[at + 1..]) else {
             return Ok(None);
         };
         bytes.push(byte)?;
         rest = after;
     }
+    bytes.extend_from_slice(rest)?;
     Ok(Some(bytes))
-}
-
-// Returns the first byte that a text spells, and the text after its spelling.
-fn read_byte(text: &[u8]) -> Option<(u8, &[u8])>
-    ensures value { MatchOption result (byte_read text.now ≡ None)
-        (λ read. byte_read text.now ≡ Some (read.0, read.1.now)) }
-    ensures shorter { IfSome result (λ read. length read.1.now < length text.now) }
-{
-    let (first, rest) = text.split_first()?;
-    if *first == b'\\' {
-        read_escape(rest)
-    } else {
-        Some((*first, rest))
-    }
 }
 
 // Returns the byte that an escape spells, given the text after its backslash, and the text after the escape.

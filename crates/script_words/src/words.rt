@@ -2,6 +2,8 @@
 ghost use Rattle.std.specs.{Prelude.{◌≡◌, [], ◌∷◌, ◌<◌, ◌≤◌, length, MatchOption, IfSome}, List.{prefix_len, position_or_len}};
 ghost use Rattle.script_words.specs.Words.{words_of, after_word, text_after, is_space, skip_spaces};
 
+use bstr::ByteSlice;
+
 // Returns the number of leading spaces.
 fn count_spaces(line: &[u8]) -> usize
     ensures count { result ≡ prefix_len is_space line.now }
@@ -22,7 +24,7 @@ fn count_to_space(line: &[u8]) -> usize
     ensures count { result ≡ position_or_len is_space line.now }
     ensures within { result ≤ length line.now }
 {
-    line.iter().take_while(|b| **b != b' ').count()
+    line.find_byte(b' ').unwrap_or(line.len())
 }
 
 /// Splits a line after its first word, and returns the word and the rest; `None` if the line has no words.
