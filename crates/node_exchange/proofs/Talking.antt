@@ -1,5 +1,5 @@
 -- Messages that are read and written, frame by frame.
-use Rattle.std.proofs.Common.{◌≡◌, ◌++◌, ◌<◌, ◌∷◌, ◌∙◌, [], ap, append-nil, append_assoc, arith, Err, false, get_or, length, List, map, None, Ok, OnOk, Option, refl, Result, Some, subst, suc, sym, true, zero, ℕ}
+use Rattle.std.proofs.Common.{◌≡◌, ◌++◌, ◌<◌, ◌∷◌, ◌∙◌, [], ap, append-nil, append_assoc, arith, Err, false, get_or, length, List, None, Ok, OnOk, Option, refl, Result, Some, subst, suc, sym, true, zero, ℕ}
 use Rattle.std.proofs.lemmas.List.{map-append}
 use Rattle.std.proofs.lemmas.List.Concat.{flat_map-append}
 use Rattle.std.proofs.lemmas.Grind.{fold-append}

@@ -71,3 +71,10 @@ met_news known p time = if was_met known p time then [] else record { mark = p.m
 -- what is noted: those of whom the peer tells, where that is news, and the peer with the time, unless it was met just before
 abbrev pub news_of : LogHead → List LogPeer → Hello → ℕ → List LogPeer
 news_of head known hello time = told_news head known hello.peers ++ met_news known (speaker hello) time
+
+-- ---- the law
+
+-- Whom a node may not meet may not meet it either, where both said who they are and whom they know.
+abbrev pub MeetingsAreMutual : Type 0
+MeetingsAreMutual = (one other : LogHead) (ones others : List LogPeer) (given told : ℕ) (says answers : Hello)
+    → IsHelloOf one ones given says → IsHelloOf other others told answers → MayMeet one ones answers → MayMeet other others says

@@ -9,7 +9,6 @@ use Rattle.world_law.specs.Cuts.{digest_of}
 use Rattle.edit_log.specs.declared.logs.{LogHead.{LogHead}, LogPeer.{LogPeer}}
 use Rattle.durable_node.specs.Peers.{AreLatest}
 use Rattle.exchange_session.specs.{Joined.{joined}, Standing.{IsReply, opening, Said}, Told.{IsNewerAt, IsNothingNew, IsOwnPrint, IsTold, IsUnequalAt}}
-use Rattle.exchange_session.specs.declared.messages.{RangeAsk.{RangeAsk}, RangePrint.{RangePrint}}
 use Rattle.exchange_bytes.specs.Cutting.{all_asks, all_pieces, all_prints, AreFrames}
 use Rattle.exchange_bytes.specs.declared.frames.{Frame.{Frame}, Hello.{Hello}}
 use Rattle.node_exchange.specs.Meeting.{IsHelloOf, MayMeet, news_of}
@@ -113,3 +112,16 @@ pub record Responds (head : LogHead) (from to : EntryMap) (Noted : List LogPeer 
   pub ended : Ended met.seed (joined from (all_pieces first)) (to_answer first) (Some own) said heard to
   pub wrote : Appends over.written_before over.written (on_stream said)
   pub consumed : Consumes over.read_before over.read (on_stream (first ++ heard))
+
+-- A peer is turned away: the node says this message and who it is and whom it knows, and reads one frame, by which the two may not meet.
+pub record TurnsAway (head : LogHead) (given : ℕ) (message : Said) (Knew : List LogPeer → Type 0) (over : Traffic) : Type 0 where
+  pub known : List LogPeer
+  pub knew : Knew known
+  pub own : Hello
+  pub is_own : IsHelloOf head known given own
+  pub wrote : Written (Some own) message over.written_before over.written
+  pub first : Frame
+  pub met : Hello
+  pub says : first.hello ≡ Some met
+  pub may_not : MayMeet head known met → ⊥
+  pub read : Consumes over.read_before over.read (on_stream (first ∷ []))

@@ -1,5 +1,5 @@
 //! Messages that are heard.
-ghost use Rattle.std.specs.Prelude.{◌++◌, ◌≡◌, ◌↔◌, [], false, IfOk, OnOk, true};
+ghost use Rattle.std.specs.Prelude.{◌++◌, ◌≡◌, ◌↔◌, [], false, IfOk, IsErrOf, OnOk, true};
 ghost use Rattle.edit_sums.specs.Sums.{join};
 ghost use Rattle.node_exchange.specs.{Hearing.{Hears}, Later.{IsLater}};
 
@@ -86,6 +86,7 @@ fn take_frame<L: EditLog>(
     ensures prints { OnOk result (heard.new.prints.items ≡ heard.old.prints.items ++ frame.prints.items) }
     ensures asks { OnOk result (heard.new.asks.items ≡ heard.old.asks.items ++ frame.asks.items) }
     ensures peers { L.is_honest node.new.log → OnOk result (L.peers node.new.log ≡ L.peers node.old.log) }
+    ensures other { IsErrOf result ExchangeFault.WriterTaken → ⊥ }
     ensures later { IsLater L.is_honest L.head L.may_leave node.old node.new }
     ensures whole { OnOk result (node.new.is_spent ≡ false) }
     ensures saved { OnOk result (node.new.unsaved ≡ []) }
@@ -111,6 +112,7 @@ pub fn hear<L: EditLog, S: Source>(
     ensures heard { IfOk result (λ heard. Hears first node.old.replica.store node.new.replica.store heard.prints.items heard.asks.items
         (S.remaining source.old) (S.remaining source.new)) }
     ensures peers { L.is_honest node.new.log → OnOk result (L.peers node.new.log ≡ L.peers node.old.log) }
+    ensures other { IsErrOf result ExchangeFault.WriterTaken → ⊥ }
     ensures later { IsLater L.is_honest L.head L.may_leave node.old node.new }
     ensures whole { OnOk result (node.new.is_spent ≡ false) }
     ensures saved { OnOk result (node.new.unsaved ≡ []) }

@@ -10,10 +10,12 @@
 //! - `meeting`: who is met and noted; `reading`, `saying`: frames on the streams; `hearing`: what is taken of a message; `turns`:
 //!   who speaks when.
 //! - `ExchangeFault`: why an exchange ended before that.
+//! - `meeting_laws`: of two that may not meet both refuse.
 #![tactic(auto)]
 
 mod faults;
 mod hearing;
+mod laws;
 mod meeting;
 mod reading;
 mod saying;
@@ -21,4 +23,5 @@ mod turns;
 
 pub use byte_fields::SpellingFault;
 pub use faults::ExchangeFault;
+pub use laws::meeting_laws;
 pub use turns::{call, respond};

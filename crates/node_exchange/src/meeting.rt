@@ -1,5 +1,5 @@
 //! Who is met.
-ghost use Rattle.std.specs.Prelude.{◌≡◌, ◌↔◌, ◌++◌, [], false, IfOk, IsPermutation, IsTrue, map, OnOk};
+ghost use Rattle.std.specs.Prelude.{◌≡◌, ◌↔◌, ◌++◌, [], false, IfOk, IsErrOf, IsPermutation, IsTrue, map, OnOk};
 ghost use Rattle.exchange_bytes.specs.declared.peers.Peer.{Peer};
 ghost use Rattle.list_laws.specs.Members.{IsAmong};
 ghost use Rattle.node_exchange.specs.{Later.{IsLater}, Meeting.{has_other_file, is_known, is_news, is_other_file, is_same, is_same_mark, IsHelloOf, knows_other_file, MayMeet, news_of, node_of, peer_of, speaker, told_news, was_met}};
@@ -194,6 +194,7 @@ pub fn note<L: EditLog>(node: &mut NodeFile<L>, news: &[LogPeer]) -> Result<(), 
     requires saved { node.old.unsaved ≡ [] }
     ensures noted { L.is_honest node.new.log → OnOk result (IsPermutation (L.peers node.old.log ++ news.now) (L.peers node.new.log)) }
     ensures replica { node.new.replica ≡ node.old.replica }
+    ensures other { IsErrOf result ExchangeFault.WriterTaken → ⊥ }
     ensures later { IsLater L.is_honest L.head L.may_leave node.old node.new }
     ensures whole { OnOk result (node.new.is_spent ≡ false) }
     ensures saved { OnOk result (node.new.unsaved ≡ []) }
@@ -215,6 +216,7 @@ pub fn known_peers<L: EditLog>(
     ensures peers { L.is_honest node.new.log → OnOk result (L.peers node.new.log ≡ L.peers node.old.log) }
     ensures replica { node.new.replica ≡ node.old.replica }
     ensures unsaved { node.new.unsaved ≡ node.old.unsaved }
+    ensures other { IsErrOf result ExchangeFault.WriterTaken → ⊥ }
     ensures later { IsLater L.is_honest L.head L.may_leave node.old node.new }
     ensures whole { OnOk result (node.new.is_spent ≡ false) }
 {

@@ -1,5 +1,5 @@
 //! Frames that are read.
-ghost use Rattle.std.specs.Prelude.{◌≡◌, ◌≤◌, ◌∷◌, [], IfOk, length, None};
+ghost use Rattle.std.specs.Prelude.{◌≡◌, ◌≤◌, ◌∷◌, [], IfOk, IsErrOf, length, None};
 ghost use Rattle.std.specs.Int.{to_be_bytes, w32};
 ghost use Rattle.std.specs.Io.KnownBytes.{Consumes};
 ghost use Rattle.node_exchange.specs.Streams.{on_stream};
@@ -27,6 +27,7 @@ fn read_some<S: Source>(
     most: usize,
 ) -> Result<Vec<u8>, ExchangeFault>
     ensures within { IfOk result (λ bytes. length bytes.items ≤ most) }
+    ensures other { IsErrOf result ExchangeFault.WriterTaken → ⊥ }
     ensures read { IfOk result (λ bytes. Consumes (S.remaining source.old) (S.remaining source.new) bytes.items) }
 {
     let mut bytes = vec![in alloc; 0; most]?;
@@ -47,6 +48,7 @@ fn read_bytes<S: Source>(
     len: usize,
 ) -> Result<Vec<u8>, ExchangeFault>
     ensures len { IfOk result (λ bytes. length bytes.items ≡ len) }
+    ensures other { IsErrOf result ExchangeFault.WriterTaken → ⊥ }
     ensures read { IfOk result (λ bytes. Consumes (S.remaining source.old) (S.remaining source.new) bytes.items) }
 {
     let mut bytes = Vec::new(alloc);
@@ -64,6 +66,7 @@ fn read_bytes<S: Source>(
 // The length of the frame that comes next.
 fn read_length<S: Source>(alloc: Global, source: &mut S) -> Result<usize, ExchangeFault>
     ensures within { IfOk result (λ len. len ≤ MOST_BYTES) }
+    ensures other { IsErrOf result ExchangeFault.WriterTaken → ⊥ }
     ensures read { IfOk result (λ len. Consumes (S.remaining source.old) (S.remaining source.new) (to_be_bytes w32 len)) }
 {
     let head = read_bytes(alloc, source, 4)?;
@@ -76,6 +79,7 @@ fn read_length<S: Source>(alloc: Global, source: &mut S) -> Result<usize, Exchan
 
 /// Reads the next frame, behind its length.
 pub fn read_frame<S: Source>(alloc: Global, source: &mut S) -> Result<Frame, ExchangeFault>
+    ensures other { IsErrOf result ExchangeFault.WriterTaken → ⊥ }
     ensures read { IfOk result (λ frame. Consumes (S.remaining source.old) (S.remaining source.new) (on_stream (frame ∷ []))) }
 {
     let len = read_length(alloc, source)?;
@@ -85,6 +89,7 @@ pub fn read_frame<S: Source>(alloc: Global, source: &mut S) -> Result<Frame, Exc
 
 /// Reads the next frame of a message that has begun: one that says again who the peer is is refused with `Hello`.
 pub fn read_next<S: Source>(alloc: Global, source: &mut S) -> Result<Frame, ExchangeFault>
+    ensures other { IsErrOf result ExchangeFault.WriterTaken → ⊥ }
     ensures read { IfOk result (λ frame. Consumes (S.remaining source.old) (S.remaining source.new) (on_stream (frame ∷ []))) }
     ensures unnamed { IfOk result (λ frame. frame.hello ≡ None) }
 {

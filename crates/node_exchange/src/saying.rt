@@ -1,5 +1,5 @@
 //! Messages that are said.
-ghost use Rattle.std.specs.Prelude.{◌∷◌, [], OnOk};
+ghost use Rattle.std.specs.Prelude.{◌∷◌, [], IsErrOf, OnOk};
 ghost use Rattle.std.specs.Io.KnownBytes.{Appends};
 ghost use Rattle.exchange_session.specs.Runs.{said_of};
 ghost use Rattle.node_exchange.specs.{Streams.{on_stream}, Talks.{Written}};
@@ -13,6 +13,7 @@ use std::alloc::Global;
 
 // Writes a frame behind its length.
 fn write_frame<K: Sink>(alloc: Global, sink: &mut K, frame: &Frame) -> Result<(), ExchangeFault>
+    ensures other { IsErrOf result ExchangeFault.WriterTaken → ⊥ }
     ensures written { OnOk result (Appends (K.contents sink.old) (K.contents sink.new) (on_stream (frame.now ∷ []))) }
 {
     let bytes = frame_to_bytes(alloc, frame)?;
@@ -27,6 +28,7 @@ fn write_frame<K: Sink>(alloc: Global, sink: &mut K, frame: &Frame) -> Result<()
 
 // Writes frames.
 fn write_frames<K: Sink>(alloc: Global, sink: &mut K, frames: &[Frame]) -> Result<(), ExchangeFault>
+    ensures other { IsErrOf result ExchangeFault.WriterTaken → ⊥ }
     ensures written { OnOk result (Appends (K.contents sink.old) (K.contents sink.new) (on_stream frames.now)) }
 {
     for frame in frames {
@@ -42,6 +44,7 @@ pub fn say<K: Sink>(
     hello: Option<Hello>,
     message: Message,
 ) -> Result<(), ExchangeFault>
+    ensures other { IsErrOf result ExchangeFault.WriterTaken → ⊥ }
     ensures written { OnOk result (Written hello (said_of message) (K.contents sink.old) (K.contents sink.new)) }
 {
     let frames = frames_of(alloc, hello, message)?;

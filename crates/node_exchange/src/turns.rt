@@ -1,7 +1,9 @@
 //! Who speaks when.
 ghost use Rattle.std.specs.Prelude.{◌≡◌, [], false, IfOk, IsErrOf, OnOk, Some};
+ghost use Rattle.durable_node.specs.Peers.{AreLatest};
 ghost use Rattle.exchange_bytes.specs.declared.frames.Hello.{Hello};
-ghost use Rattle.node_exchange.specs.{Later.{IsLater}, Meeting.{MayMeet}, Talks.{Calls, Notes, Responds, Talks}};
+ghost use Rattle.exchange_session.specs.{Runs.{said_of}, Standing.{opening}};
+ghost use Rattle.node_exchange.specs.{Later.{IsLater}, Meeting.{MayMeet}, Talks.{Calls, Notes, Responds, Talks, TurnsAway}};
 
 use crate::faults::ExchangeFault;
 use crate::hearing::{Heard, hear};
@@ -19,7 +21,9 @@ use std::alloc::Global;
 const MOST_TURNS: u32 = 64;
 
 // A message that says nothing.
-fn nothing(alloc: Global) -> Message {
+fn nothing(alloc: Global) -> Message
+    ensures nothing { said_of result ≡ record { prints = []; asks = []; pieces = [] } }
+{
     Message {
         prints: Vec::new(alloc),
         asks: Vec::new(alloc),
@@ -56,6 +60,7 @@ fn converse<L: EditLog, S: Source, K: Sink>(
     ensures talks { OnOk result (Talks seed node.old.replica.store (record { prints = heard.prints.items; asks = heard.asks.items; pieces = [] }) hello
         node.new.replica.store (K.contents sink.old) (K.contents sink.new) (S.remaining source.old) (S.remaining source.new)) }
     ensures peers { L.is_honest node.new.log → OnOk result (L.peers node.new.log ≡ L.peers node.old.log) }
+    ensures other { IsErrOf result ExchangeFault.WriterTaken → ⊥ }
     ensures later { IsLater L.is_honest L.head L.may_leave node.old node.new }
     ensures whole { OnOk result (node.new.is_spent ≡ false) }
     ensures saved { OnOk result (node.new.unsaved ≡ []) }
@@ -89,8 +94,9 @@ fn converse<L: EditLog, S: Source, K: Sink>(
 /// Who the peer is, and whom it knows, is noted in the node's log once its first message came whole.
 ///
 /// Fails with `WriterTaken` if the peer writes under the same number, or if either side knows another file under the number of
-/// the other; with `Bytes`, `Length`, `Hello` or `Endless` if what comes is no message; with `Node` if the node refuses what
-/// comes; with `Read`, `Write` or `Memory`. Then what was committed before stays, and nothing is lost.
+/// the other, and in no other case: then nothing was taken and nothing noted, and the peer can tell it too. Fails with `Bytes`,
+/// `Length`, `Hello` or `Endless` if what comes is no message; with `Node` if the node refuses what comes; with `Read`, `Write`
+/// or `Memory`. Then what was committed before stays, and nothing is lost.
 pub fn call<L: EditLog, S: Source, K: Sink>(
     alloc: Global,
     node: &mut NodeFile<L>,
@@ -109,6 +115,16 @@ pub fn call<L: EditLog, S: Source, K: Sink>(
           read_before = S.remaining source.old;
           read = S.remaining source.new;
         })) }
+    ensures away { IsErrOf result ExchangeFault.WriterTaken → TurnsAway (L.head node.old.log) seed (opening seed node.old.replica.store)
+        (λ known. L.is_honest node.new.log → AreLatest (L.peers node.old.log) known)
+        (record {
+          written_before = K.contents sink.old;
+          written = K.contents sink.new;
+          read_before = S.remaining source.old;
+          read = S.remaining source.new;
+        }) }
+    ensures kept { IsErrOf result ExchangeFault.WriterTaken → node.new.replica ≡ node.old.replica }
+    ensures unnoted { IsErrOf result ExchangeFault.WriterTaken → L.is_honest node.new.log → L.peers node.new.log ≡ L.peers node.old.log }
     ensures later { IsLater L.is_honest L.head L.may_leave node.old node.new }
     ensures whole { OnOk result (node.new.is_spent ≡ false) }
     ensures saved { OnOk result (node.new.unsaved ≡ []) }
@@ -126,8 +142,8 @@ pub fn call<L: EditLog, S: Source, K: Sink>(
     converse(alloc, node, seed, time, heard, None, source, sink)
 }
 
-/// Takes part in an exchange that the peer begins, as `call` does, with the peer's seed. A peer that is refused is told before it
-/// who this node is and whom it knows, so that it refuses too.
+/// Takes part in an exchange that the peer begins, as `call` does, with the peer's seed. Before it fails with `WriterTaken` it tells
+/// the peer who this node is and whom it knows, so that the peer refuses too.
 pub fn respond<L: EditLog, S: Source, K: Sink>(
     alloc: Global,
     node: &mut NodeFile<L>,
@@ -145,6 +161,16 @@ pub fn respond<L: EditLog, S: Source, K: Sink>(
           read_before = S.remaining source.old;
           read = S.remaining source.new;
         })) }
+    ensures away { IsErrOf result ExchangeFault.WriterTaken → TurnsAway (L.head node.old.log) 0 (record { prints = []; asks = []; pieces = [] })
+        (λ known. L.is_honest node.new.log → AreLatest (L.peers node.old.log) known)
+        (record {
+          written_before = K.contents sink.old;
+          written = K.contents sink.new;
+          read_before = S.remaining source.old;
+          read = S.remaining source.new;
+        }) }
+    ensures kept { IsErrOf result ExchangeFault.WriterTaken → node.new.replica ≡ node.old.replica }
+    ensures unnoted { IsErrOf result ExchangeFault.WriterTaken → L.is_honest node.new.log → L.peers node.new.log ≡ L.peers node.old.log }
     ensures later { IsLater L.is_honest L.head L.may_leave node.old node.new }
     ensures whole { OnOk result (node.new.is_spent ≡ false) }
     ensures saved { OnOk result (node.new.unsaved ≡ []) }

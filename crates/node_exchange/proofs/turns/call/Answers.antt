@@ -1,12 +1,12 @@
-use Rattle.std.proofs.Common.{◌≡◌, ◌++◌, ◌∙◌, [], ap, List, None, refl, subst, sym}
+use Rattle.std.proofs.Common.{◌≡◌, ◌++◌, ◌∙◌, [], ap, List, None, rules, Some, subst, sym}
 use Rattle.edit_sums.specs.Sums.{EntryMap}
 use Rattle.edit_log.specs.declared.logs.{LogHead.{LogHead}, LogPeer.{LogPeer}}
 use Rattle.exchange_bytes.specs.declared.frames.Hello.{Hello}
-use Rattle.exchange_session.specs.{Runs.{said_of}, Standing.{opening}}
+use Rattle.exchange_session.specs.{Runs.{said_of}, Standing.{opening, Said}}
 use Rattle.node_exchange.specs.Hearing.{Hears}
 use Rattle.std.specs.Prelude.{IsPermutation}
 use Rattle.node_exchange.specs.Meeting.{IsHelloOf, MayMeet, news_of}
-use Rattle.node_exchange.specs.Talks.{Calls, Notes, Talks}
+use Rattle.node_exchange.specs.Talks.{Calls, Notes, Talks, Written}
 use Rattle.node_exchange.proofs.Keeping.{later_then}
 use Rattle.node_exchange.proofs.Talking.{both_ok, called, notes_kept}
 use Rattle.node_exchange.proofs.turns.call.Goals as goal
@@ -21,6 +21,33 @@ returns-in_err-note-clause-later g c =
     let log = g.L.EditLog in
     later_then log.is_honest log.head log.may_leave c.args.node.now c.known_peers.new.node c.note.new.node c.known_peers.ensures.later
     (later_then log.is_honest log.head log.may_leave c.known_peers.new.node c.hear.new.node c.note.new.node c.hear.ensures.later c.note.ensures.later)
+
+pub returns-in_err-met-clause-away : goal.returns-in_err-met-clause-away
+returns-in_err-met-clause-away g c = λ taken.
+    let log = g.L.EditLog in
+    let head = log.head c.args.node.now.log in
+    let known = c.in_ok-known.known.items in
+    let from = c.args.node.now.replica.store in
+    let own = c.in_ok-own.own in
+    let refused = c.in_err-met.ensures.taken (search rules) in
+    let is_own : IsHelloOf head known c.args.seed own =
+    subst (λ (h : LogHead). IsHelloOf h known c.args.seed own) c.head-head.ensures.head (subst (λ (k : List LogPeer). IsHelloOf c.head-head.result k c.args.seed own) c.deref.ensures.value c.in_ok-own.ensures.own) in
+    let held : c.replica.result.now.store ≡ from = λ i. ((c.replica.ensures.replica ∙ c.known_peers.ensures.replica) i).store in
+    let said : said_of c.in_ok-message.message ≡ opening c.args.seed c.replica.result.now.store =
+    λ i. record { prints = c.in_ok-message.ensures.print i; asks = c.in_ok-message.ensures.asks i; pieces = c.in_ok-message.ensures.pieces i } in
+    let opens : said_of c.in_ok-message.message ≡ opening c.args.seed from = said ∙ ap (opening c.args.seed) held in
+    record {
+      known = known;
+      knew = c.in_ok-known.ensures.latest;
+      own = own;
+      is_own = is_own;
+      wrote = subst (λ (m : Said). Written (Some own) m (g.K.Sink.contents c.args.sink.now) (g.K.Sink.contents c.say.new.sink)) opens c.in_ok-say.ensures.written;
+      first = c.in_ok-first.first;
+      met = refused.0;
+      says = refused.1.0;
+      may_not = λ may. refused.1.1 (subst (λ (h : LogHead). MayMeet h c.deref-2.result.now refused.0) (sym c.head-head.ensures.head) (subst (λ (k : List LogPeer). MayMeet head k refused.0) (sym c.deref-2.ensures.value) may));
+      read = c.in_ok-first.ensures.read;
+    }
 
 pub returns-clause-later : goal.returns-clause-later
 returns-clause-later g c =

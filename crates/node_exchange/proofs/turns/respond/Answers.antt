@@ -1,11 +1,12 @@
-use Rattle.std.proofs.Common.{◌≡◌, ◌++◌, ◌∙◌, [], List, Some, subst}
+use Rattle.std.proofs.Common.{◌≡◌, ◌++◌, ◌∙◌, [], List, rules, Some, subst, sym}
 use Rattle.edit_sums.specs.Sums.{EntryMap}
 use Rattle.edit_log.specs.declared.logs.{LogHead.{LogHead}, LogPeer.{LogPeer}}
 use Rattle.exchange_bytes.specs.declared.frames.Hello.{Hello}
+use Rattle.exchange_session.specs.Standing.{Said}
 use Rattle.node_exchange.specs.Hearing.{Hears}
 use Rattle.std.specs.Prelude.{IsPermutation}
 use Rattle.node_exchange.specs.Meeting.{IsHelloOf, MayMeet, news_of}
-use Rattle.node_exchange.specs.Talks.{Notes, Responds, Talks}
+use Rattle.node_exchange.specs.Talks.{Notes, Responds, Talks, Written}
 use Rattle.node_exchange.proofs.Keeping.{later_then}
 use Rattle.node_exchange.proofs.Talking.{both_ok, responded, notes_kept}
 use Rattle.node_exchange.proofs.turns.respond.Goals as goal
@@ -26,6 +27,28 @@ returns-in_err-own-clause-later g c =
     let log = g.L.EditLog in
     later_then log.is_honest log.head log.may_leave c.args.node.now c.known_peers.new.node c.note.new.node c.known_peers.ensures.later
     (later_then log.is_honest log.head log.may_leave c.known_peers.new.node c.hear.new.node c.note.new.node c.hear.ensures.later c.note.ensures.later)
+
+pub returns-in-Err-clause-away : goal.returns-in-Err-clause-away
+returns-in-Err-clause-away g c = λ taken.
+    let log = g.L.EditLog in
+    let head = log.head c.args.node.now.log in
+    let known = c.in_ok-known.known.items in
+    let own = c.in_ok-own-in-Err.own in
+    let refused = c.in-Err.ensures.taken (search rules) in
+    let is_own : IsHelloOf head known 0 own =
+    subst (λ (h : LogHead). IsHelloOf h known 0 own) c.head-head.ensures.head (subst (λ (k : List LogPeer). IsHelloOf c.head-head.result k 0 own) c.deref-in-Err.ensures.value c.in_ok-own-in-Err.ensures.own) in
+    record {
+      known = known;
+      knew = c.in_ok-known.ensures.latest;
+      own = own;
+      is_own = is_own;
+      wrote = subst (λ (m : Said). Written (Some own) m (g.K.Sink.contents c.args.sink.now) (g.K.Sink.contents c.say.new.sink)) c.nothing.ensures.nothing c.in_ok-say-in-Err.ensures.written;
+      first = c.in_ok-first.first;
+      met = refused.0;
+      says = refused.1.0;
+      may_not = λ may. refused.1.1 (subst (λ (h : LogHead). MayMeet h c.deref.result.now refused.0) (sym c.head-head.ensures.head) (subst (λ (k : List LogPeer). MayMeet head k refused.0) (sym c.deref.ensures.value) may));
+      read = c.in_ok-first.ensures.read;
+    }
 
 pub returns-clause-later : goal.returns-clause-later
 returns-clause-later g c =
