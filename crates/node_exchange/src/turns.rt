@@ -94,9 +94,9 @@ fn converse<L: EditLog, S: Source, K: Sink>(
 /// Who the peer is, and whom it knows, is noted in the node's log once its first message came whole.
 ///
 /// Fails with `WriterTaken` if the peer writes under the same number, or if either side knows another file under the number of
-/// the other, and in no other case: then nothing was taken and nothing noted, and the peer can tell it too. Fails with `Bytes`,
-/// `Length`, `Hello` or `Endless` if what comes is no message; with `Node` if the node refuses what comes; with `Read`, `Write`
-/// or `Memory`. Then what was committed before stays, and nothing is lost.
+/// the other, and in no other case: then nothing was taken or noted, the node goes on, and the peer was told all by which it
+/// refuses too. Fails with `Bytes`, `Length`, `Hello` or `Endless` if what comes is no message; with `Node` if the node refuses
+/// what comes; with `Read`, `Write` or `Memory`. Then what was committed before stays, and nothing is lost.
 pub fn call<L: EditLog, S: Source, K: Sink>(
     alloc: Global,
     node: &mut NodeFile<L>,
@@ -125,6 +125,8 @@ pub fn call<L: EditLog, S: Source, K: Sink>(
         }) }
     ensures kept { IsErrOf result ExchangeFault.WriterTaken → node.new.replica ≡ node.old.replica }
     ensures unnoted { IsErrOf result ExchangeFault.WriterTaken → L.is_honest node.new.log → L.peers node.new.log ≡ L.peers node.old.log }
+    ensures usable { IsErrOf result ExchangeFault.WriterTaken → node.new.is_spent ≡ false }
+    ensures nothing_unsaved { IsErrOf result ExchangeFault.WriterTaken → node.new.unsaved ≡ [] }
     ensures later { IsLater L.is_honest L.head L.may_leave node.old node.new }
     ensures whole { OnOk result (node.new.is_spent ≡ false) }
     ensures saved { OnOk result (node.new.unsaved ≡ []) }
@@ -171,6 +173,8 @@ pub fn respond<L: EditLog, S: Source, K: Sink>(
         }) }
     ensures kept { IsErrOf result ExchangeFault.WriterTaken → node.new.replica ≡ node.old.replica }
     ensures unnoted { IsErrOf result ExchangeFault.WriterTaken → L.is_honest node.new.log → L.peers node.new.log ≡ L.peers node.old.log }
+    ensures usable { IsErrOf result ExchangeFault.WriterTaken → node.new.is_spent ≡ false }
+    ensures nothing_unsaved { IsErrOf result ExchangeFault.WriterTaken → node.new.unsaved ≡ [] }
     ensures later { IsLater L.is_honest L.head L.may_leave node.old node.new }
     ensures whole { OnOk result (node.new.is_spent ≡ false) }
     ensures saved { OnOk result (node.new.unsaved ≡ []) }
