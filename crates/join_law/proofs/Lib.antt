@@ -1,12 +1,1 @@
 pub mod Prelude
-pub mod MapEdits
-pub mod Ends
-pub mod CopyWalks
-pub mod Outcomes
-pub mod After
-pub mod PassEdits
-pub mod RunEdits
-pub mod RunSteps
-pub mod Slices
-pub mod Lasts
-pub mod HeldPairs

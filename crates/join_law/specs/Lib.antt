@@ -5,10 +5,10 @@ pub mod VersionOrderLaws
 pub mod EntryLaws
 pub mod VersionedLaws
 pub mod Maps
-pub mod Held
-pub mod Outcomes
 pub mod MapLaws
 pub mod UnionLaws
 pub mod MapOneLaws
 pub mod LevelLaws
 pub mod LeafLaws
+pub mod EditLaws
+pub mod OutcomeLaws

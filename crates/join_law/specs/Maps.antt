@@ -1,6 +1,5 @@
 -- Maps as lists of pairs sorted by key, compared key by key.
 use Rattle.std.{proofs.Common.{◌∷◌}, specs.FinMap.{find}}
-use Rattle.chunked_pairs.specs.Chunks.{all_pairs, AreChunks}
 use Rattle.join_law.specs.{Order.{IsLeast}, Prelude.{[], Bool, false, is_sorted, IsTrue, List, None, Option, Ordering, put, Some, true}}
 
 module _ {V : Type 0} (below : V → V → Type 0) where
@@ -29,11 +28,6 @@ module _ {K V : Type 0} (R : K → K → Ordering) (below : V → V → Type 0) 
   pub record IsMap (valid : V → Type 0) (m : List (K × V)) : Type 0 where
     pub sorted : IsTrue (is_sorted R m)
     pub held : AllHeld below valid m
-
-  -- runs of pairs that stand side by side, all of which together are a map
-  pub record AreMapped (valid : V → Type 0) (c : List (K × V) × List (K × List (K × V))) : Type 0 where
-    pub chunks : AreChunks R c
-    pub map : IsMap valid (all_pairs c)
 
 -- the list is one pair, and its value is single
 abbrev pub IsSinglePair : {K V : Type 0} → (V → Type 0) → List (K × V) → Type 0

@@ -7,8 +7,11 @@ use crate::inserts::insert_pair;
 use crate::joins::{Join, Rest};
 use plain_values::Key;
 
-// Joins one pair at the index of its key, or at which it would be inserted, and returns whether it was added. A bottom
-// value changes nothing.
+/// Joins one pair at the index of its key, or at which it would be inserted, and returns whether it was added. A bottom
+/// value changes nothing. A new key costs a shift of the pairs after it.
+///
+/// Fails only if memory runs out: the pairs then lie between what they were and the join, and joining the `rest`, which
+/// has the same key, completes the join.
 pub fn join_pair<K: Key, V: Join>(
     pairs: &mut Vec<(K, V)>,
     index: Result<usize, usize>,
@@ -45,7 +48,9 @@ pub fn join_pair<K: Key, V: Join>(
     }
 }
 
-// Joins a value into the one at an index, which has its key. No key is added.
+/// Joins a value into the one at an index, which has its key. No key is added, and no pair moves.
+///
+/// Fails only if memory runs out, as `join_pair` does.
 pub fn join_value<K: Key, V: Join>(
     pairs: &mut [(K, V)],
     at: usize,

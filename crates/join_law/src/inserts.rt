@@ -4,7 +4,8 @@ ghost use Rattle.std.specs.{Prelude.{◌≡◌, ◌≤◌, vec_len, OnOk, OnErr,
 use chunked_pairs::{HALF, MOST};
 use std::alloc::AllocFailed;
 
-// Inserts a pair. A long run grows once, to the room of a full one. If memory runs out, nothing is inserted.
+/// Inserts a pair at an index. A long run of `chunked_pairs` grows once, to the room of a full one. Fails only if memory
+/// runs out: nothing is inserted, and the pair comes back.
 pub fn insert_pair<K, V>(
     pairs: &mut Vec<(K, V)>,
     at: usize,

@@ -3,9 +3,8 @@ ghost use Rattle.std.specs.Prelude.{◌≡◌};
 ghost use Rattle.path_maps.specs.PathMaps.{AreFolders};
 
 use edit_sums::Content;
-use join_law::{
-    AddAt, AddValue, Addition, Change, ChangeAt, Join, JoinMap, Overwrite, Pairs, Rest, Versioned,
-};
+use join_law::{Change, Join, Overwrite, Rest, Versioned};
+use join_maps::{AddAt, AddValue, Addition, ChangeAt, JoinMap, Pairs};
 use plain_values::Bytes;
 use std::alloc::{AllocError, Global};
 use std::fmt;

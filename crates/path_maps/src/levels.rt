@@ -3,7 +3,7 @@ ghost use Rattle.std.specs.{Prelude.{◌≡◌, ◌∷◌, [], List}, List.{flat
 ghost use Rattle.path_maps.specs.Cursors.{IsReadable};
 
 use crate::cursors::Cursor;
-use join_law::Pairs;
+use join_maps::Pairs;
 use std::marker::Model;
 
 /// A borrowed pair of a map.

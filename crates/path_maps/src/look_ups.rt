@@ -7,7 +7,8 @@ ghost use Rattle.path_maps.specs.PathMaps.{bytes_cmp};
 
 use crate::folders::NameMap;
 use crate::stores::{RankMap, ScopeMap};
-use join_law::{Join, JoinMap, Pairs, Sought};
+use join_law::Join;
+use join_maps::{JoinMap, Pairs, Sought};
 use load_places::{HostName, Scope};
 use plain_values::{Bytes, order};
 use std::cmp::Ordering;

@@ -8,7 +8,8 @@ ghost use Rattle.path_maps.specs.{PathMaps.{bytes_cmp, RankMap}, PlaceMaps.{rank
 use crate::folders::{FolderMap, NameMap};
 use crate::stores::{RankMap, ScopeMap};
 use edit_sums::{Content, Entry};
-use join_law::{Join, JoinMap, Pairs, Versioned};
+use join_law::{Join, Versioned};
+use join_maps::{JoinMap, Pairs};
 use load_places::Scope;
 use plain_values::Bytes;
 use std::marker::Model;

@@ -21,9 +21,8 @@ use crate::places_zipped::Zipped;
 use crate::together::Together;
 use crate::view::{HostView, Own};
 use edit_sums::{Content, Edit, Entry, FlatEdit};
-use join_law::{
-    AddAt, AddValue, Addition, Change, ChangeAt, Join, JoinMap, Overwrite, Rest, Version, Versioned,
-};
+use join_law::{Change, Join, Overwrite, Rest, Version, Versioned};
+use join_maps::{AddAt, AddValue, Addition, ChangeAt, JoinMap};
 use load_places::{HostName, Place, Scope, Viewer};
 use std::alloc::{AllocError, Global};
 use std::marker::Model;

@@ -3,8 +3,8 @@
 //! The answer is that of the call if nothing fails. If something failed, the state between the two calls follows it,
 //! after the words `; refused at`.
 use crate::edits::append_store;
-use crate::join_maps::{Numbers, append_map, map};
 use crate::joins::versioned;
+use crate::maps::{Numbers, append_map, map};
 use crate::pieces::{holder, piece, split};
 use crate::replicas::{put, removed, replica};
 use crate::worlds::{append_both, swept};

@@ -21,9 +21,9 @@ mod edits;
 mod fakes;
 mod frames;
 mod implied;
-mod join_maps;
 mod joins;
 mod lives;
+mod maps;
 mod meetings;
 mod names;
 mod orders;
@@ -58,7 +58,7 @@ fn answer(words: &mut Words, out: &mut Answer) -> Result<(), LineFault> {
         b"script" => script_lines::answer(words, out),
         b"pipe" => pipes::answer(words, out),
         b"version" => joins::answer(words, out),
-        b"map" => join_maps::answer(words, out),
+        b"map" => maps::answer(words, out),
         b"content" => contents::answer(words, out),
         b"store" => stores::answer(words, out),
         b"replica" => replicas::answer(words, out),

@@ -1,5 +1,5 @@
 use Rattle.join_law.proofs.Prelude.{ap, arith, find_at, find_gap, IsSome, length, refl, subst, sym, ◌∙◌}
-use Rattle.join_law.proofs.{MapEdits.{inserted_is_join, inserted_is_map, refused_is_join, written_same}, Outcomes.{if_err_weaker, if_ok_weaker}}
+use Rattle.join_law.specs.{EditLaws.{inserted_is_join, inserted_is_map, refused_is_join, written_same}, OutcomeLaws.{if_err_weaker, if_ok_weaker}}
 use Rattle.join_law.proofs.edits.join_pair.Goals as goal
 
 pub returns-in-Ok-insert_pair-clause-map : goal.returns-in-Ok-insert_pair-clause-map

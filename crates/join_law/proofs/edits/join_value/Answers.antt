@@ -1,6 +1,6 @@
 use Rattle.std.proofs.Common.{slice_index_or}
 use Rattle.join_law.proofs.Prelude.{ap}
-use Rattle.join_law.proofs.MapEdits.{joined_is_join, joined_is_map, partly_is_join, partly_is_map}
+use Rattle.join_law.specs.EditLaws.{joined_is_join, joined_is_map, partly_is_join, partly_is_map}
 use Rattle.join_law.proofs.edits.join_value.Goals as goal
 
 pub returns-in-Ok-clause-map : goal.returns-in-Ok-clause-map

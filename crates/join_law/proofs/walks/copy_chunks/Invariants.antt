@@ -1,6 +1,0 @@
-use Rattle.std.proofs.Common.{◌≡◌}
-use Rattle.join_law.proofs.Prelude.{take}
-use Rattle.join_law.proofs.walks.copy_chunks.Given as goal
-
-abbrev pub invariant-loop-at : goal.invariant-loop-at
-invariant-loop-at g l = l.copy ≡ (l.chunks.0, take l.at l.chunks.1)

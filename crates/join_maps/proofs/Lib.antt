@@ -1,0 +1,10 @@
+pub mod Prelude
+pub mod Ends
+pub mod CopyWalks
+pub mod After
+pub mod PassEdits
+pub mod RunEdits
+pub mod RunSteps
+pub mod Slices
+pub mod Lasts
+pub mod HeldPairs
