@@ -1,9 +1,8 @@
-//! Maps whose values have a join, joined key by key.
+//! Maps whose values have a join (`join_law`), joined key by key. Such a map has a join itself, so maps of maps have one.
 //!
 //! Promise: merge is the least upper bound; a refused merge lies between.
 //!
-//! A map is a value with a join itself (`join_law`), so maps of maps are too. It holds one pair, or sorted pairs in runs
-//! (`chunked_pairs`).
+//! A map holds one pair in itself, or sorted pairs in runs (`chunked_pairs`).
 //!
 //! - `JoinMap`: the map; `Pairs`, a cursor over its pairs; `Sought`, a key that is looked for in another form.
 //! - `Addition` (`AddValue`, `AddAt`): joins one value at a key, at any depth of maps of maps.

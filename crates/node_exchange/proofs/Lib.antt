@@ -1,4 +1,2 @@
 pub mod Keeping
-pub mod Noting
 pub mod Talking
-pub mod Mutual

@@ -1,6 +1,6 @@
 -- Messages that are read and written, frame by frame.
-use Rattle.std.proofs.Common.{◌≡◌, ◌++◌, ◌<◌, ◌∷◌, ◌∙◌, [], ap, append-nil, append_assoc, arith, Err, false, get_or, length, List, None, Ok, OnOk, Option, refl, Result, Some, subst, suc, sym, true, zero, ℕ}
-use Rattle.std.proofs.lemmas.List.{map-append}
+use Rattle.std.proofs.Common.{◌≡◌, ◌++◌, ◌+◌, ◌<◌, ◌∷◌, ◌∙◌, [], ap, append-nil, append_assoc, arith, Err, false, get_or, length, List, None, Ok, OnOk, Option, refl, Result, Some, subst, suc, sym, take, true, zero, ℕ}
+use Rattle.std.proofs.lemmas.List.{map-append, take_more}
 use Rattle.std.proofs.lemmas.List.Concat.{flat_map-append}
 use Rattle.std.proofs.lemmas.Grind.{fold-append}
 use Rattle.std.proofs.lemmas.Nat.{be_bytes_4}
@@ -19,8 +19,12 @@ use Rattle.exchange_bytes.specs.Spelling.{frame_spelling}
 use Rattle.exchange_bytes.specs.declared.frames.{Frame.{Frame}, Hello.{Hello}}
 use Rattle.node_exchange.specs.Hearing.{Hears}
 use Rattle.node_exchange.specs.Streams.{framed, on_stream, to_answer}
-use Rattle.node_exchange.specs.Meeting.{IsHelloOf, MayMeet, news_of}
+use Rattle.node_meetings.specs.Meeting.{IsHelloOf, MayMeet, news_of}
 use Rattle.node_exchange.specs.Talks.{begun, Calls, Ended, heard_out, IsAnswer, IsQuiet, Notes, Responds, said_out, Say, Talk, Talks, turned, Written}
+
+-- the items up to an index, with the one there
+pub taken_last : {X : Type 0} (xs : List X) (i : ℕ) (x : X) → i < length xs → x ≡ get_or xs i x → take (i + 1) xs ≡ take i xs ++ x ∷ []
+taken_last {X} xs i x low is = take_more xs i x low ∙ ap (λ (y : X). take i xs ++ y ∷ []) (sym is)
 
 -- ---- bytes
 

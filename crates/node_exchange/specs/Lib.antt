@@ -2,5 +2,4 @@ pub mod Faults
 pub mod Later
 pub mod Streams
 pub mod Hearing
-pub mod Meeting
 pub mod Talks

@@ -11,7 +11,7 @@ use Rattle.durable_node.specs.Peers.{AreLatest}
 use Rattle.exchange_session.specs.{Joined.{joined}, Standing.{IsReply, opening, Said}, Told.{IsNewerAt, IsNothingNew, IsOwnPrint, IsTold, IsUnequalAt}}
 use Rattle.exchange_bytes.specs.Cutting.{all_asks, all_pieces, all_prints, AreFrames}
 use Rattle.exchange_bytes.specs.declared.frames.{Frame.{Frame}, Hello.{Hello}}
-use Rattle.node_exchange.specs.Meeting.{IsHelloOf, MayMeet, news_of}
+use Rattle.node_meetings.specs.Meeting.{IsHelloOf, MayMeet, news_of}
 use Rattle.node_exchange.specs.Streams.{on_stream, to_answer}
 
 -- the message asks for no answer

@@ -3,17 +3,19 @@ ghost use Rattle.std.specs.Prelude.{◌≡◌, [], false, IfOk, IsErrOf, OnOk, S
 ghost use Rattle.durable_node.specs.Peers.{AreLatest};
 ghost use Rattle.exchange_bytes.specs.declared.frames.Hello.{Hello};
 ghost use Rattle.exchange_session.specs.{Runs.{said_of}, Standing.{opening}};
-ghost use Rattle.node_exchange.specs.{Later.{IsLater}, Meeting.{MayMeet}, Talks.{Calls, Notes, Responds, Talks, TurnsAway}};
+ghost use Rattle.node_exchange.specs.{Later.{IsLater}, Talks.{Calls, Notes, Responds, Talks, TurnsAway}};
+ghost use Rattle.node_meetings.specs.Meeting.{MayMeet};
 
 use crate::faults::ExchangeFault;
 use crate::hearing::{Heard, hear};
-use crate::meeting::{hello_of, known_peers, may_meet, news_of, note};
+use crate::knowing::{known_peers, note};
 use crate::reading::{read_frame, read_next};
 use crate::saying::say;
 use durable_node::{EditLog, NodeFile};
 use edit_log::{LogHead, LogPeer};
 use exchange_bytes::{Frame, Hello};
 use exchange_session::{Message, answer, open};
+use node_meetings::{hello_of, may_meet, news_of};
 use script_pipes::{Sink, Source};
 use std::alloc::Global;
 

@@ -2,8 +2,7 @@ use Rattle.std.proofs.Common.{◌∷◌, [], List, rules, subst, sym}
 use Rattle.std.specs.Io.KnownBytes.{Appends}
 use Rattle.exchange_bytes.specs.declared.frames.Frame.{Frame}
 use Rattle.node_exchange.specs.Streams.{on_stream}
-use Rattle.node_exchange.proofs.Noting.{taken_last}
-use Rattle.node_exchange.proofs.Talking.{written_more}
+use Rattle.node_exchange.proofs.Talking.{taken_last, written_more}
 use Rattle.node_exchange.proofs.saying.write_frames.Goals as goal
 use Rattle.std.proofs.Common.{take}
 

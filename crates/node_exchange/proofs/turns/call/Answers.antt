@@ -5,7 +5,7 @@ use Rattle.exchange_bytes.specs.declared.frames.Hello.{Hello}
 use Rattle.exchange_session.specs.{Runs.{said_of}, Standing.{opening, Said}}
 use Rattle.node_exchange.specs.Hearing.{Hears}
 use Rattle.std.specs.Prelude.{IsPermutation}
-use Rattle.node_exchange.specs.Meeting.{IsHelloOf, MayMeet, news_of}
+use Rattle.node_meetings.specs.Meeting.{IsHelloOf, MayMeet, news_of}
 use Rattle.node_exchange.specs.Talks.{Calls, Notes, Talks, Written}
 use Rattle.node_exchange.proofs.Keeping.{later_then}
 use Rattle.node_exchange.proofs.Talking.{both_ok, called, notes_kept}

@@ -1,6 +1,6 @@
 use Rattle.std.proofs.Common.{[], arith, rules}
-use Rattle.node_exchange.proofs.Noting.{all_told, one_more_told}
-use Rattle.node_exchange.proofs.meeting.peers_of.Goals as goal
+use Rattle.node_meetings.proofs.Noting.{all_told, one_more_told}
+use Rattle.node_meetings.proofs.meeting.peers_of.Goals as goal
 
 pub loop-peer-preserved : goal.loop-peer-preserved
 loop-peer-preserved c =

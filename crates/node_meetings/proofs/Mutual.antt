@@ -4,7 +4,7 @@ use Rattle.std.{proofs.lemmas.Bool.{or_parts}, specs.List.{list_any}}
 use Rattle.list_laws.specs.Members.{IsAmong}
 use Rattle.edit_log.specs.declared.logs.{LogPeer.{LogPeer}}
 use Rattle.exchange_bytes.specs.declared.{peers.Peer.{Peer}}
-use Rattle.node_exchange.specs.Meeting.{is_other_file, knows_other_file, MeetingsAreMutual, node_of, peer_of}
+use Rattle.node_meetings.specs.Meeting.{is_other_file, knows_other_file, MeetingsAreMutual, node_of, peer_of}
 
 -- ---- what no member of a list is
 

@@ -1,5 +1,5 @@
 use Rattle.node_exchange.proofs.Keeping.{later_committed, later_same}
-use Rattle.node_exchange.proofs.meeting.note.Goals as goal
+use Rattle.node_exchange.proofs.knowing.note.Goals as goal
 
 pub returns-then-is_empty-clause-later : goal.returns-then-is_empty-clause-later
 returns-then-is_empty-clause-later g c = later_same g.L.EditLog.is_honest g.L.EditLog.head g.L.EditLog.may_leave c.args.node.now

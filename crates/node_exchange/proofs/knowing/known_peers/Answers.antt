@@ -1,6 +1,6 @@
 use Rattle.std.proofs.Common.{inl}
 use Rattle.node_exchange.proofs.Keeping.{later_committed}
-use Rattle.node_exchange.proofs.meeting.known_peers.Goals as goal
+use Rattle.node_exchange.proofs.knowing.known_peers.Goals as goal
 
 pub returns-in_err-peers-clause-later : goal.returns-in_err-peers-clause-later
 returns-in_err-peers-clause-later g c =

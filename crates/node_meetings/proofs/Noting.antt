@@ -4,7 +4,7 @@ use Rattle.std.proofs.lemmas.List.{map-append, take_all, take_more}
 use Rattle.list_laws.specs.Members.{IsAmong, IsAmong-append_cases, IsAmong-append_left, IsAmong-append_right}
 use Rattle.edit_log.specs.declared.logs.LogPeer.{LogPeer}
 use Rattle.exchange_bytes.specs.declared.peers.Peer.{Peer}
-use Rattle.node_exchange.specs.Meeting.{peer_of}
+use Rattle.node_meetings.specs.Meeting.{peer_of}
 
 last_among : {X : Type 0} (x y : X) (xs : List X) → IsAmong x (xs ++ y ∷ []) → (x ≡ y) ⊎ IsAmong x xs
 last_among x y xs among = elim (IsAmong-append_cases x xs (y ∷ []) among) [ inl there ↦ inr there | inr (inl is) ↦ inl (sym is) | inr (inr none) ↦ absurd none ]
@@ -12,9 +12,6 @@ last_among x y xs among = elim (IsAmong-append_cases x xs (y ∷ []) among) [ in
 among_last : {X : Type 0} (x y : X) (xs : List X) → (x ≡ y) ⊎ IsAmong x xs → IsAmong x (xs ++ y ∷ [])
 among_last x y xs (inl is) = IsAmong-append_right x xs (y ∷ []) (inl (sym is))
 among_last x y xs (inr there) = IsAmong-append_left x xs (y ∷ []) there
-
-pub taken_last : {X : Type 0} (xs : List X) (i : ℕ) (x : X) → i < length xs → x ≡ get_or xs i x → take (i + 1) xs ≡ take i xs ++ x ∷ []
-taken_last {X} xs i x low is = take_more xs i x low ∙ ap (λ (y : X). take i xs ++ y ∷ []) (sym is)
 
 -- the peers are those of the log, as they are told
 abbrev pub AreToldOf : List Peer → List LogPeer → Type 0

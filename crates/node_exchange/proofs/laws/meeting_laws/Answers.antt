@@ -1,5 +1,0 @@
-use Rattle.node_exchange.proofs.Mutual.{meetings_are_mutual}
-use Rattle.node_exchange.proofs.laws.meeting_laws.Goals as goal
-
-pub returns : goal.returns
-returns c = record { both = meetings_are_mutual }
