@@ -20,10 +20,10 @@ use Rattle.edit_sums.specs.Sums.{edit_of, EntryMap, join, sum_of, with_edit}
 use Rattle.edit_sums.specs.SumLaws.{join_assoc, join_comm, join-nothing, sum_of-append, with_edit-join}
 use Rattle.path_maps.specs.PlaceMaps.{placed}
 use Rattle.path_maps.specs.Scopes.{within}
-use Rattle.store_bytes.proofs.Held.{held}
-use Rattle.store_bytes.proofs.Steps.{scope_headed, scope_not_headed}
+use Rattle.store_bytes.specs.BytesLaws.{entries_of_sum}
 use Rattle.store_bytes.specs.ListReading.{group_at, list_at, pair_above_at, pairs_above_at}
 use Rattle.store_bytes.specs.Reading.{entry_at, path_at, scope_at}
+use Rattle.store_bytes.specs.ScopeLaws.{as_scope, scope_headed, scope_not_headed}
 use Rattle.store_bytes.specs.StoreLaws.{flattened_sorted}
 use Rattle.store_bytes.specs.Stores.{AreScoped, flattened, Scoped}
 use Rattle.store_bytes.specs.Streams.{scope_head_at}
@@ -62,9 +62,6 @@ pub own_ends : (scope : Scope) (total : Result (EntryMap × List ℕ) SpellingFa
 own_ends scope = all_made entry_read (λ p. Some p.0) (with_own scope) (with_one scope) (λ s e es. refl) (λ s. refl)
 
 -- ---- one scope
-
-abbrev as_scope : Scope → List (PathParts × Entry) × List ℕ → Result (Scoped × List ℕ) SpellingFault
-as_scope scope es = Ok ((scope, es.0), es.1)
 
 abbrev into_own : EntryMap → Scoped × List ℕ → Result ((EntryMap × Scope) × List ℕ) SpellingFault
 into_own s g = Ok ((with_own g.0.0 s g.0.1, g.0.0), g.1)
@@ -178,7 +175,7 @@ all_taken gs are =
     let sum : with_scopes finmap.empty gs ≡ sum_of (map edit_of es) = joined_in finmap.empty (map edit_of es) ∙ join_comm finmap.empty (sum_of (map edit_of es)) ∙ join-nothing (sum_of (map edit_of es)) in
     sum
     ∙ finmap.same_entries_map (sum_of (map edit_of es)) (finmap.from_sorted {R = place_cmp} es)
-    (held es (flattened_sorted gs are) ∙ sym (finmap.entries-from_sorted place_cmp es (to_T _ (flattened_sorted gs are))))
+    (entries_of_sum es (flattened_sorted gs are) ∙ sym (finmap.entries-from_sorted place_cmp es (to_T _ (flattened_sorted gs are))))
 
 pub piece_taken : (bytes : List ℕ) → IsBytes bytes → scopes_taken bytes ≡ piece_at bytes
 unfolding scopes_taken piece_at

@@ -1,26 +1,21 @@
 -- What is read one by one is what the bytes spell.
-use Rattle.std.proofs.Common.{◌≡◌, ℕ, ◌++◌, ◌∷◌, ◌^◌, ◌<◌, [], List, length, IsTrue, map, Result, Ok, Err, refl, sym, ap, subst, ◌∙◌, append_assoc}
+use Rattle.std.proofs.Common.{◌≡◌, ℕ, ◌++◌, ◌∷◌, [], List, map, Result, Ok, Err, refl, sym, ap, ◌∙◌, append_assoc}
 use Rattle.std.specs.Prelude.{IfOk}
 use Rattle.std.proofs.lemmas.List.{append-nil, map_push}
-use Rattle.std.specs.FinMap.{is_sorted}
 use Rattle.std.specs.FinMap as finmap
-use Rattle.list_laws.specs.Truths.{from_T, to_T}
-use Rattle.std.specs.List.{AllByRecursion}
-use Rattle.store_bytes.specs.Spelling.{IsPlace, IsVersion}
 use Rattle.byte_fields.specs.FieldLaws.{ok_is}
 use Rattle.byte_fields.specs.Laws.{IsBytes}
 use Rattle.byte_fields.specs.Reading.{◌>>=◌, Fails, Gives}
 use Rattle.byte_fields.specs.declared.faults.DecodeFault.{DecodeFault}
 use Rattle.byte_fields.specs.declared.faults.DecodeFault.TheVariants as decode
 use Rattle.byte_fields.specs.declared.faults.SpellingFault.{SpellingFault}
-use Rattle.join_law.specs.declared.versions.Version.{Version}
-use Rattle.load_places.specs.Places.{place_cmp, PlaceParts}
+use Rattle.load_places.specs.Places.{PlaceParts}
 use Rattle.edit_sums.specs.Entries.{Entry}
 use Rattle.edit_sums.specs.Sums.{edit_of, EntryMap, sum_of, with_edit}
-use Rattle.edit_sums.specs.SumLaws.{sum_of-edits_of, sum_of-push}
+use Rattle.edit_sums.specs.SumLaws.{sum_of-push}
 use Rattle.world_law.specs.Cuts.{VersionMap}
 use Rattle.store_bytes.specs.Bytes.{digest_spelling, entries_in, HasSpelling, HasVersionSpelling, spelling_of, versions_in}
-use Rattle.store_bytes.specs.BytesLaws.{entries_again, entries_taken, versions_again, versions_taken}
+use Rattle.store_bytes.specs.BytesLaws.{entries_again, entries_of_sum, entries_taken, versions_again, versions_taken}
 use Rattle.store_bytes.specs.Streams.{with_first}
 
 -- ---- one by one
@@ -75,17 +70,11 @@ reading_goes_on total old new before after p is e joined = record {
 pub reading_fails : (total left : Result (List (PlaceParts × Entry)) SpellingFault) (store : EntryMap) (e : DecodeFault) → IsPartlyRead total left store → Fails e left → Fails e total
 reading_fails total left store e is h = part_fails total is.prefix left e is.part h
 
--- The sum of entries whose places are in ascending order holds just these.
-pub held : (es : List (PlaceParts × Entry)) → IsTrue (is_sorted place_cmp es) → finmap.entries (sum_of (map edit_of es)) ≡ es
-held es ascending =
-    ap finmap.entries (ap (λ (l : List (PlaceParts × Entry)). sum_of (map edit_of l)) (sym (finmap.entries-from_sorted place_cmp es (to_T _ ascending))) ∙ sum_of-edits_of (finmap.from_sorted {R = place_cmp} es))
-    ∙ finmap.entries-from_sorted place_cmp es (to_T _ ascending)
-
 pub reading_ends : (kind : ℕ) (bytes : List ℕ) (left : Result (List (PlaceParts × Entry)) SpellingFault) (store : EntryMap) → IsBytes bytes → IsPartlyRead (entries_in kind bytes) left store → left ≡ Ok []
     → entries_in kind bytes ≡ Ok (finmap.entries store)
 reading_ends kind bytes left store fits is e =
     let read : entries_in kind bytes ≡ Ok is.prefix = part_ends (entries_in kind bytes) is.prefix left is.part e in
-    let holds : finmap.entries store ≡ is.prefix = ap finmap.entries is.held ∙ held is.prefix (entries_taken kind bytes is.prefix fits read).ascending in
+    let holds : finmap.entries store ≡ is.prefix = ap finmap.entries is.held ∙ entries_of_sum is.prefix (entries_taken kind bytes is.prefix fits read).ascending in
     read ∙ ap (λ (l : List (PlaceParts × Entry)). Ok l) (sym holds)
 
 -- ---- what is read is spelled so, and what is spelled so is read
@@ -115,11 +104,3 @@ versions_only bytes (Err (decode.Fault f)) e d is same =
 versions_only bytes (Ok t) e d is same =
     let read : Ok (finmap.entries d) ≡ Ok (finmap.entries t) = sym (versions_again (finmap.entries d) is) ∙ ap versions_in (sym same) ∙ e in
     ap (λ (m : VersionMap). Ok m) (finmap.same_entries_map d t (ok_is (finmap.entries d) (finmap.entries t) read))
-
--- the versions of a digest that fit have a spelling
-pub versions_spelled : (d : VersionMap) (vs : List (PlaceParts × Version)) → vs ≡ finmap.entries d → length vs < 2 ^ 64 → AllByRecursion (λ p. IsPlace p.0 × IsVersion p.1) vs → HasVersionSpelling d
-versions_spelled d vs same few fit = record {
-  count = subst (λ (l : List (PlaceParts × Version)). length l < 2 ^ 64) same few;
-  each = subst (λ (l : List (PlaceParts × Version)). AllByRecursion (λ p. IsPlace p.0 × IsVersion p.1) l) same fit;
-  ascending = from_T _ (finmap.entries_sorted d);
-}

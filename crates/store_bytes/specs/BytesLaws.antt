@@ -1,7 +1,9 @@
 -- Each value has one spelling, and each spelling one value.
-use Rattle.std.proofs.Common.{◌≡◌, ℕ, List, IsTrue, Result, Ok, sym, ap, subst, ◌∙◌}
+use Rattle.std.proofs.Common.{◌≡◌, ◌<◌, ◌^◌, ℕ, List, length, map, IsTrue, Result, Ok, sym, ap, subst, ◌∙◌}
 use Rattle.std.specs.FinMap.{is_sorted}
 use Rattle.std.specs.FinMap as finmap
+use Rattle.std.specs.List.{AllByRecursion}
+use Rattle.list_laws.specs.Truths.{from_T, to_T}
 use Rattle.byte_fields.specs.FieldLaws.{bind_ok, ok_is}
 use Rattle.byte_fields.specs.Laws.{IsBytes}
 use Rattle.byte_fields.specs.Reading.{◌>>=◌}
@@ -13,7 +15,8 @@ use Rattle.load_places.specs.Places.{place_cmp, PlaceParts, scope_cmp}
 use Rattle.load_places.specs.PlaceLaws.{place_cmp_total, scope_cmp_total}
 use Rattle.load_places.specs.Texts.{IsScope}
 use Rattle.edit_sums.specs.Entries.{Entry}
-use Rattle.edit_sums.specs.Sums.{EntryMap}
+use Rattle.edit_sums.specs.Sums.{edit_of, EntryMap, sum_of}
+use Rattle.edit_sums.specs.SumLaws.{sum_of-edits_of}
 use Rattle.world_law.specs.Cuts.{VersionMap}
 use Rattle.store_bytes.specs.Bytes.{AreOneToOne, digest_spelling, entries_in, HasSpelling, HasVersionSpelling, spelling_of, versions_in}
 use Rattle.store_bytes.specs.ListReading.{all_of, group_at}
@@ -62,6 +65,12 @@ entries_again kind es are =
     (all_again scope_cmp scope_cmp_total scope_at scope IsScope (group_at path_cmp path_at entry_at) (pairs path entry) (AreGroup path_cmp IsPath IsEntry) scope_field entry_group kind (parted es) are)
     ∙ ap (λ (l : List (PlaceParts × Entry)). Ok l) (flattened-parted es)
 
+-- the sum of entries whose places ascend holds just these
+pub entries_of_sum : (es : List (PlaceParts × Entry)) → IsTrue (is_sorted place_cmp es) → finmap.entries (sum_of (map edit_of es)) ≡ es
+entries_of_sum es ascending =
+    ap finmap.entries (ap (λ (l : List (PlaceParts × Entry)). sum_of (map edit_of l)) (sym (finmap.entries-from_sorted place_cmp es (to_T _ ascending))) ∙ sum_of-edits_of (finmap.from_sorted {R = place_cmp} es))
+    ∙ finmap.entries-from_sorted place_cmp es (to_T _ ascending)
+
 same_entries : (kind : ℕ) (s t : EntryMap) → HasSpelling s → HasSpelling t → spelling_of kind s ≡ spelling_of kind t → s ≡ t
 same_entries kind s t p q e =
     finmap.same_entries_map s t (ok_is (finmap.entries s) (finmap.entries t) (sym (entries_again kind (finmap.entries s) p) ∙ ap (entries_in kind) e ∙ entries_again kind (finmap.entries t) q))
@@ -78,6 +87,14 @@ versions_taken bytes vs fits e = all_takes place_cmp place_cmp_total place_at pl
 pub versions_again : (vs : List (PlaceParts × Version)) → ArePairs place_cmp IsPlace IsVersion vs → versions_in (spelling place version 3 vs) ≡ Ok vs
 unfolding versions_in
 versions_again vs are = all_again place_cmp place_cmp_total place_at place IsPlace version_at version IsVersion place_field version_field 3 vs are
+
+-- the versions of a digest that fit have a spelling
+pub versions_spelled : (d : VersionMap) (vs : List (PlaceParts × Version)) → vs ≡ finmap.entries d → length vs < 2 ^ 64 → AllByRecursion (λ p. IsPlace p.0 × IsVersion p.1) vs → HasVersionSpelling d
+versions_spelled d vs same few fit = record {
+  count = subst (λ (l : List (PlaceParts × Version)). length l < 2 ^ 64) same few;
+  each = subst (λ (l : List (PlaceParts × Version)). AllByRecursion (λ p. IsPlace p.0 × IsVersion p.1) l) same fit;
+  ascending = from_T _ (finmap.entries_sorted d);
+}
 
 same_versions : (d e : VersionMap) → HasVersionSpelling d → HasVersionSpelling e → digest_spelling d ≡ digest_spelling e → d ≡ e
 same_versions d e p q h =

@@ -10,5 +10,6 @@ pub mod Scopes
 pub mod PartingLaws
 pub mod Streams
 pub mod Bytes
+pub mod ScopeLaws
 pub mod StoreLaws
 pub mod BytesLaws

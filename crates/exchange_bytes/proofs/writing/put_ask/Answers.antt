@@ -1,4 +1,4 @@
-use Rattle.store_bytes.proofs.Held.{versions_spelled}
+use Rattle.store_bytes.specs.BytesLaws.{versions_spelled}
 use Rattle.exchange_bytes.proofs.writing.put_ask.Goals as goal
 
 pub returns-clause-fits : goal.returns-clause-fits

@@ -1,4 +1,4 @@
-use Rattle.node_exchange.proofs.Keeping.{later_same}
+use Rattle.node_exchange.specs.LaterLaws.{later_same}
 use Rattle.fleet_node.proofs.works.exchange.Goals as goal
 
 pub returns-in_err-seed-clause-later : goal.returns-in_err-seed-clause-later

@@ -1,5 +1,5 @@
 use Rattle.std.proofs.Common.{◌∙◌, refl}
-use Rattle.node_exchange.proofs.Keeping.{later_same, later_then}
+use Rattle.node_exchange.specs.LaterLaws.{later_same, later_then}
 use Rattle.node_exchange.proofs.Talking.{hearing_begun, hearing_ends, hearing_more}
 use Rattle.node_exchange.proofs.hearing.hear.Goals as goal
 

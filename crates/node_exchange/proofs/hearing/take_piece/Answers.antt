@@ -1,4 +1,5 @@
-use Rattle.node_exchange.proofs.Keeping.{later_committed, later_in_memory, later_then}
+use Rattle.node_exchange.specs.LaterLaws.{later_then}
+use Rattle.node_exchange.proofs.Keeping.{later_committed, later_in_memory}
 use Rattle.node_exchange.proofs.hearing.take_piece.Goals as goal
 
 pub returns-in_err-absorb-clause-later : goal.returns-in_err-absorb-clause-later

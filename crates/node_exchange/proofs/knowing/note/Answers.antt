@@ -1,4 +1,5 @@
-use Rattle.node_exchange.proofs.Keeping.{later_committed, later_same}
+use Rattle.node_exchange.specs.LaterLaws.{later_same}
+use Rattle.node_exchange.proofs.Keeping.{later_committed}
 use Rattle.node_exchange.proofs.knowing.note.Goals as goal
 
 pub returns-then-is_empty-clause-later : goal.returns-then-is_empty-clause-later

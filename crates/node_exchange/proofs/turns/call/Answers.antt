@@ -7,7 +7,7 @@ use Rattle.node_exchange.specs.Hearing.{Hears}
 use Rattle.std.specs.Prelude.{IsPermutation}
 use Rattle.node_meetings.specs.Meeting.{IsHelloOf, MayMeet, news_of}
 use Rattle.node_exchange.specs.Talks.{Calls, Notes, Talks, Written}
-use Rattle.node_exchange.proofs.Keeping.{later_then}
+use Rattle.node_exchange.specs.LaterLaws.{later_then}
 use Rattle.node_exchange.proofs.Talking.{both_ok, called, notes_kept}
 use Rattle.node_exchange.proofs.turns.call.Goals as goal
 

@@ -2,7 +2,7 @@ use Rattle.std.proofs.Common.{◌≡◌, ◌∙◌, [], None, Option, refl, rule
 use Rattle.exchange_bytes.specs.declared.frames.Hello.{Hello}
 use Rattle.exchange_session.specs.Runs.{said_of}
 use Rattle.node_exchange.specs.Talks.{IsAnswer, Written}
-use Rattle.node_exchange.proofs.Keeping.{later_same, later_then}
+use Rattle.node_exchange.specs.LaterLaws.{later_same, later_then}
 use Rattle.node_exchange.proofs.Talking.{answer_moved, talking_begun, talking_heard_out, talking_more, talking_said_out}
 use Rattle.node_exchange.proofs.turns.converse.Goals as goal
 

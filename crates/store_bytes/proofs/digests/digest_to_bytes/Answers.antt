@@ -1,4 +1,4 @@
-use Rattle.store_bytes.proofs.Held.{versions_spelled}
+use Rattle.store_bytes.specs.BytesLaws.{versions_spelled}
 use Rattle.store_bytes.proofs.digests.digest_to_bytes.Goals as goal
 
 pub returns-clause-spelled : goal.returns-clause-spelled
