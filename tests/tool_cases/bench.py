@@ -10,6 +10,8 @@ from dataclasses import dataclass
 
 from repository import ROOT
 
+from .calls import Call, Ran
+
 FLEET = os.path.join(ROOT, "tools", "fleet")
 
 
@@ -25,8 +27,6 @@ def unpacked():
 TREES = unpacked()
 E, R, L, U = "/etc/systemd/system", "/run/systemd/system", "/usr/local/lib/systemd/system", "/usr/lib/systemd/system"
 
-sys.path.insert(0, os.path.join(ROOT, "tools"))
-
 os.umask(0o022)  # modes are compared
 
 LINKS = 20_000  # names of one file
@@ -39,20 +39,10 @@ class Link:
     target: str
 
 
-@dataclass(frozen=True)
-class Ran:
-    """How a run ended."""
-
-    status: int
-    out: bytes
-    err: bytes
-
-    def lines(self):
-        return self.out.decode("latin-1").split("\n")[:-1]
-
-    def told(self):
-        """What was told on standard error."""
-        return [it.removeprefix("fleet: ") for it in self.err.decode("latin-1").split("\n")[:-1]]
+def started(words, around, **more):
+    """Runs `tools/fleet` in these surroundings, to its end."""
+    ran = subprocess.run([sys.executable, FLEET, *words], env=around, check=False, **{"stdout": subprocess.PIPE, "stderr": subprocess.PIPE, **more})
+    return Ran(ran.returncode, ran.stdout, ran.stderr)
 
 
 class Bench:
@@ -62,11 +52,9 @@ class Bench:
         self.program, self.room = program, room
 
     def fleet(self, *words, status=0, env=(), **more):
-        """Runs `tools/fleet`, which must end with this status."""
+        """Runs `fleet`, which must end with this status: `tools/fleet` itself where more is said of how it runs, and else a fork."""
         around = {**os.environ, "FLEET_SHELL": self.program, **dict(env)}
-        ran = subprocess.run([sys.executable, FLEET, *words], env=around, check=False,
-            **{"stdout": subprocess.PIPE, "stderr": subprocess.PIPE, **more})
-        found = Ran(ran.returncode, ran.stdout, ran.stderr)
+        found = started(words, around, **more) if more else Call(words, around, is_piped=True).ended()
         same(found.status, status, f"status of {words}: {found}")
         return found
 

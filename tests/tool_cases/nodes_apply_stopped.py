@@ -225,9 +225,9 @@ def disks(bench):
 
 
 def seconds_of(bench, *words):
-    """The seconds of processor that a call takes, and what it prints."""
+    """The seconds of processor that a call of `tools/fleet` takes, and what it prints."""
     before = resource.getrusage(resource.RUSAGE_CHILDREN)
-    found = bench.fleet(*words)
+    found = bench.fleet(*words, stdin=subprocess.DEVNULL)
     after = resource.getrusage(resource.RUSAGE_CHILDREN)
     return after.ru_utime + after.ru_stime - before.ru_utime - before.ru_stime, found
 

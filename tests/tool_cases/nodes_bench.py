@@ -1,76 +1,30 @@
-"""What cases over state files work with: nodes in files, calls of `tools/fleet` in processes that are forked, and far sides of exchanges."""
+"""What cases over state files work with: nodes in files, calls of `fleet`, and far sides of exchanges."""
 import os
-import resource
 import signal
 import socket
 import subprocess
 import sys
-import tempfile
 import time
-import traceback
 
-from fleet_tools.command_line import main
 from repository import ROOT
 
-from .bench import Ran, same
+from .bench import same
+from .calls import Call
 
 PROGRAM = os.path.abspath(os.environ.get("FLEET_NODE") or os.path.join(ROOT, "crates", "fleet_node", "out", "fleet_node"))
 # What the surroundings tell of states is none of a case's.
 APART = ("FLEET_STATE", "STATE_DIRECTORY", "VISUAL", "EDITOR", "FLEET_SSH")
 
 
-def in_child(words, streams, env, most):
-    """What a forked process does: `fleet` with these words, streams and surroundings; if that is given, it writes no file longer."""
-    try:
-        if most is not None:
-            resource.setrlimit(resource.RLIMIT_FSIZE, (most, resource.RLIM_INFINITY))
-        for number, it in enumerate(streams):
-            os.dup2(it.fileno(), number)
-        sys.stdin, sys.stdout, sys.stderr = open(0, closefd=False), open(1, "w", closefd=False), open(2, "w", 1, closefd=False)
-        tempfile.tempdir = None
-        for number in (signal.SIGINT, signal.SIGTERM, signal.SIGHUP):  # whoever runs these cases may ignore some
-            signal.signal(number, signal.SIG_DFL)
-        for it in APART:
-            os.environ.pop(it, None)
-        os.environ.update({"FLEET_NODE": PROGRAM, **env})
-        os._exit(main(list(words)))
-    except BaseException:
-        traceback.print_exc()
-    finally:
-        os._exit(99)
-
-
-class Call:
-    """A call of `fleet` that runs: as one of `tools/fleet`, but that nothing has to be loaded for it."""
-
-    def __init__(self, *words, given=b"", env=(), most=None):
-        self.words, self.streams = words, [tempfile.TemporaryFile() for _ in range(3)]
-        self.streams[0].write(given)
-        self.streams[0].seek(0)
-        sys.stdout.flush()
-        sys.stderr.flush()
-        self.process = os.fork()
-        if self.process == 0:
-            in_child(words, self.streams, dict(env), most)
-
-    def signal(self, number):
-        """Sends it a signal."""
-        os.kill(self.process, number)
-
-    def ended(self):
-        """How it ended."""
-        _, status = os.waitpid(self.process, 0)
-        texts = []
-        for it in self.streams:
-            it.seek(0)
-            texts.append(it.read())
-            it.close()
-        return Ran(os.waitstatus_to_exitcode(status), *texts[1:])
+def begun(*words, env=(), **more):
+    """A call of `fleet` that runs, in surroundings without states."""
+    around = {it: said for it, said in os.environ.items() if it not in APART}
+    return Call(words, {**around, "FLEET_NODE": PROGRAM, **dict(env)}, **more)
 
 
 def fleet(*words, status=0, **more):
     """Runs `fleet`, which must end with this status, or, where none is wanted, with any."""
-    found = Call(*words, **more).ended()
+    found = begun(*words, **more).ended()
     same(found.status, found.status if status is None else status, f"status of {words}: {found}")
     return found
 
@@ -100,7 +54,7 @@ class Node:
 
     def call(self, verb, *words, **more):
         """Begins a verb over its file."""
-        return Call(verb, "--state", self.file, *words, **more)
+        return begun(verb, "--state", self.file, *words, **more)
 
     def script(self, *lines):
         """The answers to a script, in which the node is `here`."""

@@ -1,8 +1,8 @@
 //! Calls on join maps: maps from numbers to versioned numbers, and maps of maps of such maps. Numbers are below 256.
 //!
 //! A map is written as its pairs, `KEY:VERSION=NUMBER`, separated by commas, and read in their order; `none` has no pair,
-//! and `FIRST-LAST:VERSION=NUMBER` is read as a pair for each of these keys. In a map of maps of maps a key is three
-//! numbers, separated by slashes.
+//! and `FIRST-LAST:VERSION=NUMBER` is read as a pair for each of these keys. In a map of maps a key is two numbers,
+//! separated by a slash.
 use crate::joins::{append_value, joined, versioned};
 use join_law::{Join, Versioned};
 use join_maps::{AddAt, AddValue, Addition, JoinMap};
@@ -11,7 +11,7 @@ use worked_lines::{Answer, LineFault, Words, byte_of, cut_at, match_word, parts_
 /// A map from numbers to versioned numbers.
 pub type Numbers = JoinMap<u8, Versioned<u8>>;
 
-type Tree = JoinMap<u8, JoinMap<u8, Numbers>>;
+type Tree = JoinMap<u8, Numbers>;
 
 /// Writes the answer to a call on join maps.
 pub fn answer(words: &mut Words, out: &mut Answer) -> Result<(), LineFault> {
@@ -156,27 +156,23 @@ fn last(words: &mut Words, out: &mut Answer) -> Result<(), LineFault> {
     Ok(())
 }
 
-// Joins the pair that a word writes to a map of maps of maps.
+// Joins the pair that a word writes to a map of maps.
 fn join_branch(tree: &mut Tree, pair: &[u8]) -> Result<(), LineFault> {
     let (keys, value) = cut_at(pair, b':').ok_or(LineFault::Words)?;
-    let (outer, others) = cut_at(keys, b'/').ok_or(LineFault::Words)?;
-    let (middle, inner) = cut_at(others, b'/').ok_or(LineFault::Words)?;
+    let (outer, inner) = cut_at(keys, b'/').ok_or(LineFault::Words)?;
     let value = versioned(value)?;
     let branch = AddAt {
         key: byte_of(outer)?,
         addition: AddAt {
-            key: byte_of(middle)?,
-            addition: AddAt {
-                key: byte_of(inner)?,
-                addition: AddValue { value },
-            },
+            key: byte_of(inner)?,
+            addition: AddValue { value },
         },
     };
     branch.join_to(tree)?;
     Ok(())
 }
 
-// The next word as a map of maps of maps.
+// The next word as a map of maps.
 fn tree(words: &mut Words) -> Result<Tree, LineFault> {
     let mut tree = JoinMap::new(words.alloc);
     for pair in &parts_of(words.alloc, words.word()?)? {
@@ -185,34 +181,26 @@ fn tree(words: &mut Words) -> Result<Tree, LineFault> {
     Ok(tree)
 }
 
-// Writes the maps at a key.
-fn append_maps(out: &mut Answer, outer: u8, maps: &JoinMap<u8, Numbers>) {
-    let mut pairs = maps.pairs();
-    while let Some((middle, map)) = pairs.next() {
-        let mut keys = Answer::new(out.alloc);
-        keys.write_made(format!(in out.alloc; "{outer}/{middle}/"));
-        append_pairs(out, &keys, map);
-    }
-}
-
-// Writes a map of maps of maps, and how many keys its outermost map has.
+// Writes a map of maps, and how many keys its outer map has.
 fn append_tree(out: &mut Answer, tree: &Tree) {
     let mut pairs = tree.pairs();
-    while let Some((outer, maps)) = pairs.next() {
-        append_maps(out, *outer, maps);
+    while let Some((outer, map)) = pairs.next() {
+        let mut keys = Answer::new(out.alloc);
+        keys.write_made(format!(in out.alloc; "{outer}/"));
+        append_pairs(out, &keys, map);
     }
     out.or(b"none");
     out.write(b" ");
     out.print(&tree.len());
 }
 
-// The join of two maps of maps of maps.
+// The join of two maps of maps.
 fn deep(words: &mut Words, out: &mut Answer) -> Result<(), LineFault> {
     let first = tree(words)?;
     append_trees(out, &first, &tree(words)?)
 }
 
-// Writes the join of two maps of maps of maps, and whether it is the same in both orders.
+// Writes the join of two maps of maps, and whether it is the same in both orders.
 fn append_trees(out: &mut Answer, left: &Tree, right: &Tree) -> Result<(), LineFault> {
     let whole = joined(left, right)?;
     append_tree(out, &whole);
