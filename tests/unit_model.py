@@ -4,6 +4,7 @@ of a file (a character for each byte), or a `Link`. A place is a path, which is 
 
 Names and texts of files are in unit_text, edges and plans in unit_graph. What a unit has beside what its files ask for is its profile's, and
 stands in implied_model: nothing in the profile `files`, and what systemd's system manager adds in the profile `manager`."""
+import functools
 import re
 
 from implied_model import PROFILES
@@ -93,13 +94,14 @@ class Units:
         said = self.choice(at)
         return (name, ("bad", "B3")) if said[0] == "alias" else (at, said)
 
+    @functools.cached_property
     def linked_names(self):
         """The names at which a link is visible."""
         return [it for it in {name for name, content in self.own() if isinstance(content, Link)} if name_or_none(it)]
 
     def names(self, main):
         name, found = Name(main), set()
-        for linked in self.linked_names():
+        for linked in self.linked_names:
             own = linked
             if Name(linked).shape == "template" and name.shape == "instance":
                 own = filled(linked, name.instance)

@@ -36,8 +36,9 @@ class Refused(Exception):
 # ---- names
 
 
+@functools.cache
 class Name:
-    """A unit name, or N1 to N4."""
+    """A unit name, or N1 to N4: one object for each text."""
 
     def __init__(self, text):
         if not 1 <= len(text) <= 255:
