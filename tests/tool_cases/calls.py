@@ -80,7 +80,7 @@ class Call:
 
     def ended(self):
         """How it ended."""
-        piped = b"" if self.printed.seekable() else self.printed.read()
+        piped = None if self.printed.seekable() else whole(self.printed)
         _, status = os.waitpid(self.process, 0)
         self.given.close()
-        return Ran(os.waitstatus_to_exitcode(status), piped or whole(self.printed), whole(self.told))
+        return Ran(os.waitstatus_to_exitcode(status), whole(self.printed) if piped is None else piped, whole(self.told))
