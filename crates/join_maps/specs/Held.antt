@@ -9,7 +9,8 @@ use Rattle.join_maps.specs.Prelude.{[], Equal, length, List, Ordering}
 use Rattle.join_law.specs.Maps.{IsMap}
 
 -- runs of pairs that stand side by side, all of which together are a map
-pub record AreMapped {K V : Type 0} (R : K → K → Ordering) (below : V → V → Type 0) (valid : V → Type 0) (c : List (K × V) × List (K × List (K × V))) : Type 0 where
+pub record AreMapped {K V : Type 0} (R : K → K → Ordering) (below : V → V → Type 0) (valid : V → Type 0)
+    (c : List (K × V) × List (K × List (K × V))) : Type 0 where
   pub chunks : AreChunks R c
   pub map : IsMap R below valid (all_pairs c)
 

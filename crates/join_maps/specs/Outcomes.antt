@@ -1,9 +1,10 @@
 -- The result of joining many pairs, after success and after failure.
 -- Source: this project's own.
-use Rattle.std.proofs.Common.{◌+◌, ◌++◌, ◌<◌, ◌∷◌, ◌≡◌, ◌≢◌, ◌≤◌, ◌⊎◌}
+use Rattle.std.proofs.Common.{◌+◌, ◌++◌, ◌<◌, ◌∷◌, ◌≡◌, ◌≢◌, ◌≤◌, ◌⊎◌, ◌↔◌}
 use Rattle.chunked_pairs.specs.Chunks.{AllKeys, FallsTo, run_at}
 use Rattle.sorted_pairs.specs.Places.{IsAt, IsGap}
-use Rattle.std.specs.Prelude.{IfErr, IfOk}
+use Rattle.std.specs.Prelude.{IfErr, IfOk, IsOk, IsSome, IsTrue}
+use Rattle.join_law.specs.declared.joins.Rest.{Rest}
 use Rattle.std.specs.FinMap.{find}
 use Rattle.join_law.specs.{Maps.{IsMap, IsSinglePair, MapBelow}, Order.{IsBetween, IsJoin, IsLeast, IsPartialJoin}}
 use Rattle.join_maps.specs.Prelude.{[], Bool, length, List, None, OnErr, OnFalse, OnOk, OnTrue, Ordering, Result, ℕ}
@@ -15,6 +16,19 @@ module _ {K V : Type 0} (R : K → K → Ordering) (below : V → V → Type 0) 
     pub ok : OnOk outcome (IsJoin (MapBelow R below) first other now)
     pub refused : OnErr outcome (IsBetween (MapBelow R below) first other now)
     pub single : OnErr outcome (IsSinglePair is_single other → now ≡ first)
+
+  -- One pair is joined. Its key is added exactly if it was absent and the value isn't least. Else the rest, with the same key, completes the
+  -- join; if the value is single, nothing changed. Where values join in place, that fails for absent keys alone.
+  pub record IsPairJoined (joins_in_place : Type 0) (outcome : Result Bool (Rest (K × V))) (k : K) (v : V)
+      (first now : List (K × V)) : Type 0 where
+    pub ok : OnOk outcome (IsJoin (MapBelow R below) first ((k, v) ∷ []) now)
+    pub added : IfOk outcome (λ added. IsTrue added ↔ ((find R k first ≡ None) × ¬ IsLeast below v))
+    pub key : IfErr outcome (λ fault. fault.rest.0 ≡ k)
+    pub refused : IfErr outcome (λ fault. IsPartialJoin (MapBelow R below) first ((k, v) ∷ []) now (fault.rest ∷ []))
+    pub left : IfErr outcome (λ fault. ¬ IsLeast below fault.rest.1)
+    pub rest_valid : IfErr outcome (λ fault. valid fault.rest.1)
+    pub single : IfErr outcome (λ _. is_single v → now ≡ first)
+    pub in_place : joins_in_place → IsSome (find R k first) → IsOk outcome
 
   -- Owned pairs are joined: all of them, or else the rest completes the join; if a single pair failed, nothing changed.
   pub record ArePairsJoined (all : Bool) (first other now rest : List (K × V)) : Type 0 where

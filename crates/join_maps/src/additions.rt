@@ -36,7 +36,8 @@ pub trait Addition: Drop {
         ensures ok { OnOk result (IsJoin Self.Value.below value.old (added self) value.new) }
         ensures added { IfOk result (λ is_added. IsTrue is_added ↔
             (IsTrue (is_new self value.old) × ¬ IsLeast Self.Value.below (added self))) }
-        ensures refused { OnErr result (IsBetween Self.Value.below value.old (added self) value.new) }
+        ensures refused { OnErr result
+            (IsBetween Self.Value.below value.old (added self) value.new) }
         ensures single { OnErr result (Self.Value.is_single (added self) → value.new ≡ value.old) }
         ensures in_place { joins_in_place → is_new self value.old ≡ false → IsOk result }
         ensures valid { Self.Value.is_valid value.new };
@@ -44,7 +45,8 @@ pub trait Addition: Drop {
     /// Returns the added value on its own, or `None` if it is a bottom value. Fails only if memory runs out.
     fn into_value(self, alloc: Global) -> Result<Option<Self::Value>, AllocError>
         ensures value { IfOk result (λ made. IfSome made (λ value. value ≡ added self)) }
-        ensures held { IfOk result (λ made. IfSome made (IsHeld Self.Value.below Self.Value.is_valid)) }
+        ensures held { IfOk result
+            (λ made. IfSome made (IsHeld Self.Value.below Self.Value.is_valid)) }
         ensures none { IfOk result (λ made. IfNone made (IsLeast Self.Value.below (added self))) };
 }
 
@@ -135,9 +137,11 @@ fn add_to_held<K: Key, A: Addition>(
         × ¬ IsLeast (MapBelow K.cmp A.Value.below) ((key, A.added addition) ∷ []))) }
     ensures refused { OnErr result (IsBetween (MapBelow K.cmp A.Value.below) (held_pairs held.old)
         ((key, A.added addition) ∷ []) (held_pairs held.new)) }
-    ensures single { OnErr result (A.Value.is_single (A.added addition) → held_pairs held.new ≡ held_pairs held.old) }
-    ensures in_place { A.joins_in_place →
-        is_none_or (A.is_new addition) (find K.cmp key (held_pairs held.old)) ≡ false → IsOk result }
+    ensures single { OnErr result
+        (A.Value.is_single (A.added addition) → held_pairs held.new ≡ held_pairs held.old) }
+    ensures in_place { A.joins_in_place
+        → is_none_or (A.is_new addition) (find K.cmp key (held_pairs held.old)) ≡ false
+        → IsOk result }
     ensures map { IsHeldMap K.cmp A.Value.below A.Value.is_valid held.new }
 {
     held.seat(&key)?;
@@ -162,9 +166,11 @@ fn add_at_key<K: Key, A: Addition>(
         × ¬ IsLeast (MapBelow K.cmp A.Value.below) ((key, A.added addition) ∷ []))) }
     ensures refused { OnErr result (IsBetween (MapBelow K.cmp A.Value.below) (all_pairs chunks.old)
         ((key, A.added addition) ∷ []) (all_pairs chunks.new)) }
-    ensures single { OnErr result (A.Value.is_single (A.added addition) → all_pairs chunks.new ≡ all_pairs chunks.old) }
-    ensures in_place { A.joins_in_place →
-        is_none_or (A.is_new addition) (find K.cmp key (all_pairs chunks.old)) ≡ false → IsOk result }
+    ensures single { OnErr result
+        (A.Value.is_single (A.added addition) → all_pairs chunks.new ≡ all_pairs chunks.old) }
+    ensures in_place { A.joins_in_place
+        → is_none_or (A.is_new addition) (find K.cmp key (all_pairs chunks.old)) ≡ false
+        → IsOk result }
     ensures map { AreMapped K.cmp A.Value.below A.Value.is_valid chunks.new }
 {
     let position = place_for(chunks, &key)?;
@@ -194,7 +200,8 @@ fn join_at_key<K: Key, A: Addition>(
         × ¬ IsLeast (MapBelow K.cmp A.Value.below) ((key, A.added addition) ∷ []))) }
     ensures refused { OnErr result (IsBetween (MapBelow K.cmp A.Value.below) pairs.old.items
         ((key, A.added addition) ∷ []) pairs.new.items) }
-    ensures single { OnErr result (A.Value.is_single (A.added addition) → pairs.new.items ≡ pairs.old.items) }
+    ensures single { OnErr result
+        (A.Value.is_single (A.added addition) → pairs.new.items ≡ pairs.old.items) }
     ensures in_place { A.joins_in_place →
         is_none_or (A.is_new addition) (find K.cmp key pairs.old.items) ≡ false → IsOk result }
     ensures map { IsMap K.cmp A.Value.below A.Value.is_valid pairs.new.items }
@@ -223,7 +230,8 @@ fn add_to_value<K: Key, A: Addition>(
     requires map { IsMap K.cmp A.Value.below A.Value.is_valid pairs.old }
     requires found { IsAt K.cmp key pairs.old 0 }
     requires within { 0 < length pairs.old }
-    ensures ok { OnOk result (IsJoin (MapBelow K.cmp A.Value.below) pairs.old ((key, A.added addition) ∷ []) pairs.new) }
+    ensures ok { OnOk result
+        (IsJoin (MapBelow K.cmp A.Value.below) pairs.old ((key, A.added addition) ∷ []) pairs.new) }
     ensures added { IfOk result (λ is_added. IsTrue is_added ↔
         (IsTrue (is_none_or (A.is_new addition) (find K.cmp key pairs.old))
         × ¬ IsLeast (MapBelow K.cmp A.Value.below) ((key, A.added addition) ∷ []))) }

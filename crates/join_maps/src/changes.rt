@@ -44,7 +44,8 @@ impl<'a, K: Key, C: Change> Change for ChangeAt<'a, K, C> {
 #[inline(always)]
 fn change_at_key<K: Key, C: Change>(chunks: &mut Chunks<K, C::Value>, key: &K, change: C) -> bool
     requires map { AreMapped K.cmp C.Value.below C.Value.is_valid chunks.old }
-    ensures made { result ≡ is_some_and (C.is_made change) (find K.cmp key.now (all_pairs chunks.old)) }
+    ensures made { result ≡ is_some_and (C.is_made change)
+        (find K.cmp key.now (all_pairs chunks.old)) }
     ensures joined { OnTrue result (IsJoin (MapBelow K.cmp C.Value.below) (all_pairs chunks.old)
         ((key.now, C.added change) ∷ []) (all_pairs chunks.new)) }
     ensures same { OnFalse result (all_pairs chunks.new ≡ all_pairs chunks.old) }

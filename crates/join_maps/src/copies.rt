@@ -22,14 +22,18 @@ fn join_pair_copy<K: Key, V: Join>(
     requires map { IsMap K.cmp V.below V.is_valid pairs.old.items }
     requires held { IsHeld V.below V.is_valid value.now }
     ensures map { IsMap K.cmp V.below V.is_valid pairs.new.items }
-    ensures ok { IfOk result (λ joined. OnTrue joined (IsJoin (MapBelow K.cmp V.below) pairs.old.items
+    ensures ok { IfOk result
+        (λ joined. OnTrue joined
+        (IsJoin (MapBelow K.cmp V.below) pairs.old.items
         ((key.now, value.now) ∷ []) pairs.new.items)) }
-    ensures absent { IfOk result (λ joined. OnFalse joined (find K.cmp key.now pairs.old.items ≡ None)) }
+    ensures absent { IfOk result
+        (λ joined. OnFalse joined (find K.cmp key.now pairs.old.items ≡ None)) }
     ensures unchanged { IfOk result (λ joined. OnFalse joined (pairs.new.items ≡ pairs.old.items)) }
     ensures refused { OnErr result (IsBetween (MapBelow K.cmp V.below) pairs.old.items
         ((key.now, value.now) ∷ []) pairs.new.items) }
     ensures single { OnErr result (V.is_single value.now → pairs.new.items ≡ pairs.old.items) }
-    ensures known { MapBelow K.cmp V.below ((key.now, value.now) ∷ []) pairs.old.items → IsOk result }
+    ensures known { MapBelow K.cmp V.below ((key.now, value.now) ∷ []) pairs.old.items
+        → IsOk result }
 {
     match seek(pairs, key) {
         Ok(at) => {
@@ -57,8 +61,10 @@ pub fn join_value_copy<K: Key, V: Join>(
     requires found { IsAt K.cmp key.now pairs.old at }
     requires within { at < length pairs.old }
     ensures map { IsMap K.cmp V.below V.is_valid pairs.new }
-    ensures ok { OnOk result (IsJoin (MapBelow K.cmp V.below) pairs.old ((key.now, value.now) ∷ []) pairs.new) }
-    ensures refused { OnErr result (IsBetween (MapBelow K.cmp V.below) pairs.old ((key.now, value.now) ∷ []) pairs.new) }
+    ensures ok { OnOk result
+        (IsJoin (MapBelow K.cmp V.below) pairs.old ((key.now, value.now) ∷ []) pairs.new) }
+    ensures refused { OnErr result
+        (IsBetween (MapBelow K.cmp V.below) pairs.old ((key.now, value.now) ∷ []) pairs.new) }
     ensures single { OnErr result (V.is_single value.now → pairs.new ≡ pairs.old) }
     ensures known { MapBelow K.cmp V.below ((key.now, value.now) ∷ []) pairs.old → IsOk result }
 {
@@ -91,8 +97,8 @@ pub fn join_copies<K: Key, V: Join>(
 ) -> Result<(), AllocError>
     requires map { IsMap K.cmp V.below V.is_valid pairs.old.items }
     requires other_map { IsMap K.cmp V.below V.is_valid other.now }
-    ensures joined { AreCopiesJoined K.cmp V.below V.is_valid V.is_single result pairs.old.items other.now
-        pairs.new.items }
+    ensures joined { AreCopiesJoined K.cmp V.below V.is_valid V.is_single result pairs.old.items
+        other.now pairs.new.items }
     ensures known { MapBelow K.cmp V.below other.now pairs.old.items → IsOk result }
 {
     for i in 0..other.len() {

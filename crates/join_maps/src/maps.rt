@@ -92,7 +92,8 @@ impl<K: Key, V: Join> JoinMap<K, V> {
     /// Returns the pair with a key that is looked for in any form, if there is one. O(log n). Allocates nothing.
     pub fn find<S: Sought<K>>(&self, sought: &S) -> Option<&(K, V)>
         ensures found { MatchOption result (find K.cmp (S.key sought.now) self.now ≡ None)
-            (λ pair. (pair.now.0 ≡ S.key sought.now) × (find K.cmp (S.key sought.now) self.now ≡ Some pair.now.1)) }
+            (λ pair. (pair.now.0 ≡ S.key sought.now)
+            × (find K.cmp (S.key sought.now) self.now ≡ Some pair.now.1)) }
     {
         match &self.held {
             Held::Alone(_, alone) => find_by(&alone[..], sought),
@@ -102,7 +103,8 @@ impl<K: Key, V: Join> JoinMap<K, V> {
 
     /// Borrows the keys, in order. Fails only if memory runs out.
     pub fn keys(&self) -> Result<Vec<&K>, AllocError>
-        ensures keys { IfOk result (λ keys. map (λ k. k.now) keys.items ≡ map (λ pair. pair.0) self.now) }
+        ensures keys { IfOk result
+            (λ keys. map (λ k. k.now) keys.items ≡ map (λ pair. pair.0) self.now) }
     {
         keys_of(self)
     }
@@ -123,7 +125,8 @@ impl<K: Key, V: Join> JoinMap<K, V> {
     /// which has the same key, completes the join; if the value is single, the map is unchanged. If the key is held,
     /// only the join of the value allocates.
     pub fn join_at(&mut self, key: K, value: V) -> Result<bool, Rest<(K, V)>>
-        ensures ok { OnOk result (IsJoin (MapBelow K.cmp V.below) self.old ((key, value) ∷ []) self.new) }
+        ensures ok { OnOk result
+            (IsJoin (MapBelow K.cmp V.below) self.old ((key, value) ∷ []) self.new) }
         ensures added { IfOk result (λ added. IsTrue added ↔
             ((find K.cmp key self.old ≡ None) × ¬ IsLeast V.below value)) }
         ensures key { IfErr result (λ fault. fault.rest.0 ≡ key) }
@@ -159,7 +162,8 @@ impl<K: Key, V: Join> Join for JoinMap<K, V> {
 
     ghost joins = { union_joins K.cmp K.total V.below V.join V.joins };
 
-    ghost keeps = { λ x y a b. union_keeps K.cmp K.total V.below V.is_valid V.join V.joins V.transitive V.reflexive V.keeps x y a b.held };
+    ghost keeps = { λ x y a b. union_keeps K.cmp K.total V.below V.is_valid V.join V.joins
+        V.transitive V.reflexive V.keeps x y a b.held };
 
     ghost one = { maps_one K.cmp V.below K.total V.is_valid K.exact V.one };
 

@@ -1,9 +1,9 @@
 //! Joins into what a map holds.
-ghost use Rattle.std.specs.{Prelude.{◌≡◌, ◌↔◌, ◌<◌, [], ◌∷◌, None, length, IsTrue, IsSome, IsOk, IfOk, OnOk, OnErr, IfErr}, FinMap.{find}};
+ghost use Rattle.std.specs.Prelude.{◌≡◌, ◌<◌, length, IsOk, OnOk, IfErr};
 ghost use Rattle.join_maps.specs.Held.{AreMapped, HasSeat, HaveSeats, held_pairs, IsHeldMap};
-ghost use Rattle.join_law.specs.{Maps.{IsMap, IsSinglePair, MapBelow}, Order.{IsJoin, IsLeast, IsPartialJoin}};
+ghost use Rattle.join_law.specs.{Maps.{IsMap, IsSinglePair, MapBelow}, Order.{IsJoin, IsPartialJoin}};
 ghost use Rattle.chunked_pairs.specs.Chunks.{all_pairs};
-ghost use Rattle.join_maps.specs.Outcomes.{AreCopiesJoined};
+ghost use Rattle.join_maps.specs.Outcomes.{AreCopiesJoined, IsPairJoined};
 
 use crate::copies::join_value_copy;
 use crate::held::{Held, only};
@@ -23,17 +23,8 @@ pub fn join_held<K: Key, V: Join>(
 ) -> Result<bool, Rest<(K, V)>>
     requires map { IsHeldMap K.cmp V.below V.is_valid held.old }
     ensures map { IsHeldMap K.cmp V.below V.is_valid held.new }
-    ensures ok { OnOk result (IsJoin (MapBelow K.cmp V.below) (held_pairs held.old)
-        ((key, value) ∷ []) (held_pairs held.new)) }
-    ensures added { IfOk result (λ added. IsTrue added ↔
-        ((find K.cmp key (held_pairs held.old) ≡ None) × ¬ IsLeast V.below value)) }
-    ensures key { IfErr result (λ fault. fault.rest.0 ≡ key) }
-    ensures refused { IfErr result (λ fault. IsPartialJoin (MapBelow K.cmp V.below) (held_pairs held.old)
-        ((key, value) ∷ []) (held_pairs held.new) (fault.rest ∷ [])) }
-    ensures left { IfErr result (λ fault. ¬ IsLeast V.below fault.rest.1) }
-    ensures rest_valid { IfErr result (λ fault. V.is_valid fault.rest.1) }
-    ensures single { IfErr result (λ _. V.is_single value → held_pairs held.new ≡ held_pairs held.old) }
-    ensures in_place { V.joins_in_place → IsSome (find K.cmp key (held_pairs held.old)) → IsOk result }
+    ensures joined { IsPairJoined K.cmp V.below V.is_valid V.is_single V.joins_in_place result key
+        value (held_pairs held.old) (held_pairs held.new) }
 {
     if value.is_bottom() {
         return Ok(false);
@@ -54,17 +45,8 @@ fn join_seated<K: Key, V: Join>(
     requires map { IsHeldMap K.cmp V.below V.is_valid held.old }
     requires seat { HasSeat K.cmp key held.old }
     ensures map { IsHeldMap K.cmp V.below V.is_valid held.new }
-    ensures ok { OnOk result (IsJoin (MapBelow K.cmp V.below) (held_pairs held.old)
-        ((key, value) ∷ []) (held_pairs held.new)) }
-    ensures added { IfOk result (λ added. IsTrue added ↔
-        ((find K.cmp key (held_pairs held.old) ≡ None) × ¬ IsLeast V.below value)) }
-    ensures key { IfErr result (λ fault. fault.rest.0 ≡ key) }
-    ensures refused { IfErr result (λ fault. IsPartialJoin (MapBelow K.cmp V.below) (held_pairs held.old)
-        ((key, value) ∷ []) (held_pairs held.new) (fault.rest ∷ [])) }
-    ensures left { IfErr result (λ fault. ¬ IsLeast V.below fault.rest.1) }
-    ensures rest_valid { IfErr result (λ fault. V.is_valid fault.rest.1) }
-    ensures single { IfErr result (λ _. V.is_single value → held_pairs held.new ≡ held_pairs held.old) }
-    ensures in_place { V.joins_in_place → IsSome (find K.cmp key (held_pairs held.old)) → IsOk result }
+    ensures joined { IsPairJoined K.cmp V.below V.is_valid V.is_single V.joins_in_place result key
+        value (held_pairs held.old) (held_pairs held.new) }
 {
     match held {
         Held::Alone(_, alone) => join_value(&mut alone[..], 0, key, value),
@@ -80,10 +62,12 @@ pub fn join_all<K: Key, V: Join>(
     requires map { IsHeldMap K.cmp V.below V.is_valid held.old }
     requires other_map { IsHeldMap K.cmp V.below V.is_valid other }
     ensures map { IsHeldMap K.cmp V.below V.is_valid held.new }
-    ensures ok { OnOk result (IsJoin (MapBelow K.cmp V.below) (held_pairs held.old) (held_pairs other)
+    ensures ok { OnOk result
+        (IsJoin (MapBelow K.cmp V.below) (held_pairs held.old) (held_pairs other)
         (held_pairs held.new)) }
-    ensures refused { IfErr result (λ fault. IsPartialJoin (MapBelow K.cmp V.below) (held_pairs held.old)
-        (held_pairs other) (held_pairs held.new) (held_pairs fault.rest)) }
+    ensures refused { IfErr result
+        (λ fault. IsPartialJoin (MapBelow K.cmp V.below) (held_pairs held.old) (held_pairs other)
+        (held_pairs held.new) (held_pairs fault.rest)) }
     ensures single { IfErr result (λ _. IsSinglePair V.is_single (held_pairs other) →
         held_pairs held.new ≡ held_pairs held.old) }
     ensures rest_map { IfErr result (λ fault. IsHeldMap K.cmp V.below V.is_valid fault.rest) }
@@ -115,10 +99,12 @@ fn join_runs<K: Key, V: Join>(
     requires map { IsHeldMap K.cmp V.below V.is_valid held.old }
     requires other_map { AreMapped K.cmp V.below V.is_valid other }
     ensures map { IsHeldMap K.cmp V.below V.is_valid held.new }
-    ensures ok { OnOk result (IsJoin (MapBelow K.cmp V.below) (held_pairs held.old) (all_pairs other)
+    ensures ok { OnOk result
+        (IsJoin (MapBelow K.cmp V.below) (held_pairs held.old) (all_pairs other)
         (held_pairs held.new)) }
-    ensures refused { IfErr result (λ fault. IsPartialJoin (MapBelow K.cmp V.below) (held_pairs held.old)
-        (all_pairs other) (held_pairs held.new) (all_pairs fault.rest)) }
+    ensures refused { IfErr result
+        (λ fault. IsPartialJoin (MapBelow K.cmp V.below) (held_pairs held.old) (all_pairs other)
+        (held_pairs held.new) (all_pairs fault.rest)) }
     ensures single { IfErr result (λ _. IsSinglePair V.is_single (all_pairs other) →
         held_pairs held.new ≡ held_pairs held.old) }
     ensures rest_map { IfErr result (λ fault. AreMapped K.cmp V.below V.is_valid fault.rest) }
@@ -147,8 +133,8 @@ pub fn join_all_copies<K: Key, V: Join>(
 ) -> Result<(), AllocError>
     requires map { IsHeldMap K.cmp V.below V.is_valid held.old }
     ensures map { IsHeldMap K.cmp V.below V.is_valid held.new }
-    ensures joined { AreCopiesJoined K.cmp V.below V.is_valid V.is_single result (held_pairs held.old)
-        other.now (held_pairs held.new) }
+    ensures joined { AreCopiesJoined K.cmp V.below V.is_valid V.is_single result
+        (held_pairs held.old) other.now (held_pairs held.new) }
     ensures known { MapBelow K.cmp V.below other.now (held_pairs held.old) → IsOk result }
 {
     let mut left = other.pairs();
@@ -167,8 +153,8 @@ fn join_run_copies<K: Key, V: Join>(
     requires pairs_map { IsMap K.cmp V.below V.is_valid pairs.now }
     requires some { 0 < length pairs.now }
     ensures map { IsHeldMap K.cmp V.below V.is_valid held.new }
-    ensures joined { AreCopiesJoined K.cmp V.below V.is_valid V.is_single result (held_pairs held.old) pairs.now
-        (held_pairs held.new) }
+    ensures joined { AreCopiesJoined K.cmp V.below V.is_valid V.is_single result
+        (held_pairs held.old) pairs.now (held_pairs held.new) }
     ensures known { MapBelow K.cmp V.below pairs.now (held_pairs held.old) → IsOk result }
 {
     held.seat_all(pairs)?;
@@ -185,8 +171,8 @@ fn join_seated_copies<K: Key, V: Join>(
     requires some { 0 < length pairs.now }
     requires seats { HaveSeats K.cmp pairs.now held.old }
     ensures map { IsHeldMap K.cmp V.below V.is_valid held.new }
-    ensures joined { AreCopiesJoined K.cmp V.below V.is_valid V.is_single result (held_pairs held.old) pairs.now
-        (held_pairs held.new) }
+    ensures joined { AreCopiesJoined K.cmp V.below V.is_valid V.is_single result
+        (held_pairs held.old) pairs.now (held_pairs held.new) }
     ensures known { MapBelow K.cmp V.below pairs.now (held_pairs held.old) → IsOk result }
 {
     match held {

@@ -20,8 +20,9 @@ fn join_popped<K: Key, V: Join>(chunks: &mut Chunks<K, V>, run: &mut Vec<(K, V)>
     ensures map { AreMapped K.cmp V.below V.is_valid chunks.new }
     ensures joined { OnTrue result (IsLastJoined K.cmp V.below (all_pairs chunks.old) run.old.items
         (all_pairs chunks.new) run.new.items) }
-    ensures stopped { OnFalse result (IsLastStopped K.cmp V.below V.is_valid V.is_single (all_pairs chunks.old)
-        run.old.items (all_pairs chunks.new) run.new.items) }
+    ensures stopped { OnFalse result
+        (IsLastStopped K.cmp V.below V.is_valid V.is_single (all_pairs chunks.old) run.old.items
+        (all_pairs chunks.new) run.new.items) }
 {
     let Some((key, value)) = run.pop() else {
         return true;
@@ -44,9 +45,11 @@ fn join_last<K: Key, V: Join>(chunks: &mut Chunks<K, V>, other: &mut Chunks<K, V
     requires some { 0 < length (all_pairs other.old) }
     ensures map { AreMapped K.cmp V.below V.is_valid chunks.new }
     ensures other { AreChunks K.cmp other.new }
-    ensures joined { OnTrue result (IsLastJoined K.cmp V.below (all_pairs chunks.old) (all_pairs other.old)
+    ensures joined { OnTrue result
+        (IsLastJoined K.cmp V.below (all_pairs chunks.old) (all_pairs other.old)
         (all_pairs chunks.new) (all_pairs other.new)) }
-    ensures stopped { OnFalse result (IsLastStopped K.cmp V.below V.is_valid V.is_single (all_pairs chunks.old)
+    ensures stopped { OnFalse result
+        (IsLastStopped K.cmp V.below V.is_valid V.is_single (all_pairs chunks.old)
         (all_pairs other.old) (all_pairs chunks.new) (all_pairs other.new)) }
 {
     let last = other.last_run();
@@ -63,8 +66,8 @@ pub fn join_chunks<K: Key, V: Join>(chunks: &mut Chunks<K, V>, other: &mut Chunk
     requires other_map { AreMapped K.cmp V.below V.is_valid other.old }
     ensures chunks { AreChunks K.cmp chunks.new }
     ensures other_chunks { AreChunks K.cmp other.new }
-    ensures joined { ArePairsJoined K.cmp V.below V.is_valid V.is_single result (all_pairs chunks.old)
-        (all_pairs other.old) (all_pairs chunks.new) (all_pairs other.new) }
+    ensures joined { ArePairsJoined K.cmp V.below V.is_valid V.is_single result
+        (all_pairs chunks.old) (all_pairs other.old) (all_pairs chunks.new) (all_pairs other.new) }
 {
     if chunks.is_empty() {
         mem::swap(chunks, other);
@@ -90,8 +93,8 @@ fn join_in_run<K: Key, V: Join>(
     requires falls { AllKeys (λ q. FallsTo K.cmp q chunks.old.1 at) pairs.now }
     requires room { IsRoomFor K.cmp (run_at chunks.old.0 chunks.old.1 at) pairs.now }
     ensures chunks { AreChunks K.cmp chunks.new }
-    ensures joined { AreCopiesJoined K.cmp V.below V.is_valid V.is_single result (all_pairs chunks.old) pairs.now
-        (all_pairs chunks.new) }
+    ensures joined { AreCopiesJoined K.cmp V.below V.is_valid V.is_single result
+        (all_pairs chunks.old) pairs.now (all_pairs chunks.new) }
     ensures known { MapBelow K.cmp V.below pairs.now (all_pairs chunks.old) → IsOk result }
 {
     let mut run = chunks.take(at);
@@ -114,9 +117,11 @@ fn join_some<K: Key, V: Join>(
     ensures within { IfOk result (λ count. count ≤ length pairs.now) }
     ensures joined { IfOk result (λ count. IsJoin (MapBelow K.cmp V.below) (all_pairs chunks.old)
         (take count pairs.now) (all_pairs chunks.new)) }
-    ensures refused { OnErr result (IsBetween (MapBelow K.cmp V.below) (all_pairs chunks.old) pairs.now
+    ensures refused { OnErr result
+        (IsBetween (MapBelow K.cmp V.below) (all_pairs chunks.old) pairs.now
         (all_pairs chunks.new)) }
-    ensures single { OnErr result (IsSinglePair V.is_single pairs.now → all_pairs chunks.new ≡ all_pairs chunks.old) }
+    ensures single { OnErr result
+        (IsSinglePair V.is_single pairs.now → all_pairs chunks.new ≡ all_pairs chunks.old) }
     ensures known { MapBelow K.cmp V.below pairs.now (all_pairs chunks.old) → IsOk result }
 {
     let at = place_for(chunks, &pairs[0].0)?.run;
@@ -147,8 +152,8 @@ pub fn join_slice<K: Key, V: Join>(
     requires map { AreMapped K.cmp V.below V.is_valid chunks.old }
     requires pairs_map { IsMap K.cmp V.below V.is_valid pairs.now }
     ensures chunks { AreChunks K.cmp chunks.new }
-    ensures joined { AreCopiesJoined K.cmp V.below V.is_valid V.is_single result (all_pairs chunks.old) pairs.now
-        (all_pairs chunks.new) }
+    ensures joined { AreCopiesJoined K.cmp V.below V.is_valid V.is_single result
+        (all_pairs chunks.old) pairs.now (all_pairs chunks.new) }
     ensures known { MapBelow K.cmp V.below pairs.now (all_pairs chunks.old) → IsOk result }
 {
     let mut left = pairs;

@@ -46,12 +46,14 @@ fn place_copy<K: Key, V: Join>(
     ensures map { IsMap K.cmp V.below V.is_valid (passed.new.items ++ ahead.new.items) }
     ensures ok { OnOk result (IsJoin (MapBelow K.cmp V.below) (passed.old.items ++ ahead.old.items)
         ((key.now, value.now) ∷ []) (passed.new.items ++ ahead.new.items)) }
-    ensures refused { OnErr result (IsBetween (MapBelow K.cmp V.below) (passed.old.items ++ ahead.old.items)
+    ensures refused { OnErr result
+        (IsBetween (MapBelow K.cmp V.below) (passed.old.items ++ ahead.old.items)
         ((key.now, value.now) ∷ []) (passed.new.items ++ ahead.new.items)) }
     ensures single { OnErr result (V.is_single value.now → passed.new.items ++ ahead.new.items ≡
         passed.old.items ++ ahead.old.items) }
     ensures below { (next : K) → K.cmp key.now next ≡ Less → AreBelow K.cmp next passed.new.items }
-    ensures len { vec_len passed.new + deque_len ahead.new ≤ vec_len passed.old + deque_len ahead.old + 1 }
+    ensures len { vec_len passed.new + deque_len ahead.new
+        ≤ vec_len passed.old + deque_len ahead.old + 1 }
     ensures capacity { vec_capacity passed.old ≤ vec_capacity passed.new }
 {
     if is_first(ahead, key) {
@@ -76,8 +78,8 @@ fn pass_copies<K: Key, V: Join>(
     requires none { passed.old.items ≡ [] }
     requires map { IsMap K.cmp V.below V.is_valid ahead.old.items }
     requires other_map { IsMap K.cmp V.below V.is_valid other.now }
-    ensures joined { AreCopiesJoined K.cmp V.below V.is_valid V.is_single result ahead.old.items other.now
-        (passed.new.items ++ ahead.new.items) }
+    ensures joined { AreCopiesJoined K.cmp V.below V.is_valid V.is_single result ahead.old.items
+        other.now (passed.new.items ++ ahead.new.items) }
     ensures room { vec_len passed.new + deque_len ahead.new ≤ vec_capacity passed.new }
 {
     for pair in other {
@@ -92,9 +94,10 @@ pub fn join_copies_in_one<K: Key, V: Join>(
     pairs: &mut Vec<(K, V)>,
     other: &[(K, V)],
 ) -> Result<(), AllocError>
-    requires maps { IsMap K.cmp V.below V.is_valid pairs.old.items × IsMap K.cmp V.below V.is_valid other.now }
-    ensures joined { AreCopiesJoined K.cmp V.below V.is_valid V.is_single result pairs.old.items other.now
-        pairs.new.items }
+    requires maps { IsMap K.cmp V.below V.is_valid pairs.old.items
+        × IsMap K.cmp V.below V.is_valid other.now }
+    ensures joined { AreCopiesJoined K.cmp V.below V.is_valid V.is_single result pairs.old.items
+        other.now pairs.new.items }
 {
     let alloc = *pairs.allocator();
     let room = pairs.len().checked_add(other.len()).ok_or(AllocError)?;

@@ -1,8 +1,7 @@
 //! Edits of a map in chunks: a run changes places with the first one, is edited there as one vector, and goes back.
-ghost use Rattle.std.specs.{Prelude.{◌≡◌, ◌↔◌, ◌<◌, ◌≤◌, [], ◌∷◌, false, length, None, IsTrue, IsSome, IsOk, IfOk, OnOk, OnErr, IfErr}, FinMap.{find}};
+ghost use Rattle.std.specs.{Prelude.{◌≡◌, ◌<◌, ◌≤◌, false, length, IsTrue, IsSome, IsOk, IfOk, OnErr}, FinMap.{find}};
 ghost use Rattle.chunked_pairs.specs.Chunks.{all_pairs, FallsTo, run_at};
-ghost use Rattle.join_maps.specs.{Held.{AreMapped}, Outcomes.{IsPosition}};
-ghost use Rattle.join_law.specs.{Maps.{MapBelow}, Order.{IsJoin, IsLeast, IsPartialJoin}};
+ghost use Rattle.join_maps.specs.{Held.{AreMapped}, Outcomes.{IsPairJoined, IsPosition}};
 
 use chunked_pairs::{Chunks, HALF, MOST, Position, seek_by};
 use join_law::{Join, Rest, join_pair};
@@ -82,17 +81,8 @@ pub fn join_key<K: Key, V: Join>(
 ) -> Result<bool, Rest<(K, V)>>
     requires map { AreMapped K.cmp V.below V.is_valid chunks.old }
     ensures map { AreMapped K.cmp V.below V.is_valid chunks.new }
-    ensures ok { OnOk result (IsJoin (MapBelow K.cmp V.below) (all_pairs chunks.old)
-        ((key, value) ∷ []) (all_pairs chunks.new)) }
-    ensures added { IfOk result (λ added. IsTrue added ↔
-        ((find K.cmp key (all_pairs chunks.old) ≡ None) × ¬ IsLeast V.below value)) }
-    ensures key { IfErr result (λ fault. fault.rest.0 ≡ key) }
-    ensures refused { IfErr result (λ fault. IsPartialJoin (MapBelow K.cmp V.below) (all_pairs chunks.old)
-        ((key, value) ∷ []) (all_pairs chunks.new) (fault.rest ∷ [])) }
-    ensures left { IfErr result (λ fault. ¬ IsLeast V.below fault.rest.1) }
-    ensures rest_valid { IfErr result (λ fault. V.is_valid fault.rest.1) }
-    ensures single { IfErr result (λ _. V.is_single value → all_pairs chunks.new ≡ all_pairs chunks.old) }
-    ensures in_place { V.joins_in_place → IsSome (find K.cmp key (all_pairs chunks.old)) → IsOk result }
+    ensures joined { IsPairJoined K.cmp V.below V.is_valid V.is_single V.joins_in_place result key
+        value (all_pairs chunks.old) (all_pairs chunks.new) }
 {
     if value.is_bottom() {
         return Ok(false);

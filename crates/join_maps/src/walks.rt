@@ -67,7 +67,8 @@ fn same_pair<K: Key, V: Join>(left: &(K, V), right: &(K, V)) -> bool
 
 // Borrows the keys of the pairs, in order.
 pub fn keys_of<K: Key, V: Join>(all: &JoinMap<K, V>) -> Result<Vec<&K>, AllocError>
-    ensures keys { IfOk result (λ keys. map (λ k. k.now) keys.items ≡ map (λ pair. pair.0) all.now) }
+    ensures keys { IfOk result
+        (λ keys. map (λ k. k.now) keys.items ≡ map (λ pair. pair.0) all.now) }
 {
     let mut keys = Vec::with_capacity(all.allocator(), all.len())?;
     let mut pairs = all.pairs();

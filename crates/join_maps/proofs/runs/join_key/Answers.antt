@@ -1,5 +1,5 @@
-use Rattle.std.proofs.Common.{◌∷◌, ◌≡◌}
-use Rattle.join_maps.proofs.Prelude.{[], sym, zero, ◌∙◌}
+use Rattle.std.proofs.Common.{rules, ◌∷◌, ◌≡◌}
+use Rattle.join_maps.proofs.Prelude.{[], ap, refl, sym, zero, ◌∙◌}
 use Rattle.chunked_pairs.specs.Chunks.{all_pairs, run_at}
 use Rattle.join_law.specs.{EditLaws.{refused_is_join}, OutcomeLaws.{by_fault, if_err_weaker, on_ok_weaker}}
 use Rattle.join_maps.proofs.RunSteps.{edit_joined, edit_mapped, edit_partly, find_in_run, first_is, IsRunEdit, join_between, more_is, partly_between, put_same, room_for_key, run_is_map, swap_back}
@@ -39,30 +39,35 @@ edit g c = record {
 pub returns-in-Ok-clause-map : goal.returns-in-Ok-clause-map
 returns-in-Ok-clause-map g c = edit_mapped g.K.Ord.cmp g.met.K.Ord.total g.V.Join.is_valid g.V.Join.below g.met.V.Join.reflexive g.met.V.Join.transitive g.V.Join.join g.met.V.Join.joins _ _ _ _ _ (edit g c)
 
-pub returns-in-Ok-clause-ok : goal.returns-in-Ok-clause-ok
-returns-in-Ok-clause-ok g c = rw (sym c.in-Ok.ensures.same) (on_ok_weaker c.join_pair-outcome.result
-    (edit_joined g.K.Ord.cmp g.met.K.Ord.total g.V.Join.is_valid g.V.Join.below g.met.V.Join.reflexive g.met.V.Join.transitive g.V.Join.join g.met.V.Join.joins _ _ _ _ _ (edit g c))
-    (rw (first g c) at c.join_pair-outcome.ensures.ok))
+pub returns-in-Ok-clause-joined : goal.returns-in-Ok-clause-joined
+returns-in-Ok-clause-joined g c = record {
+  ok = rw (sym c.in-Ok.ensures.same) (on_ok_weaker c.join_pair-outcome.result
+      (edit_joined g.K.Ord.cmp g.met.K.Ord.total g.V.Join.is_valid g.V.Join.below g.met.V.Join.reflexive g.met.V.Join.transitive g.V.Join.join g.met.V.Join.joins _ _ _ _ _ (edit g c))
+      (rw (first g c) at c.join_pair-outcome.ensures.ok));
+  added = rw (sym c.in-Ok.ensures.same) (rw (find_in_run g.K.Ord.cmp g.met.K.Ord.total g.V.Join.is_valid g.V.Join.below g.met.V.Join.reflexive g.met.V.Join.transitive g.V.Join.join g.met.V.Join.joins c.place_for.new.chunks c.in-Ok.ensures.map c.in-Ok.position.run c.in-Ok.ensures.position.within c.args.key c.in-Ok.ensures.position.falls)
+      (rw (first g c) at c.join_pair-outcome.ensures.added));
+  key = c.join_pair-outcome.ensures.key;
+  refused = rw (sym c.in-Ok.ensures.same) (if_err_weaker c.join_pair-outcome.result
+      (λ fault. edit_partly g.K.Ord.cmp g.met.K.Ord.total g.V.Join.is_valid g.V.Join.below g.met.V.Join.reflexive g.met.V.Join.transitive g.V.Join.join g.met.V.Join.joins _ _ _ _ _ (edit g c) (fault.rest ∷ []))
+      (rw (first g c) at c.join_pair-outcome.ensures.refused));
+  left = c.join_pair-outcome.ensures.left;
+  rest_valid = c.join_pair-outcome.ensures.rest_valid;
+  single = if_err_weaker c.join_pair-outcome.result
+      (λ fault same single. put_same _ _ c.in-Ok.position.run _ (edit g c).put_is (same single) ∙ c.in-Ok.ensures.same)
+      (rw (first g c) at c.join_pair-outcome.ensures.single);
+  in_place = rw (sym c.in-Ok.ensures.same) (rw (find_in_run g.K.Ord.cmp g.met.K.Ord.total g.V.Join.is_valid g.V.Join.below g.met.V.Join.reflexive g.met.V.Join.transitive g.V.Join.join g.met.V.Join.joins c.place_for.new.chunks c.in-Ok.ensures.map c.in-Ok.position.run c.in-Ok.ensures.position.within c.args.key c.in-Ok.ensures.position.falls)
+      (rw (first g c) at c.join_pair-outcome.ensures.in_place));
+}
 
-pub returns-in-Ok-clause-added : goal.returns-in-Ok-clause-added
-returns-in-Ok-clause-added g c = rw (sym c.in-Ok.ensures.same) (rw (find_in_run g.K.Ord.cmp g.met.K.Ord.total g.V.Join.is_valid g.V.Join.below g.met.V.Join.reflexive g.met.V.Join.transitive g.V.Join.join g.met.V.Join.joins c.place_for.new.chunks c.in-Ok.ensures.map c.in-Ok.position.run c.in-Ok.ensures.position.within c.args.key c.in-Ok.ensures.position.falls)
-    (rw (first g c) at c.join_pair-outcome.ensures.added))
-
-pub returns-in-Ok-clause-refused : goal.returns-in-Ok-clause-refused
-returns-in-Ok-clause-refused g c = rw (sym c.in-Ok.ensures.same) (if_err_weaker c.join_pair-outcome.result
-    (λ fault. edit_partly g.K.Ord.cmp g.met.K.Ord.total g.V.Join.is_valid g.V.Join.below g.met.V.Join.reflexive g.met.V.Join.transitive g.V.Join.join g.met.V.Join.joins _ _ _ _ _ (edit g c) (fault.rest ∷ []))
-    (rw (first g c) at c.join_pair-outcome.ensures.refused))
-
-pub returns-in-Ok-clause-single : goal.returns-in-Ok-clause-single
-returns-in-Ok-clause-single g c =
-    if_err_weaker c.join_pair-outcome.result
-    (λ fault same single. put_same _ _ c.in-Ok.position.run _ (edit g c).put_is (same single) ∙ c.in-Ok.ensures.same)
-    (rw (first g c) at c.join_pair-outcome.ensures.single)
-
-pub returns-in-Ok-clause-in_place : goal.returns-in-Ok-clause-in_place
-returns-in-Ok-clause-in_place g c = rw (sym c.in-Ok.ensures.same) (rw (find_in_run g.K.Ord.cmp g.met.K.Ord.total g.V.Join.is_valid g.V.Join.below g.met.V.Join.reflexive g.met.V.Join.transitive g.V.Join.join g.met.V.Join.joins c.place_for.new.chunks c.in-Ok.ensures.map c.in-Ok.position.run c.in-Ok.ensures.position.within c.args.key c.in-Ok.ensures.position.falls)
-    (rw (first g c) at c.join_pair-outcome.ensures.in_place))
-
-pub returns-in-Err-clause-refused : goal.returns-in-Err-clause-refused
-returns-in-Err-clause-refused g c = rw c.in-Err.ensures.err
-    (refused_is_join g.K.Ord.cmp g.met.K.Ord.total g.V.Join.is_valid g.V.Join.below g.met.V.Join.reflexive g.met.V.Join.transitive c.args.key (all_pairs c.args.chunks.now) zero c.requires.map.map c.args.value (λ least. let t = c.if-is_bottom.ensures.least.1 least in cc (t)))
+pub returns-in-Err-clause-joined : goal.returns-in-Err-clause-joined
+returns-in-Err-clause-joined g c = record {
+  ok = tt;
+  added = tt;
+  key = refl;
+  refused = rw c.in-Err.ensures.err
+      (refused_is_join g.K.Ord.cmp g.met.K.Ord.total g.V.Join.is_valid g.V.Join.below g.met.V.Join.reflexive g.met.V.Join.transitive c.args.key (all_pairs c.args.chunks.now) zero c.requires.map.map c.args.value (λ least. let t = c.if-is_bottom.ensures.least.1 least in cc (t)));
+  left = λ least. let t = c.if-is_bottom.ensures.least.1 least in cc (t);
+  rest_valid = search rules;
+  single = λ single. ap all_pairs c.in-Err.ensures.err;
+  in_place = λ in_place known. cc (c.in-Err.ensures.known known);
+}
