@@ -11,7 +11,8 @@ pub record IsField {A : Type 0} (at : List ℕ → Result (A × List ℕ) Spelli
   pub again : (a : A) (rest : List ℕ) → Fits a → at (text a ++ rest) ≡ Ok (a, rest)
 
 -- a value that is made of two, of which one is written behind the other
-pub record IsMadeOf {A B C : Type 0} (s : A → List ℕ) (P : A → Type 0) (t : B → List ℕ) (Q : B → Type 0) (text : C → List ℕ) (R : C → Type 0) (make : A → B → C) : Type 0 where
+pub record IsMadeOf {A B C : Type 0} (s : A → List ℕ) (P : A → Type 0) (t : B → List ℕ) (Q : B → Type 0)
+    (text : C → List ℕ) (R : C → Type 0) (make : A → B → C) : Type 0 where
   pub first : C → A
   pub second : C → B
   pub whole : (c : C) → make (first c) (second c) ≡ c
@@ -20,7 +21,8 @@ pub record IsMadeOf {A B C : Type 0} (s : A → List ℕ) (P : A → Type 0) (t 
   pub first_fits : (c : C) → R c → P (first c)
   pub second_fits : (c : C) → R c → Q (second c)
 
-module _ {A B C : Type 0} (f : List ℕ → Result (A × List ℕ) SpellingFault) (s : A → List ℕ) (P : A → Type 0) (g : List ℕ → Result (B × List ℕ) SpellingFault) (t : B → List ℕ) (Q : B → Type 0)
+module _ {A B C : Type 0} (f : List ℕ → Result (A × List ℕ) SpellingFault) (s : A → List ℕ) (P : A → Type 0)
+    (g : List ℕ → Result (B × List ℕ) SpellingFault) (t : B → List ℕ) (Q : B → Type 0)
     (text : C → List ℕ) (R : C → Type 0) (make : A → B → C) (F : IsField f s P) (G : IsField g t Q) (M : IsMadeOf s P t Q text R make) where
   -- one behind the other
   abbrev made_at : List ℕ → Result (C × List ℕ) SpellingFault
@@ -62,8 +64,10 @@ pub record IsPassed {A : Type 0} (P R : A → Type 0) (test : A → Bool) : Type
   pub plain : (a : A) → R a → P a
   pub passes : (a : A) → R a → test a ≡ true
 
-module _ {A : Type 0} (f : List ℕ → Result (A × List ℕ) SpellingFault) (s : A → List ℕ) (P R : A → Type 0) (test : A → Bool) (d : SpellingFault) (F : IsField f s P) (T : IsPassed P R test) where
-  passed_takes : (bytes : List ℕ) (x : A × List ℕ) → IsBytes bytes → (f bytes >>= λ y. cond (test y.0) (Ok y) (Err d)) ≡ Ok x → Takes bytes (s x.0) x.1 × R x.0
+module _ {A : Type 0} (f : List ℕ → Result (A × List ℕ) SpellingFault) (s : A → List ℕ) (P R : A → Type 0)
+    (test : A → Bool) (d : SpellingFault) (F : IsField f s P) (T : IsPassed P R test) where
+  passed_takes : (bytes : List ℕ) (x : A × List ℕ) → IsBytes bytes
+      → (f bytes >>= λ y. cond (test y.0) (Ok y) (Err d)) ≡ Ok x → Takes bytes (s x.0) x.1 × R x.0
   passed_takes bytes x fits e =
       let a = bind_ok (f bytes) (λ y. cond (test y.0) (Ok y) (Err d)) x e in
       let t = F.takes bytes a.0 fits a.1 in

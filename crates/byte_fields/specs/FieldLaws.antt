@@ -16,12 +16,14 @@ IsBytes-rest : (b : ℕ) (bytes : List ℕ) → IsBytes (b ∷ bytes) → IsByte
 IsBytes-rest b bytes h i = h (suc i)
 
 -- the value of a step that did not fail
-pub bind_ok : {A B : Type 0} (r : Result A SpellingFault) (f : A → Result B SpellingFault) (y : B) → (r >>= f) ≡ Ok y → (x : A) × (r ≡ Ok x) × (f x ≡ Ok y)
+pub bind_ok : {A B : Type 0} (r : Result A SpellingFault) (f : A → Result B SpellingFault) (y : B) → (r >>= f) ≡ Ok y
+    → (x : A) × (r ≡ Ok x) × (f x ≡ Ok y)
 bind_ok (Ok x) f y e = (x, refl, e)
 bind_ok (Err d) f y e = absurd cc
 
 -- a test that did not fail
-pub guard_ok : {A : Type 0} (b : Bool) (d : SpellingFault) (r : Result A SpellingFault) (y : A) → cond b (Err d) r ≡ Ok y → (b ≡ false) × (r ≡ Ok y)
+pub guard_ok : {A : Type 0} (b : Bool) (d : SpellingFault) (r : Result A SpellingFault) (y : A)
+    → cond b (Err d) r ≡ Ok y → (b ≡ false) × (r ≡ Ok y)
 guard_ok true d r y e = absurd cc
 guard_ok false d r y e = (refl, e)
 
@@ -40,7 +42,8 @@ Takes-then a x b y c p q = record { parts = p.parts ∙ ap (λ (t : List ℕ). x
 
 -- ---- bytes
 
-pub byte_taken : (bytes : List ℕ) (b : ℕ) (rest : List ℕ) → IsBytes bytes → byte_at bytes ≡ Ok (b, rest) → Takes bytes (b ∷ []) rest × (b < 256)
+pub byte_taken : (bytes : List ℕ) (b : ℕ) (rest : List ℕ) → IsBytes bytes → byte_at bytes ≡ Ok (b, rest)
+    → Takes bytes (b ∷ []) rest × (b < 256)
 byte_taken [] b rest fits e = absurd cc
 byte_taken (c ∷ bytes) b rest fits e =
     let same = ok_is (c, bytes) (b, rest) e in
@@ -75,8 +78,10 @@ not_zero n some = by (eqb n 0) refl
 not_outside : (h : ℕ) → (eqb h 0 || leb (2 ^ 57) h) ≡ false → (0 < h) × (h < 2 ^ 57)
 not_outside h e = let parts = neither _ _ e in (some_if h parts.0, leb-false _ _ parts.1)
 
-long_takes : (most : ℕ) (bytes : List ℕ) (low : ℕ) (after : List ℕ) (high : ℕ) (rest : List ℕ) → 128 ≤ low → low < 256 → (0 < high) × (high < 2 ^ 57)
-    → Takes bytes (low ∷ []) after → Takes after (number_within most high) rest → Takes bytes (number_within (suc most) (low - 128 + 128 * high)) rest
+long_takes : (most : ℕ) (bytes : List ℕ) (low : ℕ) (after : List ℕ) (high : ℕ) (rest : List ℕ) → 128 ≤ low → low < 256
+    → (0 < high) × (high < 2 ^ 57)
+    → Takes bytes (low ∷ []) after → Takes after (number_within most high) rest
+    → Takes bytes (number_within (suc most) (low - 128 + 128 * high)) rest
 unfolding number_within
 long_takes most bytes low after high rest large fits bound t u =
     let many : ltb (low - 128 + 128 * high) 128 ≡ false = le-ltb _ _ (omega (arith, bound.0)) in
@@ -84,7 +89,8 @@ long_takes most bytes low after high rest large fits bound t u =
     let others : (low - 128 + 128 * high) / 128 ≡ high = omega (arith, bound.0) in
     rw (many, first, others) (Takes-then bytes (low ∷ []) after (number_within most high) rest t u)
 
-number_taken_within : (most : ℕ) (bytes : List ℕ) (n : ℕ) (rest : List ℕ) → IsBytes bytes → number_at_most most bytes ≡ Ok (n, rest) → Takes bytes (number_within most n) rest × (n < 2 ^ 64)
+number_taken_within : (most : ℕ) (bytes : List ℕ) (n : ℕ) (rest : List ℕ) → IsBytes bytes
+    → number_at_most most bytes ≡ Ok (n, rest) → Takes bytes (number_within most n) rest × (n < 2 ^ 64)
 unfolding number_at_most number_within
 number_taken_within zero bytes n rest fits e = absurd cc
 number_taken_within (suc most) bytes n rest fits e =
@@ -107,7 +113,8 @@ number_taken_within (suc most) bytes n rest fits e =
     (long_takes most bytes b.0.0 b.0.1 h.0.0 h.0.1 large t.1 bound t.0 u.0, omega (arith, t.1)))
     (chosen (ltb b.0.0 128) (Ok b.0) (number_at_most most b.0.1 >>= with_high b.0.0) (Ok (n, rest)) b.2)
 
-number_back_within : (most n : ℕ) (rest : List ℕ) → n < 2 ^ 64 → n < room (suc most) → number_at_most (suc most) (number_within (suc most) n ++ rest) ≡ Ok (n, rest)
+number_back_within : (most n : ℕ) (rest : List ℕ) → n < 2 ^ 64 → n < room (suc most)
+    → number_at_most (suc most) (number_within (suc most) n ++ rest) ≡ Ok (n, rest)
 unfolding number_at_most number_within
 number_back_within zero n rest small lt =
     let few : ltb n 128 ≡ true = lt-ltb _ _ (omega (arith, lt)) in
@@ -129,7 +136,8 @@ number_back_within (suc most) n rest small lt = ⊎_elim
 
 -- ---- strings
 
-pub cut_taken : (len : ℕ) (bytes text rest : List ℕ) → IsBytes bytes → cut_at len bytes ≡ Ok (text, rest) → Takes bytes text rest × (length text ≡ len)
+pub cut_taken : (len : ℕ) (bytes text rest : List ℕ) → IsBytes bytes → cut_at len bytes ≡ Ok (text, rest)
+    → Takes bytes text rest × (length text ≡ len)
 cut_taken len bytes text rest fits e =
     let g = guard_ok (ltb (length bytes) len) Truncated (Ok (take len bytes, drop len bytes)) (text, rest) e in
     let long : len ≤ length bytes = ltb-false _ _ g.0 in
@@ -142,13 +150,15 @@ cut_back text rest =
     let long : ltb (length (text ++ rest)) (length text) ≡ false = le-ltb _ _ (omega (arith, length-append text rest)) in
     rw (long, take_at text rest (length text) refl, drop_at text rest (length text) refl) refl
 
-number_taken : (bytes : List ℕ) (n : ℕ) (rest : List ℕ) → IsBytes bytes → number_at bytes ≡ Ok (n, rest) → Takes bytes (number n) rest × (n < 2 ^ 64)
+number_taken : (bytes : List ℕ) (n : ℕ) (rest : List ℕ) → IsBytes bytes → number_at bytes ≡ Ok (n, rest)
+    → Takes bytes (number n) rest × (n < 2 ^ 64)
 number_taken bytes n rest fits e = number_taken_within 10 bytes n rest fits e
 
 number_back : (n : ℕ) (rest : List ℕ) → n < 2 ^ 64 → number_at (number n ++ rest) ≡ Ok (n, rest)
 number_back n rest small = number_back_within 9 n rest small (omega arith)
 
-short_taken : (bytes text rest : List ℕ) → IsBytes bytes → short_string_at bytes ≡ Ok (text, rest) → Takes bytes (short_string text) rest × (length text < 256)
+short_taken : (bytes text rest : List ℕ) → IsBytes bytes → short_string_at bytes ≡ Ok (text, rest)
+    → Takes bytes (short_string text) rest × (length text < 256)
 unfolding short_string_at
 short_taken bytes text rest fits e =
     let b = bind_ok (byte_at bytes) (λ len. cut_at len.0 len.1) (text, rest) e in
@@ -160,7 +170,8 @@ short_back : (text rest : List ℕ) → length text < 256 → short_string_at (s
 unfolding short_string_at
 short_back text rest small = cut_back text rest
 
-long_taken : (bytes text rest : List ℕ) → IsBytes bytes → long_string_at bytes ≡ Ok (text, rest) → Takes bytes (long_string text) rest × (length text < 2 ^ 64)
+long_taken : (bytes text rest : List ℕ) → IsBytes bytes → long_string_at bytes ≡ Ok (text, rest)
+    → Takes bytes (long_string text) rest × (length text < 2 ^ 64)
 unfolding long_string_at
 long_taken bytes text rest fits e =
     let b = bind_ok (number_at bytes) (λ len. cut_at len.0 len.1) (text, rest) e in

@@ -5,7 +5,8 @@ use Rattle.chunked_pairs.specs.{Chunks.{all_pairs, AllKeys, AreChained, AreChunk
 
 module _ {K V : Type 0} (R : K → K → Ordering) (o : IsTotalOrder R) where
   -- the pairs from a run on are at or above the run's separator
-  pub later_from : (run : List (K × V)) (ms : List (K × List (K × V))) (s : K) → AllKeys (λ q. R q s ≢ Less) run → 0 < length run → AreChained R run ms → AllKeys (λ q. R q s ≢ Less) (run ++ later ms)
+  pub later_from : (run : List (K × V)) (ms : List (K × List (K × V))) (s : K) → AllKeys (λ q. R q s ≢ Less) run
+      → 0 < length run → AreChained R run ms → AllKeys (λ q. R q s ≢ Less) (run ++ later ms)
   later_from run [] s h some c = keys_append (λ q. R q s ≢ Less) run [] h tt
   later_from [] (m ∷ ms) s h some c = absurd (omega arith)
   later_from (e ∷ run) (m ∷ ms) s h some c =
@@ -13,7 +14,8 @@ module _ {K V : Type 0} (R : K → K → Ordering) (o : IsTotalOrder R) where
       keys_append (λ q. R q s ≢ Less) (e ∷ run) (m.1 ++ later ms) h
       (keys_weaker (λ y n. not_below R o s y (below_from R o s m.0 y next n)) _ (later_from m.1 ms m.0 c.1.from c.1.some c.2))
 
-  pub next_from : (run : List (K × V)) (m : K × List (K × V)) (ms : List (K × List (K × V))) → AreChained R run (m ∷ ms) → AllKeys (λ q. R q m.0 ≢ Less) (m.1 ++ later ms)
+  pub next_from : (run : List (K × V)) (m : K × List (K × V)) (ms : List (K × List (K × V))) → AreChained R run (m ∷ ms)
+      → AllKeys (λ q. R q m.0 ≢ Less) (m.1 ++ later ms)
   next_from run m ms c = later_from m.1 ms m.0 c.1.from c.1.some c.2
 
   pub sorted_all : (run : List (K × V)) (ms : List (K × List (K × V))) → AreChained R run ms → IsTrue (is_sorted R (run ++ later ms))
@@ -29,13 +31,15 @@ module _ {K V : Type 0} (R : K → K → Ordering) (o : IsTotalOrder R) where
   run_is run [] (suc j) le c = absurd (omega arith)
   run_is run (m ∷ ms) (suc j) le c = run_is m.1 ms j (omega arith) c.2
 
-  run_within : (P : K → Type 0) (run : List (K × V)) (ms : List (K × List (K × V))) (j : ℕ) → AllKeys P (run ++ later ms) → AllKeys P (run_at run ms j)
+  run_within : (P : K → Type 0) (run : List (K × V)) (ms : List (K × List (K × V))) (j : ℕ)
+      → AllKeys P (run ++ later ms) → AllKeys P (run_at run ms j)
   run_within P run ms zero h = (keys_parts P run (later ms) h).0
   run_within P run [] (suc j) h = tt
   run_within P run (m ∷ ms) (suc j) h = run_within P m.1 ms j (keys_parts P run (m.1 ++ later ms) h).1
 
   -- the keys of a run fall to it
-  pub keys_fall : (run : List (K × V)) (ms : List (K × List (K × V))) (j : ℕ) → j ≤ length ms → AreChained R run ms → AllKeys (λ q. FallsTo R q ms j) (run_at run ms j)
+  pub keys_fall : (run : List (K × V)) (ms : List (K × List (K × V))) (j : ℕ) → j ≤ length ms → AreChained R run ms
+      → AllKeys (λ q. FallsTo R q ms j) (run_at run ms j)
   keys_fall run [] zero le c = all run
     where
       all : (xs : List (K × V)) → AllKeys (λ q. Unit {0}) xs
@@ -46,20 +50,24 @@ module _ {K V : Type 0} (R : K → K → Ordering) (o : IsTotalOrder R) where
   keys_fall run (m ∷ ms) (suc j) le c = keys_both (λ q. R q m.0 ≢ Less) (λ q. FallsTo R q ms j) (run_at m.1 ms j) (run_within (λ q. R q m.0 ≢ Less) m.1 ms j (next_from run m ms c)) (keys_fall m.1 ms j (omega arith) c.2)
 
   -- a key is found where it falls to
-  pub find_falls : (q : K) (run : List (K × V)) (ms : List (K × List (K × V))) (j : ℕ) → AreChained R run ms → FallsTo R q ms j → find R q (run ++ later ms) ≡ find R q (run_at run ms j)
+  pub find_falls : (q : K) (run : List (K × V)) (ms : List (K × List (K × V))) (j : ℕ) → AreChained R run ms
+      → FallsTo R q ms j → find R q (run ++ later ms) ≡ find R q (run_at run ms j)
   find_falls q run [] zero c f = ap (find R q) (append-nil run)
   find_falls q run [] (suc j) c f = absurd f
   find_falls q run (m ∷ ms) zero c f = find_first R o q run (m.1 ++ later ms) (find_below R o q m.0 (m.1 ++ later ms) f (next_from run m ms c))
   find_falls q run (m ∷ ms) (suc j) c f = find_second R o q run (m.1 ++ later ms) (find_above R o q m.0 run f.0 c.1.below) ∙ find_falls q m.1 ms j c.2 f.1
 
   -- keys from one on are found from its run on
-  pub find_later : (q k : K) (run : List (K × V)) (ms : List (K × List (K × V))) (j : ℕ) → R k q ≢ Less → AreChained R run ms → FallsTo R q ms j → find R k (run_at run ms j ++ later (drop j ms)) ≡ find R k (run ++ later ms)
+  pub find_later : (q k : K) (run : List (K × V)) (ms : List (K × List (K × V))) (j : ℕ) → R k q ≢ Less
+      → AreChained R run ms → FallsTo R q ms j
+      → find R k (run_at run ms j ++ later (drop j ms)) ≡ find R k (run ++ later ms)
   find_later q k run [] zero n c f = refl
   find_later q k run [] (suc j) n c f = absurd f
   find_later q k run (m ∷ ms) zero n c f = refl
   find_later q k run (m ∷ ms) (suc j) n c f = find_later q k m.1 ms j n c.2 f.1 ∙ sym (find_second R o k run (m.1 ++ later ms) (find_above R o k m.0 run (λ l. n (below_from R o k m.0 q l f.0)) c.1.below))
 
-  pub chained_from : (run : List (K × V)) (ms : List (K × List (K × V))) (j : ℕ) → j ≤ length ms → AreChained R run ms → AreChained R (run_at run ms j) (drop j ms)
+  pub chained_from : (run : List (K × V)) (ms : List (K × List (K × V))) (j : ℕ) → j ≤ length ms → AreChained R run ms
+      → AreChained R (run_at run ms j) (drop j ms)
   chained_from run [] zero le c = c
   chained_from run [] (suc j) le c = absurd (omega arith)
   chained_from run (m ∷ ms) zero le c = c
@@ -80,11 +88,13 @@ module _ {K V : Type 0} (R : K → K → Ordering) (o : IsTotalOrder R) where
   separators_sorted run [] c = refl
   separators_sorted run (m ∷ ms) c = both _ _ (above m.0 m.1 ms c.1.from c.1.some c.2) (separators_sorted m.1 ms c.2)
     where
-      step : (s : K) (run : List (K × V)) (t : K) → AllKeys (λ q. R q s ≢ Less) run → 0 < length run → AllKeys (λ q. R q t ≡ Less) run → R s t ≡ Less
+      step : (s : K) (run : List (K × V)) (t : K) → AllKeys (λ q. R q s ≢ Less) run → 0 < length run
+          → AllKeys (λ q. R q t ≡ Less) run → R s t ≡ Less
       step s [] t a l b = absurd (omega arith)
       step s (e ∷ es) t a l b = from_below R o s e.0 t a.0 b.0
 
-      above : (s : K) (run : List (K × V)) (ms : List (K × List (K × V))) → AllKeys (λ q. R q s ≢ Less) run → 0 < length run → AreChained R run ms → IsTrue (below_all R s ms)
+      above : (s : K) (run : List (K × V)) (ms : List (K × List (K × V))) → AllKeys (λ q. R q s ≢ Less) run
+          → 0 < length run → AreChained R run ms → IsTrue (below_all R s ms)
       above s run [] a l c = refl
       above s run (m ∷ ms) a l c =
           let next = step s run m.0 a l c.1.below in
@@ -113,13 +123,16 @@ module _ {K V : Type 0} (R : K → K → Ordering) (o : IsTotalOrder R) where
   falls_within q (m ∷ ms) (suc i) f = let h = falls_within q ms i f.1 in omega arith
 
   -- where there are pairs, the last run has some
-  pub last_some : (c : List (K × V) × List (K × List (K × V))) → AreChunks R c → 0 < length (all_pairs c) → 0 < length (run_at c.0 c.1 (length c.1))
+  pub last_some : (c : List (K × V) × List (K × List (K × V))) → AreChunks R c → 0 < length (all_pairs c)
+      → 0 < length (run_at c.0 c.1 (length c.1))
   last_some c chunks some = at_last c.0 c.1 chunks.chained some
     where
-      behind : (run : List (K × V)) (ms : List (K × List (K × V))) → AreChained R run ms → 0 < length run → 0 < length (run_at run ms (length ms))
+      behind : (run : List (K × V)) (ms : List (K × List (K × V))) → AreChained R run ms → 0 < length run
+          → 0 < length (run_at run ms (length ms))
       behind run [] c s = s
       behind run (m ∷ ms) c s = behind m.1 ms c.2 c.1.some
 
-      at_last : (run : List (K × V)) (ms : List (K × List (K × V))) → AreChained R run ms → 0 < length (run ++ later ms) → 0 < length (run_at run ms (length ms))
+      at_last : (run : List (K × V)) (ms : List (K × List (K × V))) → AreChained R run ms → 0 < length (run ++ later ms)
+          → 0 < length (run_at run ms (length ms))
       at_last run [] c s = subst (λ l. 0 < length l) (append-nil run) s
       at_last run (m ∷ ms) c s = behind m.1 ms c.2 c.1.some

@@ -84,13 +84,15 @@ module _ {K : Type 0} (R : K → K → Ordering) (o : IsTotalOrder R) where
     pub find_below : (q s : K) (xs : List (K × V)) → R q s ≡ Less → AllKeys (λ x. R x s ≢ Less) xs → find R q xs ≡ None
     find_below q s xs h n = find_none q xs (keys_weaker (λ x l e. let t = below_from q s x h l in cc (t, e)) xs n)
 
-    below_all_append : (x s : K) (xs ys : List (K × V)) → R x s ≡ Less → IsTrue (below_all R x xs) → AllKeys (λ q. R q s ≢ Less) ys → IsTrue (below_all R x (xs ++ ys))
+    below_all_append : (x s : K) (xs ys : List (K × V)) → R x s ≡ Less → IsTrue (below_all R x xs)
+        → AllKeys (λ q. R q s ≢ Less) ys → IsTrue (below_all R x (xs ++ ys))
     below_all_append x s [] [] h b k = refl
     below_all_append x s [] (y ∷ ys) h b k = both _ _ (ap is_lt (below_from x s y.0 h k.0)) (below_all_append x s [] ys h refl k.1)
     below_all_append x s (e ∷ es) ys h b k = both _ _ (and_parts _ _ b).0 (below_all_append x s es ys h (and_parts _ _ b).1 k)
 
     -- sorted pairs below s, and sorted pairs at or above s
-    pub sorted_append : (s : K) (xs ys : List (K × V)) → IsTrue (is_sorted R xs) → IsTrue (is_sorted R ys) → AllKeys (λ q. R q s ≡ Less) xs → AllKeys (λ q. R q s ≢ Less) ys → IsTrue (is_sorted R (xs ++ ys))
+    pub sorted_append : (s : K) (xs ys : List (K × V)) → IsTrue (is_sorted R xs) → IsTrue (is_sorted R ys)
+        → AllKeys (λ q. R q s ≡ Less) xs → AllKeys (λ q. R q s ≢ Less) ys → IsTrue (is_sorted R (xs ++ ys))
     sorted_append s [] ys a b h k = b
     sorted_append s (x ∷ xs) ys a b h k =
         both _ _ (below_all_append x.0 s xs ys h.0 (and_parts _ _ a).0 k) (sorted_append s xs ys (and_parts _ _ a).1 b h.1 k)

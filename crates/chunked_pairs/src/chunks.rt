@@ -45,7 +45,8 @@ impl<K, V> Model for Chunks<K, V> {
 
     ghost Value = { List (K × V) × List (K × List (K × V)) };
 
-    ghost coded = { coded× (coded_list (coded× K.code V.code)) (coded_list (coded× K.code (coded_list (coded× K.code V.code)))) };
+    ghost coded = { coded× (coded_list (coded× K.code V.code))
+        (coded_list (coded× K.code (coded_list (coded× K.code V.code)))) };
 
     ghost view = { λ c. (c.first.items, map (λ m. (m.0, m.1.items)) c.more.items) };
 
@@ -151,7 +152,8 @@ impl<K: Key, V: Drop> Chunks<K, V> {
     /// Borrows the separator behind the run with this number. O(1).
     pub fn separator(&self, at: usize) -> &K
         requires within { at < length self.now.1 }
-        ensures separator { (d : K × List (K × V)) → result.now ≡ (slice_index_or self.now.1 at d).0 }
+        ensures separator { (d : K × List (K × V))
+            → result.now ≡ (slice_index_or self.now.1 at d).0 }
     {
         &self.more[at].0
     }
@@ -176,10 +178,14 @@ impl<K: Key, V: Drop> Chunks<K, V> {
         requires chunks { AreChunks K.cmp self.now }
         ensures within { result.run ≤ length self.now.1 }
         ensures falls { FallsTo K.cmp (S.key sought.now) self.now.1 result.run }
-        ensures found { IfOk result.index (IsAt K.cmp (S.key sought.now) (run_at self.now.0 self.now.1 result.run)) }
-        ensures absent { IfErr result.index (IsGap K.cmp (S.key sought.now) (run_at self.now.0 self.now.1 result.run)) }
-        ensures at_within { IfOk result.index (λ at. at < length (run_at self.now.0 self.now.1 result.run)) }
-        ensures gap_within { IfErr result.index (λ at. at ≤ length (run_at self.now.0 self.now.1 result.run)) }
+        ensures found { IfOk result.index
+            (IsAt K.cmp (S.key sought.now) (run_at self.now.0 self.now.1 result.run)) }
+        ensures absent { IfErr result.index
+            (IsGap K.cmp (S.key sought.now) (run_at self.now.0 self.now.1 result.run)) }
+        ensures at_within { IfOk result.index
+            (λ at. at < length (run_at self.now.0 self.now.1 result.run)) }
+        ensures gap_within { IfErr result.index
+            (λ at. at ≤ length (run_at self.now.0 self.now.1 result.run)) }
     {
         if self.more.is_empty() {
             return Position {
@@ -195,10 +201,14 @@ impl<K: Key, V: Drop> Chunks<K, V> {
         requires chunks { AreChunks K.cmp self.now }
         ensures within { result.run ≤ length self.now.1 }
         ensures falls { FallsTo K.cmp (S.key sought.now) self.now.1 result.run }
-        ensures found { IfOk result.index (IsAt K.cmp (S.key sought.now) (run_at self.now.0 self.now.1 result.run)) }
-        ensures absent { IfErr result.index (IsGap K.cmp (S.key sought.now) (run_at self.now.0 self.now.1 result.run)) }
-        ensures at_within { IfOk result.index (λ at. at < length (run_at self.now.0 self.now.1 result.run)) }
-        ensures gap_within { IfErr result.index (λ at. at ≤ length (run_at self.now.0 self.now.1 result.run)) }
+        ensures found { IfOk result.index
+            (IsAt K.cmp (S.key sought.now) (run_at self.now.0 self.now.1 result.run)) }
+        ensures absent { IfErr result.index
+            (IsGap K.cmp (S.key sought.now) (run_at self.now.0 self.now.1 result.run)) }
+        ensures at_within { IfOk result.index
+            (λ at. at < length (run_at self.now.0 self.now.1 result.run)) }
+        ensures gap_within { IfErr result.index
+            (λ at. at ≤ length (run_at self.now.0 self.now.1 result.run)) }
     {
         let last = self.last_run();
         let run = self.run(last);
@@ -223,10 +233,14 @@ impl<K: Key, V: Drop> Chunks<K, V> {
         requires chunks { AreChunks K.cmp self.now }
         ensures within { result.run ≤ length self.now.1 }
         ensures falls { FallsTo K.cmp (S.key sought.now) self.now.1 result.run }
-        ensures found { IfOk result.index (IsAt K.cmp (S.key sought.now) (run_at self.now.0 self.now.1 result.run)) }
-        ensures absent { IfErr result.index (IsGap K.cmp (S.key sought.now) (run_at self.now.0 self.now.1 result.run)) }
-        ensures at_within { IfOk result.index (λ at. at < length (run_at self.now.0 self.now.1 result.run)) }
-        ensures gap_within { IfErr result.index (λ at. at ≤ length (run_at self.now.0 self.now.1 result.run)) }
+        ensures found { IfOk result.index
+            (IsAt K.cmp (S.key sought.now) (run_at self.now.0 self.now.1 result.run)) }
+        ensures absent { IfErr result.index
+            (IsGap K.cmp (S.key sought.now) (run_at self.now.0 self.now.1 result.run)) }
+        ensures at_within { IfOk result.index
+            (λ at. at < length (run_at self.now.0 self.now.1 result.run)) }
+        ensures gap_within { IfErr result.index
+            (λ at. at ≤ length (run_at self.now.0 self.now.1 result.run)) }
     {
         let Some((pair, _)) = self.first.split_first() else {
             return self.seek_between(sought);
@@ -249,10 +263,14 @@ impl<K: Key, V: Drop> Chunks<K, V> {
         requires chunks { AreChunks K.cmp self.now }
         ensures within { result.run ≤ length self.now.1 }
         ensures falls { FallsTo K.cmp (S.key sought.now) self.now.1 result.run }
-        ensures found { IfOk result.index (IsAt K.cmp (S.key sought.now) (run_at self.now.0 self.now.1 result.run)) }
-        ensures absent { IfErr result.index (IsGap K.cmp (S.key sought.now) (run_at self.now.0 self.now.1 result.run)) }
-        ensures at_within { IfOk result.index (λ at. at < length (run_at self.now.0 self.now.1 result.run)) }
-        ensures gap_within { IfErr result.index (λ at. at ≤ length (run_at self.now.0 self.now.1 result.run)) }
+        ensures found { IfOk result.index
+            (IsAt K.cmp (S.key sought.now) (run_at self.now.0 self.now.1 result.run)) }
+        ensures absent { IfErr result.index
+            (IsGap K.cmp (S.key sought.now) (run_at self.now.0 self.now.1 result.run)) }
+        ensures at_within { IfOk result.index
+            (λ at. at < length (run_at self.now.0 self.now.1 result.run)) }
+        ensures gap_within { IfErr result.index
+            (λ at. at ≤ length (run_at self.now.0 self.now.1 result.run)) }
     {
         let run = self.run_of(sought);
         Position {
@@ -264,8 +282,10 @@ impl<K: Key, V: Drop> Chunks<K, V> {
     /// The pair with a key, if any. O(log n). Allocates nothing.
     pub fn find<S: Sought<K>>(&self, sought: &S) -> Option<&(K, V)>
         requires chunks { AreChunks K.cmp self.now }
-        ensures found { MatchOption result (find K.cmp (S.key sought.now) (all_pairs self.now) ≡ None)
-            (λ pair. (pair.now.0 ≡ S.key sought.now) × (find K.cmp (S.key sought.now) (all_pairs self.now) ≡ Some pair.now.1)) }
+        ensures found { MatchOption result
+            (find K.cmp (S.key sought.now) (all_pairs self.now) ≡ None)
+            (λ pair. (pair.now.0 ≡ S.key sought.now)
+            × (find K.cmp (S.key sought.now) (all_pairs self.now) ≡ Some pair.now.1)) }
     {
         find_by(self.run(self.run_of(sought)), sought)
     }
@@ -340,7 +360,8 @@ impl<K: Key, V: Drop> Chunks<K, V> {
     ///
     /// Fails only if memory runs out; nothing is added then.
     pub fn add_run(&mut self, separator: K, run: Vec<(K, V)>) -> Result<(), AllocError>
-        ensures ok { OnOk result (self.new ≡ (self.old.0, self.old.1 ++ (separator, run.items) ∷ [])) }
+        ensures ok { OnOk result
+            (self.new ≡ (self.old.0, self.old.1 ++ (separator, run.items) ∷ [])) }
         ensures err { OnErr result (self.new ≡ self.old) }
     {
         if self.more.len() >= MOST_RUNS {

@@ -57,7 +57,8 @@ impl<'a, K: Ord, V> Pairs<'a, K, V> {
     /// Takes the next pair, if one is left. O(1). Allocates nothing.
     #[inline(always)]
     pub fn next(&mut self) -> Option<&'a (K, V)>
-        ensures first { MatchOption result ((self.old ≡ []) × (self.new ≡ [])) (λ pair. self.old ≡ pair.now ∷ self.new) }
+        ensures first { MatchOption result ((self.old ≡ []) × (self.new ≡ []))
+            (λ pair. self.old ≡ pair.now ∷ self.new) }
     {
         if let Some((pair, left)) = self.left.split_first() {
             self.left = left;
@@ -72,7 +73,8 @@ impl<'a, K: Ord, V> Pairs<'a, K, V> {
     // Returns the same as `next`, which calls this only where a run is passed.
     #[inline(never)]
     fn next_of_any(&mut self) -> Option<&'a (K, V)>
-        ensures first { MatchOption result ((self.old ≡ []) × (self.new ≡ [])) (λ pair. self.old ≡ pair.now ∷ self.new) }
+        ensures first { MatchOption result ((self.old ≡ []) × (self.new ≡ []))
+            (λ pair. self.old ≡ pair.now ∷ self.new) }
     {
         if let Some((pair, left)) = self.left.split_first() {
             self.left = left;
@@ -106,7 +108,8 @@ impl<'a, K: Ord, V> Pairs<'a, K, V> {
     #[inline(always)]
     pub fn meet(&mut self, key: &K) -> Option<&'a V>
         ensures found { option_copied result ≡ find K.cmp key.now self.old }
-        ensures after { (k : K) → K.cmp key.now k ≡ Less → find K.cmp k self.new ≡ find K.cmp k self.old }
+        ensures after { (k : K) → K.cmp key.now k ≡ Less
+            → find K.cmp k self.new ≡ find K.cmp k self.old }
     {
         let Some((pair, left)) = self.left.split_first() else {
             return self.meet_further(key);
@@ -129,7 +132,8 @@ impl<'a, K: Ord, V> Pairs<'a, K, V> {
     #[inline(never)]
     fn meet_further(&mut self, key: &K) -> Option<&'a V>
         ensures found { option_copied result ≡ find K.cmp key.now self.old }
-        ensures after { (k : K) → K.cmp key.now k ≡ Less → find K.cmp k self.new ≡ find K.cmp k self.old }
+        ensures after { (k : K) → K.cmp key.now k ≡ Less
+            → find K.cmp k self.new ≡ find K.cmp k self.old }
     {
         self.step();
         let (order, left) = pass_near(self.left, key);
@@ -160,7 +164,8 @@ impl<'a, K: Ord, V> Pairs<'a, K, V> {
     // Returns the same as `meet`, by searches.
     fn search(&mut self, key: &K) -> Option<&'a V>
         ensures found { option_copied result ≡ find K.cmp key.now self.old }
-        ensures after { (k : K) → K.cmp key.now k ≡ Less → find K.cmp k self.new ≡ find K.cmp k self.old }
+        ensures after { (k : K) → K.cmp key.now k ≡ Less
+            → find K.cmp k self.new ≡ find K.cmp k self.old }
     {
         let (left, more) = pass_runs(self.left, self.more, key);
         self.more = more;
@@ -208,7 +213,8 @@ fn pass_runs<'a, K: Ord, V>(
     ensures chained { AreChained K.cmp result.0.now (viewed result.1.now) }
     ensures sorted { IsTrue (is_sorted K.cmp result.0.now) }
     ensures falls { FallsTo K.cmp key.now (viewed result.1.now) 0 }
-    ensures same { (k : K) → K.cmp k key.now ≢ Less → find K.cmp k (result.0.now ++ later (viewed result.1.now))
+    ensures same { (k : K) → K.cmp k key.now ≢ Less
+        → find K.cmp k (result.0.now ++ later (viewed result.1.now))
         ≡ find K.cmp k (left.now ++ later (viewed more.now)) }
 {
     let at = run_among(more, key);

@@ -63,12 +63,16 @@ fn cut_among<K: Key, V: Drop>(
 ) -> Result<(K, Vec<(K, V)>), AllocError>
     requires within { at ≤ length more.old.items }
     requires cut { cut < length (run_at first.old.items (viewed more.old.items) at) }
-    ensures front { OnOk result (in_runs first.new.items (viewed more.new.items) ≡ with_run first.old.items
+    ensures front { OnOk result
+        (in_runs first.new.items (viewed more.new.items) ≡ with_run first.old.items
         (viewed more.old.items) at (take cut (run_at first.old.items (viewed more.old.items) at))) }
-    ensures back { IfOk result (λ behind. behind.1.items ≡ drop cut (run_at first.old.items (viewed more.old.items) at)) }
+    ensures back { IfOk result
+        (λ behind. behind.1.items ≡ drop cut (run_at first.old.items (viewed more.old.items) at)) }
     ensures least { IfOk result (λ behind. (d : K × V) →
         behind.0 ≡ (slice_index_or (run_at first.old.items (viewed more.old.items) at) cut d).0) }
-    ensures err { OnErr result (in_runs first.new.items (viewed more.new.items) ≡ in_runs first.old.items (viewed more.old.items)) }
+    ensures err { OnErr result
+        (in_runs first.new.items (viewed more.new.items)
+        ≡ in_runs first.old.items (viewed more.old.items)) }
     ensures len { vec_len more.new ≡ vec_len more.old }
     ensures capacity { vec_capacity more.new ≡ vec_capacity more.old }
 {
@@ -87,7 +91,8 @@ fn cut_off<K: Key, V: Drop>(
     requires cut { cut < length run.old.items }
     ensures front { OnOk result (run.new.items ≡ take cut run.old.items) }
     ensures back { IfOk result (λ behind. behind.1.items ≡ drop cut run.old.items) }
-    ensures least { IfOk result (λ behind. (d : K × V) → behind.0 ≡ (slice_index_or run.old.items cut d).0) }
+    ensures least { IfOk result
+        (λ behind. (d : K × V) → behind.0 ≡ (slice_index_or run.old.items cut d).0) }
     ensures err { OnErr result (run.new ≡ run.old) }
 {
     let pair = &run[cut];
@@ -103,8 +108,10 @@ fn cut_for<K: Key, V>(run: &[(K, V)], key: &K, is_first: bool, is_last: bool) ->
     requires within { length run.now ≤ MOST }
     ensures some { 0 < result }
     ensures within { result < length run.now }
-    ensures front { (d : K × V) → K.cmp key.now (slice_index_or run.now result d).0 ≡ Less → result ≤ HALF }
-    ensures back { (d : K × V) → K.cmp key.now (slice_index_or run.now result d).0 ≢ Less → length run.now - result ≤ HALF }
+    ensures front { (d : K × V) → K.cmp key.now (slice_index_or run.now result d).0 ≡ Less
+        → result ≤ HALF }
+    ensures back { (d : K × V) → K.cmp key.now (slice_index_or run.now result d).0 ≢ Less
+        → length run.now - result ≤ HALF }
 {
     let last = run.len() - 1;
     if is_last && !key.cmp(&run[last].0).is_lt() {

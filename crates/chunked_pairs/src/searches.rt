@@ -61,7 +61,8 @@ pub(crate) fn search_by<K: Ord, V, S: Sought<K>>(
 pub fn find_by<'a, K: Key, V, S: Sought<K>>(pairs: &'a [(K, V)], sought: &S) -> Option<&'a (K, V)>
     requires sorted { IsTrue (is_sorted K.cmp pairs.now) }
     ensures found { MatchOption result (find K.cmp (S.key sought.now) pairs.now ≡ None)
-        (λ pair. (pair.now.0 ≡ S.key sought.now) × (find K.cmp (S.key sought.now) pairs.now ≡ Some pair.now.1)) }
+        (λ pair. (pair.now.0 ≡ S.key sought.now)
+        × (find K.cmp (S.key sought.now) pairs.now ≡ Some pair.now.1)) }
 {
     match seek_by(pairs, sought) {
         Ok(at) => {

@@ -64,7 +64,8 @@ fn crowd_at<N: NodeName + Send + Sync, R: Threads + Wait + Sync, G: Gate + Sync>
     requires opening { blank.opening ≡ N.opening }
     requires seats { blank.seats ≡ N.seats }
     ensures takes { IfOk result (λ counted. counted.takes ≡ seats * edits) }
-    ensures paths { IfOk result (λ counted. counted.paths ≡ places_with N.opening.store (crowd_places seats edits)) }
+    ensures paths { IfOk result
+        (λ counted. counted.paths ≡ places_with N.opening.store (crowd_places seats edits)) }
 {
     let node = Node::<N>::open(blank);
     match work_side_by_side(rt, alloc, &node, seats, edits, gate) {
@@ -104,7 +105,8 @@ pub fn crowd<R: Threads + Wait + Sync, G: Gate + Sync>(
     requires edits { edits ≤ MOST_EDITS }
     requires room { high_of replica.now.store ≤ u64.MAX - ROOM }
     ensures takes { IfOk result (λ counted. counted.takes ≡ seats * edits) }
-    ensures paths { IfOk result (λ counted. counted.paths ≡ places_with replica.now.store (crowd_places seats edits)) }
+    ensures paths { IfOk result
+        (λ counted. counted.paths ≡ places_with replica.now.store (crowd_places seats edits)) }
     ensures seats { (result ≡ Err Seats) ↔ ((seats ≡ 0) ⊎ (64 < seats)) }
 {
     if seats == 0 || seats > MOST_SEATS {

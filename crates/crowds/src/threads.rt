@@ -46,8 +46,10 @@ fn work_all<N: NodeName + Send + Sync, R: Threads + Wait + Sync, G: Gate + Sync>
 ) -> Result<Vec<Result<Seat<N>, AllocError>>, AllocError>
     requires fresh { All (λ seat. seat.calls ≡ 0) seats.items }
     ensures count { IfOk result (λ done. length done.items ≡ length seats.items) }
-    ensures each { IfOk result (λ done. (i : ℕ) (seat : _) (came : _) → i < length seats.items
-        → IfOk (slice_index_or done.items i came) (HasWorked edits (slice_index_or seats.items i seat).number)) }
+    ensures each { IfOk result
+        (λ done. (i : ℕ) (seat : _) (came : _) → i < length seats.items
+        → IfOk (slice_index_or done.items i came)
+        (HasWorked edits (slice_index_or seats.items i seat).number)) }
 {
     let work_one = |seat: Seat<N>| -> Result<Seat<N>, AllocError>
         requires { seat.calls ≡ 0 }

@@ -43,7 +43,8 @@ fn put_edit(alloc: Global, world: &mut World, node: usize, edit: &Edit) -> Resul
 
 // Joins a store into that of a replica.
 fn join_store(replica: &mut Replica, store: Store) -> Result<(), AllocError>
-    ensures ok { OnOk result (replica.new ≡ record replica.old { store = join replica.old.store store }) }
+    ensures ok { OnOk result
+        (replica.new ≡ record replica.old { store = join replica.old.store store }) }
 {
     match replica.absorb(store) {
         Ok(_) => Ok(()),

@@ -12,7 +12,8 @@ use std::alloc::AllocError;
 /// Fails only if memory runs out. Each store then lies between its old state and the join of all, and the call can be
 /// repeated.
 pub fn sweep(replicas: &mut [Replica]) -> Result<(), AllocError>
-    ensures joined { OnOk result (replicas.new ≡ map (with_store (join_of replicas.old)) replicas.old) }
+    ensures joined { OnOk result
+        (replicas.new ≡ map (with_store (join_of replicas.old)) replicas.old) }
     ensures between { OnErr result (AreBetween (join_of replicas.old) replicas.old replicas.new) }
     ensures again { OnErr result (join_of replicas.new ≡ join_of replicas.old) }
 {
@@ -27,8 +28,10 @@ pub fn sweep(replicas: &mut [Replica]) -> Result<(), AllocError>
 
 // Merges all the others into the first.
 fn gather(first: &mut Replica, rest: &[Replica]) -> Result<(), AllocError>
-    ensures gathered { OnOk result (first.new ≡ with_store (join_of (first.old ∷ rest.now)) first.old) }
-    ensures between { OnErr result (IsBetween (join_of (first.old ∷ rest.now)) first.old first.new) }
+    ensures gathered { OnOk result
+        (first.new ≡ with_store (join_of (first.old ∷ rest.now)) first.old) }
+    ensures between { OnErr result
+        (IsBetween (join_of (first.old ∷ rest.now)) first.old first.new) }
 {
     for replica in rest {
         first.merge(replica.store())?;

@@ -42,10 +42,12 @@ impl Drop for World {
 /// node's own ask, it also took everything that the cutting node had taken by then at the places of the cut.
 pub fn run_world(alloc: Global, writers: &[u32], events: &[Event]) -> Result<World, AllocError>
     // The replicas write under these numbers, in this order.
-    ensures writers { IfOk result (λ world. map (λ r. r.writer) world.replicas.items ≡ writers.now) }
+    ensures writers { IfOk result
+        (λ world. map (λ r. r.writer) world.replicas.items ≡ writers.now) }
 
     // Stores, asks and pieces are those of the model world after these events, even if two edits of one place have one version.
-    ensures model { IfOk result (λ world. IsWorld (world_after (length writers.now) events.now) world) }
+    ensures model { IfOk result
+        (λ world. IsWorld (world_after (length writers.now) events.now) world) }
 
     // If no two different edits of one place that were put have one version, replica k holds the sum of the edits that node k took:
     // the greatest of them at each place.
@@ -73,7 +75,8 @@ pub fn run_world(alloc: Global, writers: &[u32], events: &[Event]) -> Result<Wor
 
 // Returns the world before any event.
 fn begin(alloc: Global, writers: &[u32]) -> Result<World, AllocError>
-    ensures writers { IfOk result (λ world. map (λ r. r.writer) world.replicas.items ≡ writers.now) }
+    ensures writers { IfOk result
+        (λ world. map (λ r. r.writer) world.replicas.items ≡ writers.now) }
     ensures model { IfOk result (λ world. IsWorld (blank (length writers.now)) world) }
 {
     let mut replicas = Vec::with_capacity(alloc, writers.len())?;

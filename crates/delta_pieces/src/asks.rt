@@ -39,9 +39,10 @@ fn versions_of(alloc: Global, store: &Store) -> Result<Vec<(Place, Version)>, Al
 /// Each place costs a search in the store, a search among the versions found so far, and at most one shift of these; if
 /// the places are in ascending order, nothing is shifted. No other place is copied. Fails only if memory runs out.
 pub fn digest_at(alloc: Global, replica: &Replica, places: &[Place]) -> Result<Digest, AllocError>
-    ensures digest { IfOk result (λ digest. digest ≡ digest_of (only_at places.now replica.now.store)) }
-    ensures same_cut { IfOk result (λ digest. (s : EntryMap) → cut s digest (Some places.now) ≡ cut s
-        (digest_of replica.now.store) (Some places.now)) }
+    ensures digest { IfOk result
+        (λ digest. digest ≡ digest_of (only_at places.now replica.now.store)) }
+    ensures same_cut { IfOk result (λ digest. (s : EntryMap)
+        → cut s digest (Some places.now) ≡ cut s (digest_of replica.now.store) (Some places.now)) }
 {
     let mut versions = Vec::new(alloc);
     for place in places {
@@ -59,7 +60,8 @@ fn put_version(
     version: Version,
 ) -> Result<(), AllocError>
     requires sorted { IsTrue (is_sorted place_cmp versions.old.items) }
-    ensures put { OnOk result (versions.new.items ≡ put place_cmp place.now version versions.old.items) }
+    ensures put { OnOk result
+        (versions.new.items ≡ put place_cmp place.now version versions.old.items) }
 {
     match seek(versions, place) {
         Ok(at) => {

@@ -18,8 +18,10 @@ use std::alloc::{AllocError, Global};
 /// bytes. Fails only if memory runs out.
 pub fn delta_for(alloc: Global, replica: &Replica, asked: &Digest) -> Result<Piece, AllocError>
     ensures cut { IfOk result (λ piece. piece ≡ cut replica.now.store asked.now None) }
-    ensures whole { IfOk result (λ piece. (s : EntryMap) → asked.now ≡ digest_of s →
-        AreToldApart (edits_of s ++ edits_of replica.now.store) → join s piece ≡ join s replica.now.store) }
+    ensures whole { IfOk result
+        (λ piece. (s : EntryMap) → asked.now ≡ digest_of s
+        → AreToldApart (edits_of s ++ edits_of replica.now.store)
+        → join s piece ≡ join s replica.now.store) }
 {
     let newer = newer_entries(alloc, replica.store().entries(), asked.versions())?;
     Ok(Piece::from_store(newer))
@@ -31,8 +33,9 @@ pub fn delta_for(alloc: Global, replica: &Replica, asked: &Digest) -> Result<Pie
 /// Fails only if memory runs out.
 pub fn delta_between(alloc: Global, from: &Replica, to: &Replica) -> Result<Piece, AllocError>
     ensures cut { IfOk result (λ piece. piece ≡ cut from.now.store (digest_of to.now.store) None) }
-    ensures whole { IfOk result (λ piece. AreToldApart (edits_of to.now.store ++ edits_of from.now.store) →
-        join to.now.store piece ≡ join to.now.store from.now.store) }
+    ensures whole { IfOk result
+        (λ piece. AreToldApart (edits_of to.now.store ++ edits_of from.now.store)
+        → join to.now.store piece ≡ join to.now.store from.now.store) }
 {
     Ok(Piece::from_store(newer_than(alloc, from.store(), to.store())?))
 }
@@ -49,7 +52,8 @@ pub fn delta_between_at(
     to: &Replica,
     places: &[Place],
 ) -> Result<Piece, AllocError>
-    ensures cut { IfOk result (λ piece. piece ≡ cut from.now.store (digest_of to.now.store) (Some places.now)) }
+    ensures cut { IfOk result
+        (λ piece. piece ≡ cut from.now.store (digest_of to.now.store) (Some places.now)) }
 {
     let newer = newer_than_at(alloc, from.store(), to.store(), places)?;
     Ok(Piece::from_store(newer))

@@ -22,8 +22,11 @@ pub fn newer_entries(
 ) -> Result<Store, AllocError>
     requires sorted { IsTrue (is_sorted place_cmp entries) }
     requires versions_sorted { IsTrue (is_sorted place_cmp versions.now) }
-    ensures newer { IfOk result (λ newer. newer ≡ sum_of (map edit_of (filter (λ p. is_newer p.1.version
-        (find place_cmp p.0 versions.now)) entries.entry))) }
+    ensures newer { IfOk result
+        (λ newer. newer
+        ≡ sum_of
+        (map edit_of
+        (filter (λ p. is_newer p.1.version (find place_cmp p.0 versions.now)) entries.entry))) }
 {
     let mut newer = Store::new(alloc);
     let mut left = versions;
@@ -41,8 +44,8 @@ fn from_place<'a>(versions: &'a [(Place, Version)], placed: &Placed) -> &'a [(Pl
     requires sorted { IsTrue (is_sorted place_cmp versions.now) }
     ensures sorted { IsTrue (is_sorted place_cmp result.now) }
     ensures next { IsNotBelow place_cmp placed.now.0 result.now }
-    ensures held { (q : PlaceParts) → place_cmp q placed.now.0 ≢ Less → find place_cmp q result.now ≡ find place_cmp
-        q versions.now }
+    ensures held { (q : PlaceParts) → place_cmp q placed.now.0 ≢ Less
+        → find place_cmp q result.now ≡ find place_cmp q versions.now }
 {
     let mut left = versions;
     while let Some((next, further)) = left.split_first() {
@@ -84,7 +87,8 @@ pub fn newer_than(alloc: Global, store: &Store, other: &Store) -> Result<Store, 
 
 // Returns whether an entry is newer than the one held, or none is held.
 fn is_news(entry: &Entry, held: Option<&Entry>) -> bool
-    ensures news { result ≡ is_newer entry.now.version (option_map (λ x. x.now.version) held.entry) }
+    ensures news { result ≡ is_newer entry.now.version
+        (option_map (λ x. x.now.version) held.entry) }
 {
     match held {
         None => true,
@@ -125,7 +129,8 @@ fn join_newer(
     asked: &Digest,
     place: &Place,
 ) -> Result<(), AllocError>
-    ensures ok { OnOk result (newer.new ≡ join newer.old (cut store.now asked.now (Some (place.now ∷ [])))) }
+    ensures ok { OnOk result
+        (newer.new ≡ join newer.old (cut store.now asked.now (Some (place.now ∷ [])))) }
 {
     let Some(entry) = store.get(place) else {
         return Ok(());
@@ -144,7 +149,8 @@ pub fn newer_than_at(
     other: &Store,
     places: &[Place],
 ) -> Result<Store, AllocError>
-    ensures cut { IfOk result (λ newer. newer ≡ cut store.now (digest_of other.now) (Some places.now)) }
+    ensures cut { IfOk result
+        (λ newer. newer ≡ cut store.now (digest_of other.now) (Some places.now)) }
 {
     let mut newer = Store::new(alloc);
     for place in places {
@@ -160,7 +166,8 @@ fn join_news(
     other: &Store,
     place: &Place,
 ) -> Result<(), AllocError>
-    ensures ok { OnOk result (newer.new ≡ join newer.old (cut store.now (digest_of other.now) (Some (place.now ∷ [])))) }
+    ensures ok { OnOk result
+        (newer.new ≡ join newer.old (cut store.now (digest_of other.now) (Some (place.now ∷ [])))) }
 {
     let Some(entry) = store.get(place) else {
         return Ok(());

@@ -111,8 +111,10 @@ impl Piece {
     ///
     /// If memory runs out, the error returns the piece.
     pub fn split(self, at: usize) -> Result<(Piece, Piece), Rest<Piece>>
-        ensures first { IfOk result (λ parts. finmap.entries parts.0 ≡ take at (finmap.entries self)) }
-        ensures second { IfOk result (λ parts. finmap.entries parts.1 ≡ drop at (finmap.entries self)) }
+        ensures first { IfOk result
+            (λ parts. finmap.entries parts.0 ≡ take at (finmap.entries self)) }
+        ensures second { IfOk result
+            (λ parts. finmap.entries parts.1 ≡ drop at (finmap.entries self)) }
         ensures joined { IfOk result (λ parts. join parts.0 parts.1 ≡ self) }
         ensures rest { IfErr result (λ fault. fault.rest ≡ self) }
     {
@@ -134,8 +136,10 @@ impl Piece {
 
 // Returns copies of the first `at` entries, and of the others.
 fn parts_of(store: &Store, at: usize) -> Result<(Store, Store), AllocError>
-    ensures first { IfOk result (λ parts. finmap.entries parts.0 ≡ take at (finmap.entries store.now)) }
-    ensures second { IfOk result (λ parts. finmap.entries parts.1 ≡ drop at (finmap.entries store.now)) }
+    ensures first { IfOk result
+        (λ parts. finmap.entries parts.0 ≡ take at (finmap.entries store.now)) }
+    ensures second { IfOk result
+        (λ parts. finmap.entries parts.1 ≡ drop at (finmap.entries store.now)) }
 {
     let mut entries = store.entries();
     let prefix = gather(store.allocator(), &mut entries, at)?;

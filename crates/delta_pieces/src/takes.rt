@@ -20,11 +20,14 @@ pub struct TakeFault {
 /// If memory runs out, the replica's store lies between its old state and the join, and taking the returned rest
 /// completes the join; if the piece has one entry, the replica is unchanged.
 pub fn take(replica: &mut Replica, piece: Piece) -> Result<u64, TakeFault>
-    ensures ok { OnOk result (replica.new ≡ record replica.old { store = join replica.old.store piece }) }
-    ensures changed { IfOk result (λ changed. changed ≡ changed_places replica.old.store replica.new.store) }
+    ensures ok { OnOk result
+        (replica.new ≡ record replica.old { store = join replica.old.store piece }) }
+    ensures changed { IfOk result
+        (λ changed. changed ≡ changed_places replica.old.store replica.new.store) }
     ensures kept { OnErr result (IsStoreBelow replica.old.store replica.new.store) }
     ensures within { OnErr result (IsStoreBelow replica.new.store (join replica.old.store piece)) }
-    ensures rest { IfErr result (λ fault. join replica.new.store fault.rest ≡ join replica.old.store piece) }
+    ensures rest { IfErr result
+        (λ fault. join replica.new.store fault.rest ≡ join replica.old.store piece) }
     ensures single { OnErr result (finmap.len piece ≡ 1 → replica.new ≡ replica.old) }
     ensures writer { replica.new.writer ≡ replica.old.writer }
 {

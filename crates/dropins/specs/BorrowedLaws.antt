@@ -8,13 +8,17 @@ use Rattle.std.specs.FinMap as finmap
 -- entries are.
 abbrev pub BorrowedAreDropIns : Type 0
 BorrowedAreDropIns = (s : HostViewMap) (fs : List Name) (ps : List (PathParts × Entry)) → AreDropInsOf s fs ps
-    → ((p : PlaceParts) → Contains (map (entry_place s) ps) p ↔ IsDropInAtOf s fs p) × (IsStrictlySortedBy name_cmp (map entry_name ps) → IsStrictlySortedBy name_cmp (map file_name (map (entry_place s) ps)))
+    → ((p : PlaceParts) → Contains (map (entry_place s) ps) p ↔ IsDropInAtOf s fs p)
+    × (IsStrictlySortedBy name_cmp (map entry_name ps)
+    → IsStrictlySortedBy name_cmp (map file_name (map (entry_place s) ps)))
 
 -- Where there is a candidate, the store has an entry.
-pub held_there : (s : HostViewMap) (x : Search) (q p : PathParts) → candidate_at s x q ≡ Some (At p) → (e : Entry) × (finmap.get (view s) q ≡ Some e)
+pub held_there : (s : HostViewMap) (x : Search) (q p : PathParts) → candidate_at s x q ≡ Some (At p)
+    → (e : Entry) × (finmap.get (view s) q ≡ Some e)
 held_there s x q p h = by (finmap.get (view s) q) refl h
   where
-    by : (o : Option Entry) → finmap.get (view s) q ≡ o → option_and_then (as_found x q) (option_and_then shown o) ≡ Some (At p) → (e : Entry) × (finmap.get (view s) q ≡ Some e)
+    by : (o : Option Entry) → finmap.get (view s) q ≡ o → option_and_then (as_found x q) (option_and_then shown o)
+        ≡ Some (At p) → (e : Entry) × (finmap.get (view s) q ≡ Some e)
     by None g k = cc (k)
     by (Some e) g k = (e, g)
 
@@ -31,7 +35,8 @@ pub made_of : {A B : Type 0} (f : A → B) (xs : List A) (y : B) → Contains (m
 made_of f [] y c = none_there y c
 made_of {A = A} {B = B} f (x ∷ xs) y c = pick (made_of f xs y) (Contains-append_cases (f x ∷ []) (map f xs) y c)
   where
-    pick : (Contains (map f xs) y → (z : A) × (f z ≡ y) × Contains xs z) → Contains (f x ∷ []) y ⊎ Contains (map f xs) y → (z : A) × (f z ≡ y) × Contains (x ∷ xs) z
+    pick : (Contains (map f xs) y → (z : A) × (f z ≡ y) × Contains xs z) → Contains (f x ∷ []) y ⊎ Contains (map f xs) y
+        → (z : A) × (f z ≡ y) × Contains (x ∷ xs) z
     pick more (inl o) = (x, only_one (f x) y o, Contains-append_left (x ∷ []) xs x (Contains-push [] x))
     pick more (inr o) = let h = more o in (h.0, h.1, Contains-append_right (x ∷ []) xs h.0 h.2)
 

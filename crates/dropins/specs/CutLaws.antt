@@ -35,11 +35,13 @@ cut_at (suc n) p c h = by (is_dash (get_or p n 0)) refl h (cut_at n p c)
     later : IsCutAt n p c → IsCutAt (suc n) p c
     later k = record { place = k.place; within = omega (arith, k.within); dash = k.dash; cut = k.cut }
 
-    pick : is_dash (get_or p n 0) ≡ true → (take (suc n) p ≡ c) ⊎ IsAmong c (prefixes n p) → (IsAmong c (prefixes n p) → IsCutAt n p c) → IsCutAt (suc n) p c
+    pick : is_dash (get_or p n 0) ≡ true → (take (suc n) p ≡ c) ⊎ IsAmong c (prefixes n p)
+        → (IsAmong c (prefixes n p) → IsCutAt n p c) → IsCutAt (suc n) p c
     pick d (inl e) more = record { place = n; within = omega arith; dash = d; cut = sym e }
     pick d (inr k) more = later (more k)
 
-    by : (b : Bool) → is_dash (get_or p n 0) ≡ b → IsAmong c (cond b (take (suc n) p ∷ prefixes n p) (prefixes n p)) → (IsAmong c (prefixes n p) → IsCutAt n p c) → IsCutAt (suc n) p c
+    by : (b : Bool) → is_dash (get_or p n 0) ≡ b → IsAmong c (cond b (take (suc n) p ∷ prefixes n p) (prefixes n p))
+        → (IsAmong c (prefixes n p) → IsCutAt n p c) → IsCutAt (suc n) p c
     by true d k more = pick d k more
     by false d k more = later (more k)
 
@@ -68,11 +70,13 @@ prefix_there : (n m : ℕ) (p : List ℕ) → m < n → is_dash (get_or p m 0) �
 prefix_there zero m p h d = absurd (omega arith)
 prefix_there (suc n) m p h d = by (cases_lt m n) (λ l. prefix_there n m p l d)
   where
-    after : (b : Bool) → IsAmong (take (suc m) p) (prefixes n p) → IsAmong (take (suc m) p) (cond b (take (suc n) p ∷ prefixes n p) (prefixes n p))
+    after : (b : Bool) → IsAmong (take (suc m) p) (prefixes n p)
+        → IsAmong (take (suc m) p) (cond b (take (suc n) p ∷ prefixes n p) (prefixes n p))
     after true k = inr k
     after false k = k
 
-    first : (b : Bool) → b ≡ true → take (suc n) p ≡ take (suc m) p → IsAmong (take (suc m) p) (cond b (take (suc n) p ∷ prefixes n p) (prefixes n p))
+    first : (b : Bool) → b ≡ true → take (suc n) p ≡ take (suc m) p
+        → IsAmong (take (suc m) p) (cond b (take (suc n) p ∷ prefixes n p) (prefixes n p))
     first true t e = inl e
     first false t e = cc (t)
 
@@ -108,7 +112,8 @@ prefixes_short : (n : ℕ) (p : List ℕ) → n ≤ length p → All (λ d. leng
 prefixes_short zero p h = All-nil (λ d. length d < 1)
 prefixes_short (suc n) p h = by (is_dash (get_or p n 0)) (All-weaker (λ d. length d < suc n) (λ d. length d < suc (suc n)) (λ d l. omega arith) (prefixes n p) (prefixes_short n p (omega arith)))
   where
-    by : (b : Bool) → All (λ d. length d < suc (suc n)) (prefixes n p) → All (λ d. length d < suc (suc n)) (cond b (take (suc n) p ∷ prefixes n p) (prefixes n p))
+    by : (b : Bool) → All (λ d. length d < suc (suc n)) (prefixes n p)
+        → All (λ d. length d < suc (suc n)) (cond b (take (suc n) p ∷ prefixes n p) (prefixes n p))
     by true a = All-cons (λ d. length d < suc (suc n)) (take (suc n) p) (prefixes n p) (let e = length-take-le (suc n) p h in omega (arith, e)) a
     by false a = a
 
@@ -119,7 +124,8 @@ prefixes_shorten (suc n) p h = by (is_dash (get_or p n 0)) (prefixes_shorten n p
     below : All (λ d. length d < length (take (suc n) p)) (prefixes n p)
     below = All-weaker (λ d. length d < suc n) (λ d. length d < length (take (suc n) p)) (λ d l. let e = length-take-le (suc n) p h in omega (arith, e, l)) (prefixes n p) (prefixes_short n p (omega arith))
 
-    by : (b : Bool) → AllPairs (λ c d. length d < length c) (prefixes n p) → AllPairs (λ c d. length d < length c) (cond b (take (suc n) p ∷ prefixes n p) (prefixes n p))
+    by : (b : Bool) → AllPairs (λ c d. length d < length c) (prefixes n p)
+        → AllPairs (λ c d. length d < length c) (cond b (take (suc n) p ∷ prefixes n p) (prefixes n p))
     by true a = AllPairs-cons (λ c d. length d < length c) (take (suc n) p) (prefixes n p) below a
     by false a = a
 

@@ -18,7 +18,8 @@ pub record IsFleetTaken (m : PathMap) (x : Search) (ds ts : List (List ℕ)) (c 
   pub owner : Owner
   pub place : ℕ
   pub stands : FleetStands m x (dirs_by owner ds ts) c p place
-  pub least : (d : Candidate) (q : PathParts) (o : Owner) (i : ℕ) → FleetStands m x (dirs_by o ds ts) d q i → q.name ≡ p.name → Precedes owner p.rank place o q.rank i
+  pub least : (d : Candidate) (q : PathParts) (o : Owner) (i : ℕ) → FleetStands m x (dirs_by o ds ts) d q i
+      → q.name ≡ p.name → Precedes owner p.rank place o q.rank i
 
 -- The path is a drop-in of a unit with these names.
 abbrev pub IsFleetDropIn : PathMap → List Name → PathParts → Type 0

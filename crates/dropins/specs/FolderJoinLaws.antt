@@ -50,7 +50,8 @@ fold-with_name [] ns = sym (append-nil ns)
 fold-with_name (x ∷ xs) ns =
     fold-with_name xs (with_name ns x) ∙ by (is_among x ns) refl ∙ ap (λ l. ns ++ not_among ns l) (sym (fold-with_name xs (x ∷ [])))
   where
-    by : (b : Bool) → is_among x ns ≡ b → cond b ns (ns ++ x ∷ []) ++ not_among (cond b ns (ns ++ x ∷ [])) (firsts xs) ≡ ns ++ not_among ns (x ∷ not_among (x ∷ []) (firsts xs))
+    by : (b : Bool) → is_among x ns ≡ b → cond b ns (ns ++ x ∷ []) ++ not_among (cond b ns (ns ++ x ∷ [])) (firsts xs)
+        ≡ ns ++ not_among ns (x ∷ not_among (x ∷ []) (firsts xs))
     by true e =
         ap (λ l. ns ++ l) (sym (known x ns (firsts xs) e))
         ∙ sym (ap (λ b. ns ++ cond (not b) (x ∷ not_among ns (not_among (x ∷ []) (firsts xs))) (not_among ns (not_among (x ∷ []) (firsts xs)))) e)
@@ -81,7 +82,8 @@ there_is_kept : (p : Name → Bool) (x : Name) (xs : List Name) → p x ≡ true
 there_is_kept p x [] passes h = h
 there_is_kept p x (y ∷ xs) passes h = by (p y) refl h (there_is_kept p x xs passes)
   where
-    by : (b : Bool) → p y ≡ b → (y ≡ x) ⊎ IsAmong x xs → (IsAmong x xs → IsAmong x (filter p xs)) → IsAmong x (cond b (y ∷ filter p xs) (filter p xs))
+    by : (b : Bool) → p y ≡ b → (y ≡ x) ⊎ IsAmong x xs → (IsAmong x xs → IsAmong x (filter p xs))
+        → IsAmong x (cond b (y ∷ filter p xs) (filter p xs))
     by true e (inl k) more = inl k
     by true e (inr k) more = inr (more k)
     by false e (inl k) more = absurd (true≢false (sym passes ∙ ap p (sym k) ∙ e))
@@ -100,7 +102,8 @@ pub among_all : (x : Name) (xs : List Name) → IsAmong x xs → IsAmong x (firs
 among_all x [] h = h
 among_all x (y ∷ xs) h = subst (λ l. IsAmong x l) (sym (firsts-append (y ∷ []) xs)) (by (bytes_eq x y) refl h (among_all x xs))
   where
-    by : (b : Bool) → bytes_eq x y ≡ b → (y ≡ x) ⊎ IsAmong x xs → (IsAmong x xs → IsAmong x (firsts xs)) → (y ≡ x) ⊎ IsAmong x (not_among (y ∷ []) (firsts xs))
+    by : (b : Bool) → bytes_eq x y ≡ b → (y ≡ x) ⊎ IsAmong x xs → (IsAmong x xs → IsAmong x (firsts xs))
+        → (y ≡ x) ⊎ IsAmong x (not_among (y ∷ []) (firsts xs))
     by b e (inl k) more = inl k
     by true e (inr k) more = inl (sym ((bytes_eq-Decides x y).0 e))
     by false e (inr k) more = inr (there_is_kept (λ f. not (is_among f (y ∷ []))) x (firsts xs) (ap (λ b. not (b || false)) e) (more k))
@@ -113,7 +116,9 @@ given_by_one f (n ∷ ns) h = by (IsAmong-append_cases f (folders_of n) (flat_ma
     later : (m : Name) × (IsAmong m ns × IsAmong f (folders_of m)) → (m : Name) × (IsAmong m (n ∷ ns) × IsAmong f (folders_of m))
     later (m, k) = (m, (inr k.0, k.1))
 
-    by : IsAmong f (folders_of n) ⊎ IsAmong f (flat_map folders_of ns) → (IsAmong f (flat_map folders_of ns) → (m : Name) × (IsAmong m ns × IsAmong f (folders_of m))) → (m : Name) × (IsAmong m (n ∷ ns) × IsAmong f (folders_of m))
+    by : IsAmong f (folders_of n) ⊎ IsAmong f (flat_map folders_of ns)
+        → (IsAmong f (flat_map folders_of ns) → (m : Name) × (IsAmong m ns × IsAmong f (folders_of m)))
+        → (m : Name) × (IsAmong m (n ∷ ns) × IsAmong f (folders_of m))
     by (inl a) more = (n, (inl refl, a))
     by (inr b) more = later (more b)
 

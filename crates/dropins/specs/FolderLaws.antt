@@ -52,7 +52,9 @@ ends_somewhere (x ∷ start) b = refl
 cut_is_name : (n : Name) (c : List ℕ) → IsName n → IsDashedPrefix (prefix n) c → IsName (with_prefix n c)
 cut_is_name n c h f = (prefixes_may_be_cut n c (f.next ∷ f.rest) h f.proper (ap is_empty f.ends_in_dash ∙ ends_somewhere f.start 45)).2.name
 
-cuts_are_names : (n : Name) → IsName n → (cs : List (List ℕ)) → ((c : List ℕ) → Contains cs c → IsDashedPrefix (prefix n) c) → All IsName (flat_map (λ p. with_template (with_prefix n p)) cs)
+cuts_are_names : (n : Name) → IsName n → (cs : List (List ℕ))
+    → ((c : List ℕ) → Contains cs c → IsDashedPrefix (prefix n) c)
+    → All IsName (flat_map (λ p. with_template (with_prefix n p)) cs)
 cuts_are_names n h [] each = All-nil IsName
 cuts_are_names n h (c ∷ cs) each =
     All-append IsName (with_template (with_prefix n c)) (flat_map (λ p. with_template (with_prefix n p)) cs)
@@ -85,7 +87,8 @@ none_equal x [] h k d l = absurd (omega arith)
 none_equal x (n ∷ ns) h zero d l = λ e. true≢false (sym ((bytes_eq-Decides x n).1 (sym e)) ∙ (or_parts (bytes_eq x n) (list_any (bytes_eq x) ns) h).0)
 none_equal x (n ∷ ns) h (suc k) d l = none_equal x ns (or_parts (bytes_eq x n) (list_any (bytes_eq x) ns) h).1 k d (omega arith)
 
-put_once : (b : Bool) (ns : List Name) (x : Name) → is_among x ns ≡ b → AllPairs (λ y z. y ≢ z) ns → AllPairs (λ y z. y ≢ z) (cond b ns (ns ++ x ∷ []))
+put_once : (b : Bool) (ns : List Name) (x : Name) → is_among x ns ≡ b → AllPairs (λ y z. y ≢ z) ns
+    → AllPairs (λ y z. y ≢ z) (cond b ns (ns ++ x ∷ []))
 put_once true ns x e a = a
 put_once false ns x e a = all_pairs_push (λ y z. y ≢ z) ns x a (none_equal x ns e)
 

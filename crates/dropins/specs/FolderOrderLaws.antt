@@ -56,7 +56,8 @@ both_longer n k h l = All-cons (λ y. k < length (prefix y)) n (listed (template
         All-cons (λ y. k < length (prefix y)) t [] (omega (arith, same, l)) (All-nil (λ y. k < length (prefix y)))
 
 -- behind names with longer prefixes both are new
-both_new : (ns : List Name) (n : Name) → IsName n → AreLonger (length (prefix n)) ns → fold with_name ns (with_template n) ≡ ns ++ with_template n
+both_new : (ns : List Name) (n : Name) → IsName n → AreLonger (length (prefix n)) ns
+    → fold with_name ns (with_template n) ≡ ns ++ with_template n
 both_new ns n h longer = by (template_of n) refl
   where
     first : with_name ns n ≡ ns ++ n ∷ []
@@ -125,7 +126,8 @@ module _ (n : Name) (h : IsName n) where
 
   -- ---- what stands for a cut
 
-  each_pair : (f : List ℕ → List Name) → ((c : List ℕ) → IsDashedPrefix (prefix n) c → pair c ≡ f c) → flat_map pair (cuts (prefix n)) ≡ flat_map f (cuts (prefix n))
+  each_pair : (f : List ℕ → List Name) → ((c : List ℕ) → IsDashedPrefix (prefix n) c → pair c ≡ f c)
+      → flat_map pair (cuts (prefix n)) ≡ flat_map f (cuts (prefix n))
   each_pair f same = by (cuts (prefix n)) (λ c there. (cuts_are_dashed_prefixes (prefix n) c).0 there)
     where
       by : (cs : List (List ℕ)) → ((c : List ℕ) → Contains cs c → IsDashedPrefix (prefix n) c) → flat_map pair cs ≡ flat_map f cs
@@ -133,7 +135,8 @@ module _ (n : Name) (h : IsName n) where
       by (c ∷ cs) each = (λ i. same c (each c (first_there c cs)) i ++ by cs (λ d k. each d (later_there c d cs k)) i)
 
   -- an instance's cut has the template's cut as its template
-  pair_of_instance : (t : Name) → template_of n ≡ Some t → (c : List ℕ) → IsDashedPrefix (prefix n) c → pair c ≡ with_prefix n c ∷ with_prefix t c ∷ []
+  pair_of_instance : (t : Name) → template_of n ≡ Some t → (c : List ℕ) → IsDashedPrefix (prefix n) c
+      → pair c ≡ with_prefix n c ∷ with_prefix t c ∷ []
   pair_of_instance t e c f =
       let cut = prefixes_may_be_cut n c (f.next ∷ f.rest) h f.proper (ap is_empty f.ends_in_dash ∙ ends_somewhere f.start 45) in
       let own = templates_keep_parts n t h e in

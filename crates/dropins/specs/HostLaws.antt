@@ -23,10 +23,13 @@ LinksAreTheFleets = (s : EntryMap) (profile : Profile) (ns : List Name) (d : Fol
 -- ---- a host without places
 
 -- A candidate that is seen without a host belongs to the fleet.
-found_level : (s : EntryMap) (profile : Profile) (x : Search) (p : PathParts) (c : Candidate) → option_and_then (as_found x p) (viewed_at (host_view_of s (of_fleet profile)) p) ≡ Some c → (p.rank % 2 == 0) ≡ false
+found_level : (s : EntryMap) (profile : Profile) (x : Search) (p : PathParts) (c : Candidate)
+    → option_and_then (as_found x p) (viewed_at (host_view_of s (of_fleet profile)) p) ≡ Some c
+    → (p.rank % 2 == 0) ≡ false
 found_level s profile x p c says = by (viewed_at (host_view_of s (of_fleet profile)) p) refl says
   where
-    by : (o : Option Content) → viewed_at (host_view_of s (of_fleet profile)) p ≡ o → option_and_then (as_found x p) o ≡ Some c → (p.rank % 2 == 0) ≡ false
+    by : (o : Option Content) → viewed_at (host_view_of s (of_fleet profile)) p ≡ o
+        → option_and_then (as_found x p) o ≡ Some c → (p.rank % 2 == 0) ≡ false
     by None is e = cc (e)
     by (Some content) is e = fleets_level s profile p content is
 
@@ -36,7 +39,8 @@ hosts_without_places_have_these_drop_ins s host profile none ns place = (there, 
     same : (p : PathParts) → viewed_at (host_view_of s (of_host host profile)) p ≡ viewed_at (host_view_of s (of_fleet profile)) p
     same = same_sights s host profile none
 
-    alike : (p : PathParts) → IsDropInOf (host_view_of s (of_fleet profile)) (folders ns) p → viewed_place (host_view_of s (of_host host profile)) p ≡ viewed_place (host_view_of s (of_fleet profile)) p
+    alike : (p : PathParts) → IsDropInOf (host_view_of s (of_fleet profile)) (folders ns) p
+        → viewed_place (host_view_of s (of_host host profile)) p ≡ viewed_place (host_view_of s (of_fleet profile)) p
     alike p d =
         let odd = found_level s profile DropIns p (At p) d.stands.says in
         fleets_place (host_view_of s (of_host host profile)) p odd ∙ sym (fleets_place (host_view_of s (of_fleet profile)) p odd)
@@ -51,7 +55,8 @@ hosts_without_places_have_these_drop_ins s host profile none ns place = (there, 
         let e = folders_decide_over (host_view_of s (of_fleet profile)) (host_view_of s (of_host host profile)) DropIns (name_dirs (folders ns)) (type_dirs (folders ns)) (λ o q i l f. sym (same q)) (At p) p d in
         (p, alike p d ∙ is, e)
 
-linked_in : (s t : HostViewMap) → ((p : PathParts) → viewed_at s p ≡ viewed_at t p) → (ns : List Name) (d : Folder) (n : Name) → IsLinked s ns d n → IsLinked t ns d n
+linked_in : (s t : HostViewMap) → ((p : PathParts) → viewed_at s p ≡ viewed_at t p)
+    → (ns : List Name) (d : Folder) (n : Name) → IsLinked s ns d n → IsLinked t ns d n
 linked_in s t same ns d n l = record {
   name = l.name;
   path = l.path;
@@ -104,7 +109,8 @@ moved p (At q) = At p
 
 -- Which candidate a content is doesn't depend on the rank, except for the path.
 module _ (p : PathParts) (rank : ℕ) where
-  drop_in_moved : (c : Content) → content_as_drop_in (path_at rank p.folder p.name) c ≡ option_map (moved (path_at rank p.folder p.name)) (content_as_drop_in p c)
+  drop_in_moved : (c : Content) → content_as_drop_in (path_at rank p.folder p.name) c
+      ≡ option_map (moved (path_at rank p.folder p.name)) (content_as_drop_in p c)
   drop_in_moved Gone = refl
   drop_in_moved (File []) = refl
   drop_in_moved (File (b ∷ bs)) = refl
@@ -114,21 +120,25 @@ module _ (p : PathParts) (rank : ℕ) where
       by true = refl
       by false = refl
 
-  as_moved : (x : Search) (c : Content) → as_found x (path_at rank p.folder p.name) c ≡ option_map (moved (path_at rank p.folder p.name)) (as_found x p c)
+  as_moved : (x : Search) (c : Content)
+      → as_found x (path_at rank p.folder p.name) c ≡ option_map (moved (path_at rank p.folder p.name)) (as_found x p c)
   as_moved DropIns c = by (is_conf p.name)
     where
-      by : (n : Bool) → cond n (content_as_drop_in (path_at rank p.folder p.name) c) None ≡ option_map (moved (path_at rank p.folder p.name)) (cond n (content_as_drop_in p c) None)
+      by : (n : Bool) → cond n (content_as_drop_in (path_at rank p.folder p.name) c) None
+          ≡ option_map (moved (path_at rank p.folder p.name)) (cond n (content_as_drop_in p c) None)
       by true = drop_in_moved c
       by false = refl
   as_moved Links Gone = refl
   as_moved Links (File bytes) = refl
   as_moved Links (Link target) = by (is_null target)
     where
-      by : (n : Bool) → cond n (Some Mask) (Some (At (path_at rank p.folder p.name))) ≡ option_map (moved (path_at rank p.folder p.name)) (cond n (Some Mask) (Some (At p)))
+      by : (n : Bool) → cond n (Some Mask) (Some (At (path_at rank p.folder p.name)))
+          ≡ option_map (moved (path_at rank p.folder p.name)) (cond n (Some Mask) (Some (At p)))
       by true = refl
       by false = refl
 
-  found_moved : (x : Search) (o : Option Content) → option_and_then (as_found x (path_at rank p.folder p.name)) o ≡ option_map (moved (path_at rank p.folder p.name)) (option_and_then (as_found x p) o)
+  found_moved : (x : Search) (o : Option Content) → option_and_then (as_found x (path_at rank p.folder p.name)) o
+      ≡ option_map (moved (path_at rank p.folder p.name)) (option_and_then (as_found x p) o)
   found_moved x None = refl
   found_moved x (Some c) = as_moved x c
 
@@ -140,10 +150,13 @@ after_above : (q : PathParts) → path_after (above q) ≡ q
 after_above q = ap (λ rank. path_at rank q.folder q.name) (half_of_odd q.rank)
 
 module _ (s : EntryMap) (profile : Profile) (x : Search) where
-  viewed_after : (p : PathParts) → (p.rank % 2 == 0) ≡ false → viewed_at (host_view_of s (of_fleet profile)) p ≡ shown_at (scope_of s Fleet) (path_after p)
+  viewed_after : (p : PathParts) → (p.rank % 2 == 0) ≡ false
+      → viewed_at (host_view_of s (of_fleet profile)) p ≡ shown_at (scope_of s Fleet) (path_after p)
   viewed_after p odd = fleets_sights s profile p ∙ ap (λ b. cond b None (shown_at (scope_of s Fleet) (path_after p))) odd
 
-  stands_by_rank : (ds : List (List ℕ)) (c : Candidate) (p : PathParts) (i : ℕ) → Stands (host_view_of s (of_fleet profile)) x ds c p i → FleetStands (scope_of s Fleet) x ds (moved (path_after p) c) (path_after p) i
+  stands_by_rank : (ds : List (List ℕ)) (c : Candidate) (p : PathParts) (i : ℕ)
+      → Stands (host_view_of s (of_fleet profile)) x ds c p i
+      → FleetStands (scope_of s Fleet) x ds (moved (path_after p) c) (path_after p) i
   stands_by_rank ds c p i st = record {
     rank_within = half_below p.rank st.level_within;
     folder_is = st.folder_is;
@@ -152,7 +165,9 @@ module _ (s : EntryMap) (profile : Profile) (x : Search) where
         ∙ ap (option_map (moved (path_after p))) (ap (option_and_then (as_found x p)) (sym (viewed_after p (found_level s profile x p c st.says))) ∙ st.says);
   }
 
-  stands_by_level : (ds : List (List ℕ)) (c : Candidate) (q : PathParts) (i : ℕ) → FleetStands (scope_of s Fleet) x ds c q i → Stands (host_view_of s (of_fleet profile)) x ds (moved (above q) c) (above q) i
+  stands_by_level : (ds : List (List ℕ)) (c : Candidate) (q : PathParts) (i : ℕ)
+      → FleetStands (scope_of s Fleet) x ds c q i
+      → Stands (host_view_of s (of_fleet profile)) x ds (moved (above q) c) (above q) i
   stands_by_level ds c q i st = record {
     level_within = level_below q.rank st.rank_within;
     folder_is = st.folder_is;
@@ -163,7 +178,8 @@ module _ (s : EntryMap) (profile : Profile) (x : Search) where
   }
 
   module _ (ds ts : List (List ℕ)) where
-    taken_by_rank : (p : PathParts) → IsTakenOver (host_view_of s (of_fleet profile)) x ds ts (At p) p → IsFleetTaken (scope_of s Fleet) x ds ts (At (path_after p)) (path_after p)
+    taken_by_rank : (p : PathParts) → IsTakenOver (host_view_of s (of_fleet profile)) x ds ts (At p) p
+        → IsFleetTaken (scope_of s Fleet) x ds ts (At (path_after p)) (path_after p)
     taken_by_rank p t = record {
       owner = t.owner;
       place = t.place;
@@ -173,7 +189,8 @@ module _ (s : EntryMap) (profile : Profile) (x : Search) where
           (t.least (moved (above q) d) (above q) o i (stands_by_level (dirs_by o ds ts) d q i st) n);
     }
 
-    taken_by_level : (q : PathParts) → IsFleetTaken (scope_of s Fleet) x ds ts (At q) q → IsTakenOver (host_view_of s (of_fleet profile)) x ds ts (At (above q)) (above q)
+    taken_by_level : (q : PathParts) → IsFleetTaken (scope_of s Fleet) x ds ts (At q) q
+        → IsTakenOver (host_view_of s (of_fleet profile)) x ds ts (At (above q)) (above q)
     taken_by_level q t = record {
       owner = t.owner;
       place = t.place;
@@ -186,12 +203,14 @@ module _ (s : EntryMap) (profile : Profile) (x : Search) where
 pub drop_ins_are_the_fleets : DropInsAreTheFleets
 drop_ins_are_the_fleets s profile ns place = (there, back)
   where
-    there : IsDropInAt (host_view_of s (of_fleet profile)) ns place → (p : PathParts) × (within Fleet p ≡ place) × IsFleetDropIn (scope_of s Fleet) ns p
+    there : IsDropInAt (host_view_of s (of_fleet profile)) ns place
+        → (p : PathParts) × (within Fleet p ≡ place) × IsFleetDropIn (scope_of s Fleet) ns p
     there (p, is, d) =
         let odd = found_level s profile DropIns p (At p) d.stands.says in
         (path_after p, sym (fleets_place (host_view_of s (of_fleet profile)) p odd) ∙ is, taken_by_rank s profile DropIns (name_dirs (folders ns)) (type_dirs (folders ns)) p d)
 
-    back : (p : PathParts) × (within Fleet p ≡ place) × IsFleetDropIn (scope_of s Fleet) ns p → IsDropInAt (host_view_of s (of_fleet profile)) ns place
+    back : (p : PathParts) × (within Fleet p ≡ place) × IsFleetDropIn (scope_of s Fleet) ns p
+        → IsDropInAt (host_view_of s (of_fleet profile)) ns place
     back (q, is, d) =
         let e = taken_by_level s profile DropIns (name_dirs (folders ns)) (type_dirs (folders ns)) q d in
         let odd = found_level s profile DropIns (above q) (At (above q)) e.stands.says in

@@ -14,7 +14,9 @@ DropInsAreFiles = (s : HostViewMap) (ns : List Name) (p : PlaceParts) → IsDrop
 pub one_order : OneOrder
 one_order ps qs a b same = one_ascending file_name name_cmp nat_list_cmp_total ps qs a b (λ p. (λ h. among_from_contains p qs ((same p).0 (contains_from_among p ps h)), λ h. among_from_contains p ps ((same p).1 (contains_from_among p qs h))))
 
-file_there : (p : PathParts) (t : Bool) (o : Option Content) → option_and_then (λ c. cond t (content_as_drop_in p c) None) o ≡ Some (At p) → (t ≡ true) × ((b : ℕ) × (bs : List ℕ) × (o ≡ Some (File (b ∷ bs))))
+file_there : (p : PathParts) (t : Bool) (o : Option Content)
+    → option_and_then (λ c. cond t (content_as_drop_in p c) None) o ≡ Some (At p)
+    → (t ≡ true) × ((b : ℕ) × (bs : List ℕ) × (o ≡ Some (File (b ∷ bs))))
 file_there p t None h = cc (h)
 file_there p false (Some c) h = cc (h)
 file_there p true (Some Gone) h = cc (h)
@@ -27,7 +29,8 @@ file_there p true (Some (File [])) h = cc (h)
 file_there p true (Some (File (b ∷ bs))) h = (refl, (b, bs, refl))
 
 -- The same for the path at which it is seen.
-pub drop_in_paths_are_files : (s : HostViewMap) (fs : List Name) (p : PathParts) → IsDropInOf s fs p → (is_conf p.name ≡ true) × ((b : ℕ) × (bs : List ℕ) × (viewed_at s p ≡ Some (File (b ∷ bs))))
+pub drop_in_paths_are_files : (s : HostViewMap) (fs : List Name) (p : PathParts) → IsDropInOf s fs p
+    → (is_conf p.name ≡ true) × ((b : ℕ) × (bs : List ℕ) × (viewed_at s p ≡ Some (File (b ∷ bs))))
 drop_in_paths_are_files s fs p d = file_there p (is_conf p.name) (viewed_at s p) d.stands.says
 
 pub drop_ins_are_files : DropInsAreFiles

@@ -25,14 +25,16 @@ module _ (s : HostViewMap) (x : Search) (ds ts : List (List ℕ)) (c : Candidate
   pub over_of_names : IsTaken s x ds c p → IsTakenOver s x ds ts c p
   over_of_names a = record { owner = OfName; place = a.place; stands = a.stands; least = λ d q o i st n. least d q o i st n }
     where
-      least : (d : Candidate) (q : PathParts) (o : Owner) (i : ℕ) → Stands s x (dirs_by o ds ts) d q i → q.name ≡ p.name → Precedes OfName (level_of p) a.place o (level_of q) i
+      least : (d : Candidate) (q : PathParts) (o : Owner) (i : ℕ) → Stands s x (dirs_by o ds ts) d q i → q.name ≡ p.name
+          → Precedes OfName (level_of p) a.place o (level_of q) i
       least d q OfName i st n = inr (refl, a.least d q i st n)
       least d q OfType i st n = inl (omega arith)
 
   pub over_of_types : IsTaken s x ts c p → NoneStands s x ds p.name → IsTakenOver s x ds ts c p
   over_of_types a none = record { owner = OfType; place = a.place; stands = a.stands; least = λ d q o i st n. least d q o i st n }
     where
-      least : (d : Candidate) (q : PathParts) (o : Owner) (i : ℕ) → Stands s x (dirs_by o ds ts) d q i → q.name ≡ p.name → Precedes OfType (level_of p) a.place o (level_of q) i
+      least : (d : Candidate) (q : PathParts) (o : Owner) (i : ℕ) → Stands s x (dirs_by o ds ts) d q i → q.name ≡ p.name
+          → Precedes OfType (level_of p) a.place o (level_of q) i
       least d q OfName i st n = absurd (none d q i st n)
       least d q OfType i st n = inr (refl, a.least d q i st n)
 
@@ -49,7 +51,10 @@ module _ (s : HostViewMap) (x : Search) (ds ts : List (List ℕ)) (c : Candidate
   pub over_is_either : IsTakenOver s x ds ts c p → IsTaken s x ds c p ⊎ (IsTaken s x ts c p × NoneStands s x ds p.name)
   over_is_either t = by t.owner t.place t.stands t.least
     where
-      by : (a : Owner) (place : ℕ) → Stands s x (dirs_by a ds ts) c p place → ((d : Candidate) (q : PathParts) (o : Owner) (i : ℕ) → Stands s x (dirs_by o ds ts) d q i → q.name ≡ p.name → Precedes a (level_of p) place o (level_of q) i) → IsTaken s x ds c p ⊎ (IsTaken s x ts c p × NoneStands s x ds p.name)
+      by : (a : Owner) (place : ℕ) → Stands s x (dirs_by a ds ts) c p place
+          → ((d : Candidate) (q : PathParts) (o : Owner) (i : ℕ) → Stands s x (dirs_by o ds ts) d q i → q.name ≡ p.name
+          → Precedes a (level_of p) place o (level_of q) i)
+          → IsTaken s x ds c p ⊎ (IsTaken s x ts c p × NoneStands s x ds p.name)
       by OfName place st least = inl (record { place = place; stands = st; least = λ d q i sq n. same_turn (least d q OfName i sq n) })
       by OfType place st least =
           inr (record { place = place; stands = st; least = λ d q i sq n. same_turn (least d q OfType i sq n) }, λ d q i sq n. not_before (level_of p) (level_of q) place i (least d q OfName i sq n))
@@ -62,7 +67,8 @@ names_or_else_types s x ds ts c p = (over_is_either s x ds ts c p, by)
     by (inr b) = over_of_types s x ds ts c p b.0 b.1
 
 -- Without folders of types, the folders of names decide.
-pub over_none : (s : HostViewMap) (x : Search) (ds : List (List ℕ)) (c : Candidate) (p : PathParts) → IsTakenOver s x ds [] c p → IsTaken s x ds c p
+pub over_none : (s : HostViewMap) (x : Search) (ds : List (List ℕ)) (c : Candidate) (p : PathParts)
+    → IsTakenOver s x ds [] c p → IsTaken s x ds c p
 over_none s x ds c p t = by (over_is_either s x ds [] c p t)
   where
     nowhere : (i : ℕ) → Stands s x [] c p i → ⊥
@@ -77,14 +83,16 @@ over_none s x ds c p t = by (over_is_either s x ds [] c p t)
 pub over_once : OverOnce
 over_once s x ds ts c d p q a b n = by (over_is_either s x ds ts c p a) (over_is_either s x ds ts d q b)
   where
-    by : IsTaken s x ds c p ⊎ (IsTaken s x ts c p × NoneStands s x ds p.name) → IsTaken s x ds d q ⊎ (IsTaken s x ts d q × NoneStands s x ds q.name) → (p ≡ q) × (c ≡ d)
+    by : IsTaken s x ds c p ⊎ (IsTaken s x ts c p × NoneStands s x ds p.name)
+        → IsTaken s x ds d q ⊎ (IsTaken s x ts d q × NoneStands s x ds q.name) → (p ≡ q) × (c ≡ d)
     by (inl k) (inl l) = taken_once s x ds c d p q k l n
     by (inl k) (inr l) = absurd (l.1 c p k.place k.stands n)
     by (inr k) (inl l) = absurd (k.1 d q l.place l.stands (sym n))
     by (inr k) (inr l) = taken_once s x ts c d p q k.0 l.0 n
 
 -- A candidate in one view is a candidate in another view that shows the same there.
-stands_again : (s t : HostViewMap) (x : Search) (ds : List (List ℕ)) → ((p : PathParts) (i : ℕ) → IsLevel (level_of p) → slice_get ds i ≡ Some p.folder → viewed_at s p ≡ viewed_at t p)
+stands_again : (s t : HostViewMap) (x : Search) (ds : List (List ℕ))
+    → ((p : PathParts) (i : ℕ) → IsLevel (level_of p) → slice_get ds i ≡ Some p.folder → viewed_at s p ≡ viewed_at t p)
     → (c : Candidate) (p : PathParts) (i : ℕ) → Stands s x ds c p i → Stands t x ds c p i
 stands_again s t x ds same c p i st = record {
   level_within = st.level_within;

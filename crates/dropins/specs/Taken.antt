@@ -54,7 +54,8 @@ pub record Stands (s : HostViewMap) (x : Search) (ds : List (List ℕ)) (c : Can
 pub record IsTaken (s : HostViewMap) (x : Search) (ds : List (List ℕ)) (c : Candidate) (p : PathParts) : Type 0 where
   pub place : ℕ
   pub stands : Stands s x ds c p place
-  pub least : (d : Candidate) (q : PathParts) (i : ℕ) → Stands s x ds d q i → q.name ≡ p.name → (level_of p < level_of q) ⊎ ((level_of p ≡ level_of q) × (place ≤ i))
+  pub least : (d : Candidate) (q : PathParts) (i : ℕ) → Stands s x ds d q i → q.name ≡ p.name
+      → (level_of p < level_of q) ⊎ ((level_of p ≡ level_of q) × (place ≤ i))
 
 -- whose folder one is: a name's, or a type's
 pub data Owner : Type 0 where
@@ -80,7 +81,8 @@ pub record IsTakenOver (s : HostViewMap) (x : Search) (ds ts : List (List ℕ)) 
   pub owner : Owner
   pub place : ℕ
   pub stands : Stands s x (dirs_by owner ds ts) c p place
-  pub least : (d : Candidate) (q : PathParts) (o : Owner) (i : ℕ) → Stands s x (dirs_by o ds ts) d q i → q.name ≡ p.name → Precedes owner (level_of p) place o (level_of q) i
+  pub least : (d : Candidate) (q : PathParts) (o : Owner) (i : ℕ) → Stands s x (dirs_by o ds ts) d q i → q.name ≡ p.name
+      → Precedes owner (level_of p) place o (level_of q) i
 
 -- what is taken for a file name
 pub record TakenFor (s : HostViewMap) (x : Search) (ds : List (List ℕ)) (f : List ℕ) (c : Candidate) : Type 0 where

@@ -42,7 +42,9 @@ types_come_last s ns k p a f d = by (over_is_either s DropIns (name_dirs (folder
         let same : t.0 ≡ word k = append_cancel_right t.0 (word k) (codes ".d") t.1.1 in
         contains_from_among (word k) (types_of ns) (subst (IsAmong (word k)) (folders_keep_types ns a) (subst (λ w. IsAmong w (types_of (folders ns))) same t.1.0))
 
-    by : IsTaken s DropIns (name_dirs (folders ns)) (At p) p ⊎ (IsTaken s DropIns (type_dirs (folders ns)) (At p) p × NoneStands s DropIns (name_dirs (folders ns)) p.name) → Contains (types_of ns) (word k) × NoneStands s DropIns (name_dirs (folders ns)) p.name
+    by : IsTaken s DropIns (name_dirs (folders ns)) (At p) p
+        ⊎ (IsTaken s DropIns (type_dirs (folders ns)) (At p) p × NoneStands s DropIns (name_dirs (folders ns)) p.name)
+        → Contains (types_of ns) (word k) × NoneStands s DropIns (name_dirs (folders ns)) p.name
     by (inl h) = absurd (no_name_has_a_types_folder ns k a (contains_from_among (kind_dir k) (name_dirs (folders ns)) (subst (λ w. IsAmong w (name_dirs (folders ns))) f (placed_there (name_dirs (folders ns)) h.place p.folder h.stands.folder_is))))
     by (inr h) = (own (placed_there (type_dirs (folders ns)) h.0.place p.folder h.0.stands.folder_is), h.1)
 
@@ -51,7 +53,8 @@ masks_hide_types s ns p q a n d =
     cc ((over_once s DropIns (name_dirs (folders ns)) (type_dirs (folders ns)) Mask (At q) p q (over_of_names s DropIns (name_dirs (folders ns)) (type_dirs (folders ns)) Mask p a) d n).1)
 
 -- nothing stands in the folders of types
-module _ (s : HostViewMap) (ns : List Name) (a : All IsName ns) (none : (k : Kind) (q : PathParts) → q.folder ≡ kind_dir k → viewed_at s q ≡ None) where
+module _ (s : HostViewMap) (ns : List Name) (a : All IsName ns)
+    (none : (k : Kind) (q : PathParts) → q.folder ≡ kind_dir k → viewed_at s q ≡ None) where
   nowhere : (c : Candidate) (p : PathParts) (i : ℕ) → Stands s DropIns (type_dirs (folders ns)) c p i → ⊥
   nowhere c p i st =
       let t = among_made (λ t. t ++ codes ".d") p.folder (types_of (folders ns)) (placed_there (type_dirs (folders ns)) i p.folder st.folder_is) in
@@ -61,6 +64,8 @@ module _ (s : HostViewMap) (ns : List Name) (a : All IsName ns) (none : (k : Kin
 pub names_alone_without_types : NamesAloneWithoutTypes
 names_alone_without_types s ns a none p = (λ d. by (over_is_either s DropIns (name_dirs (folders ns)) (type_dirs (folders ns)) (At p) p d), names_go_first s ns p)
   where
-    by : IsTaken s DropIns (name_dirs (folders ns)) (At p) p ⊎ (IsTaken s DropIns (type_dirs (folders ns)) (At p) p × NoneStands s DropIns (name_dirs (folders ns)) p.name) → IsTaken s DropIns (name_dirs (folders ns)) (At p) p
+    by : IsTaken s DropIns (name_dirs (folders ns)) (At p) p
+        ⊎ (IsTaken s DropIns (type_dirs (folders ns)) (At p) p × NoneStands s DropIns (name_dirs (folders ns)) p.name)
+        → IsTaken s DropIns (name_dirs (folders ns)) (At p) p
     by (inl h) = h
     by (inr h) = absurd (nowhere s ns a none (At p) p h.0.place h.0.stands)

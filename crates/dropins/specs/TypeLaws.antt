@@ -111,7 +111,8 @@ module _ (n : Name) (h : IsName n) where
       moved {t = t} {u = u} [] e a = All-nil (λ m. suffix m ≡ u)
       moved {t = t} {u = u} (m ∷ ms) e a = All-cons (λ x. suffix x ≡ u) m ms (All-head (λ x. suffix x ≡ t) m ms a ∙ e) (moved ms e (All-tail (λ x. suffix x ≡ t) m ms a))
 
-  cuts_keep : (cs : List (List ℕ)) → ((c : List ℕ) → Contains cs c → IsDashedPrefix (prefix n) c) → All (λ m. suffix m ≡ suffix n) (flat_map (λ p. with_template (with_prefix n p)) cs)
+  cuts_keep : (cs : List (List ℕ)) → ((c : List ℕ) → Contains cs c → IsDashedPrefix (prefix n) c)
+      → All (λ m. suffix m ≡ suffix n) (flat_map (λ p. with_template (with_prefix n p)) cs)
   cuts_keep [] each = All-nil (λ m. suffix m ≡ suffix n)
   cuts_keep (c ∷ cs) each =
       All-append (λ m. suffix m ≡ suffix n) (with_template (with_prefix n c)) (flat_map (λ p. with_template (with_prefix n p)) cs)

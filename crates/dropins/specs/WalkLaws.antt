@@ -72,11 +72,14 @@ module _ (s : HostViewMap) (x : Search) (ds : List (List ℕ)) (f : List ℕ) (c
     clash : {C : Type 0} (r : ℕ) → q.rank ≡ r → candidate_at s x (path r (get_or ds i []) f) ≡ None → C
     clash r a none = absurd (none-some _ (sym none ∙ ap (candidate_at s x) (sym (parts q r (get_or ds i []) f a (sym (get_or_from_slice_get ds i q.folder [] st.folder_is)) n)) ∙ st.says))
 
-    same_level : q.rank ≡ first_level_said.place → (i < first_folder.place) ⊎ (first_folder.place ≤ i) → (first_level_said.place < q.rank) ⊎ ((first_level_said.place ≡ q.rank) × (first_folder.place ≤ i))
+    same_level : q.rank ≡ first_level_said.place → (i < first_folder.place) ⊎ (first_folder.place ≤ i)
+        → (first_level_said.place < q.rank) ⊎ ((first_level_said.place ≡ q.rank) × (first_folder.place ≤ i))
     same_level a (inl l) = clash first_level_said.place a (first_folder.before i l)
     same_level a (inr l) = inr (sym a, l)
 
-    levelled : (q.rank < first_level_said.place) ⊎ (first_level_said.place ≤ q.rank) → (first_level_said.place < q.rank) ⊎ (q.rank ≤ first_level_said.place) → (first_level_said.place < q.rank) ⊎ ((first_level_said.place ≡ q.rank) × (first_folder.place ≤ i))
+    levelled : (q.rank < first_level_said.place) ⊎ (first_level_said.place ≤ q.rank)
+        → (first_level_said.place < q.rank) ⊎ (q.rank ≤ first_level_said.place)
+        → (first_level_said.place < q.rank) ⊎ ((first_level_said.place ≡ q.rank) × (first_folder.place ≤ i))
     levelled (inl l) g = clash q.rank refl (lesser_level q.rank i l (slice_get_within ds i q.folder st.folder_is))
     levelled (inr l) (inl g) = inl g
     levelled (inr l) (inr g) = same_level (omega (arith, l, g)) (cases_lt i first_folder.place)
@@ -103,7 +106,8 @@ module _ (s : HostViewMap) (x : Search) (ds : List (List ℕ)) where
           let e = parts p q.rank q.folder q.name r folder n in
           (e, same_Some _ _ (sym a.stands.says ∙ ap (candidate_at s x) e ∙ b.stands.says))
 
-      by : (p.rank < q.rank) ⊎ ((p.rank ≡ q.rank) × (a.place ≤ b.place)) → (q.rank < p.rank) ⊎ ((q.rank ≡ p.rank) × (b.place ≤ a.place)) → (p ≡ q) × (c ≡ d)
+      by : (p.rank < q.rank) ⊎ ((p.rank ≡ q.rank) × (a.place ≤ b.place))
+          → (q.rank < p.rank) ⊎ ((q.rank ≡ p.rank) × (b.place ≤ a.place)) → (p ≡ q) × (c ≡ d)
       by (inl l) (inl g) = absurd (omega (arith, l, g))
       by (inl l) (inr g) = absurd (omega (arith, l, g.0))
       by (inr l) (inl g) = absurd (omega (arith, l.0, g))

@@ -204,8 +204,8 @@ impl UnitFolders {
         folder: Folder,
     ) -> Result<Vec<UnitName>, AllocError>
         ensures ascending { IfOk result (λ units. IsStrictlySortedBy name_cmp units.items) }
-        ensures exact { IfOk result (λ units. (n : Name) → Contains units.items n ↔ IsLinkedOf view.now
-            self.now folder n) }
+        ensures exact { IfOk result
+            (λ units. (n : Name) → Contains units.items n ↔ IsLinkedOf view.now self.now folder n) }
     {
         let dirs = name_dirs(alloc, self.names(), folder.ending())?;
         let taken = taken_entries(alloc, view, Search::Links, &dirs, &[])?;
@@ -225,7 +225,8 @@ impl UnitFolders {
         view: &HostView<'a>,
         folder: Folder,
     ) -> Result<Vec<HostViewEntry<'a>>, AllocError>
-        ensures ascending { IfOk result (λ links. IsStrictlySortedBy name_cmp (map entry_name links.items)) }
+        ensures ascending { IfOk result
+            (λ links. IsStrictlySortedBy name_cmp (map entry_name links.items)) }
         ensures exact { IfOk result (λ links. AreLinksOf view.now self.now folder links.items) }
     {
         let dirs = name_dirs(alloc, self.names(), folder.ending())?;
@@ -246,8 +247,8 @@ pub fn links(
     folder: Folder,
 ) -> Result<Vec<UnitName>, AllocError>
     ensures ascending { IfOk result (λ units. IsStrictlySortedBy name_cmp units.items) }
-    ensures exact { IfOk result (λ units. (n : Name) → Contains units.items n ↔ IsLinked (host_view_of store.now viewer.now) names.now
-        folder n) }
+    ensures exact { IfOk result (λ units. (n : Name) → Contains units.items n
+        ↔ IsLinked (host_view_of store.now viewer.now) names.now folder n) }
 {
     let folders = UnitFolders::of(alloc, names)?;
     folders.links(alloc, &store.host_view(viewer), folder)
@@ -273,7 +274,8 @@ fn named_like_units<'a>(
     alloc: Global,
     taken: Vec<HostViewEntry<'a>>,
 ) -> Result<Vec<HostViewEntry<'a>>, AllocError>
-    ensures named { IfOk result (λ named. named.items ≡ filter (λ p. is_name (entry_name p)) taken.entry.items) }
+    ensures named { IfOk result
+        (λ named. named.items ≡ filter (λ p. is_name (entry_name p)) taken.entry.items) }
 {
     let mut named = Vec::new(alloc);
     for placed in taken {
@@ -312,7 +314,8 @@ impl UnitFolders {
         alloc: Global,
         view: &HostView<'a>,
     ) -> Result<Vec<HostViewEntry<'a>>, AllocError>
-        ensures ascending { IfOk result (λ taken. IsStrictlySortedBy name_cmp (map entry_name taken.items)) }
+        ensures ascending { IfOk result
+            (λ taken. IsStrictlySortedBy name_cmp (map entry_name taken.items)) }
         ensures exact { IfOk result (λ taken. AreDropInsOf view.now self.now taken.items) }
     {
         let names = name_dirs(alloc, self.names(), b".d")?;
@@ -331,7 +334,8 @@ pub fn order(
     viewer: &Viewer,
     names: &[UnitName],
 ) -> Result<Vec<Place>, AllocError>
-    ensures ascending { IfOk result (λ places. IsStrictlySortedBy name_cmp (map file_name places.items)) }
+    ensures ascending { IfOk result
+        (λ places. IsStrictlySortedBy name_cmp (map file_name places.items)) }
     ensures exact { IfOk result (λ places. (p : PlaceParts) → Contains places.items p ↔ IsDropInAt
         (host_view_of store.now viewer.now) names.now p) }
 {

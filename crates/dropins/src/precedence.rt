@@ -50,7 +50,8 @@ pub fn taken_entries<'a>(
     name_dirs: &[Bytes],
     type_dirs: &[Bytes],
 ) -> Result<Vec<HostViewEntry<'a>>, AllocError>
-    ensures ascending { IfOk result (λ taken. IsStrictlySortedBy name_cmp (map entry_name taken.items)) }
+    ensures ascending { IfOk result
+        (λ taken. IsStrictlySortedBy name_cmp (map entry_name taken.items)) }
     ensures exact { IfOk result (λ taken. (p : PathParts × Entry) → Contains taken.items p ↔
         (IsTakenOver view.now search name_dirs.now type_dirs.now (At p.0) p.0
         × (finmap.get (all_viewed view.now) p.0 ≡ Some p.1))) }
@@ -71,8 +72,8 @@ fn taken<'a>(
     name_dirs: &[Bytes],
     type_dirs: &[Bytes],
 ) -> Result<TakenByName<'a>, AllocError>
-    ensures taken { IfOk result (λ takes. (f : List ℕ) → get name_cmp takes f ≡ took_over view.now search
-        name_dirs.now type_dirs.now f) }
+    ensures taken { IfOk result (λ takes. (f : List ℕ)
+        → get name_cmp takes f ≡ took_over view.now search name_dirs.now type_dirs.now f) }
 {
     let mut found = Vec::new(alloc);
     add_levels(view, &mut found, search, name_dirs)?;
@@ -83,7 +84,8 @@ fn taken<'a>(
 // Returns the first candidate for each file name. Collecting into a map keeps the last of several, so the candidates
 // are reversed first.
 fn firsts<'a>(alloc: Global, found: Candidates<'a>) -> Result<TakenByName<'a>, AllocError>
-    ensures firsts { IfOk result (λ takes. (f : List ℕ) → get name_cmp takes f ≡ first_for found.entry.items f) }
+    ensures firsts { IfOk result
+        (λ takes. (f : List ℕ) → get name_cmp takes f ≡ first_for found.entry.items f) }
 {
     let mut found = found;
     found.reverse();
@@ -97,7 +99,8 @@ fn add_levels<'a>(
     search: Search,
     dirs: &[Bytes],
 ) -> Result<(), AllocError>
-    ensures added { OnOk result (Adds found.old.items found.new.items (took view.now search dirs.now)) }
+    ensures added { OnOk result
+        (Adds found.old.items found.new.items (took view.now search dirs.now)) }
 {
     for level in 0..LEVELS {
         add_level(view, found, search, level, dirs)?;
@@ -113,7 +116,8 @@ fn add_level<'a>(
     level: u8,
     dirs: &[Bytes],
 ) -> Result<(), AllocError>
-    ensures added { OnOk result (Adds found.old.items found.new.items (λ f. took_in view.now search dirs.now f level)) }
+    ensures added { OnOk result
+        (Adds found.old.items found.new.items (λ f. took_in view.now search dirs.now f level)) }
 {
     for dir in dirs {
         add_folder(view, found, search, level, dir.as_slice())?;
@@ -129,7 +133,9 @@ fn add_folder<'a>(
     level: u8,
     dir: &[u8],
 ) -> Result<(), AllocError>
-    ensures added { OnOk result (Adds found.old.items found.new.items (λ f. take_at view.now search (path level dir.now f))) }
+    ensures added { OnOk result
+        (Adds found.old.items found.new.items
+        (λ f. take_at view.now search (path level dir.now f))) }
 {
     let mut entries = view.entries_in(level, dir);
     while let Some(placed) = entries.next_entry() {
@@ -144,7 +150,8 @@ fn add_entry<'a>(
     search: Search,
     placed: HostViewEntry<'a>,
 ) -> Result<(), AllocError>
-    ensures added { OnOk result (Adds found.old.items found.new.items (λ f. said_for search f placed.entry)) }
+    ensures added { OnOk result
+        (Adds found.old.items found.new.items (λ f. said_for search f placed.entry)) }
 {
     let name = placed.name();
     if let Some(take) = take_of(search, placed) {

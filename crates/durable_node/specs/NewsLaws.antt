@@ -24,7 +24,9 @@ by_held (Some v) x =
       | Greater ↦ λ e. refl
     ] refl
 
-at_place : (s : EntryMap) (q : PlaceParts) (z : Option Entry) → larger (finmap.get s q) (passed (λ e. is_news (finmap.get s e.place) (entry_of e)) q z) ≡ larger (finmap.get s q) z
+at_place : (s : EntryMap) (q : PlaceParts) (z : Option Entry)
+    → larger (finmap.get s q) (passed (λ e. is_news (finmap.get s e.place) (entry_of e)) q z)
+    ≡ larger (finmap.get s q) z
 at_place s q None = refl
 at_place s q (Some x) = by_held (finmap.get s q) x
 
@@ -43,7 +45,8 @@ pub news_high : (s t : EntryMap) → high_among (news_of s t) ≤ high_of t
 news_high s t = subst (λ n. high_among (news_of s t) ≤ n) (high_among-edits_of t) (high_filter _ (edits_of t))
 
 -- entries that are read beside a store give its news
-pub news_beside : (s : EntryMap) (ps : List (PlaceParts × Entry)) → news_left (zipped (finmap.get s) ps) ≡ filter (λ e. is_news (finmap.get s e.place) (entry_of e)) (map edit_of ps)
+pub news_beside : (s : EntryMap) (ps : List (PlaceParts × Entry))
+    → news_left (zipped (finmap.get s) ps) ≡ filter (λ e. is_news (finmap.get s e.place) (entry_of e)) (map edit_of ps)
 news_beside s [] = refl
 news_beside s (p ∷ ps) =
     ap (λ l. cond (is_news (finmap.get s p.0) p.1) (edit_of p ∷ l) l) (news_beside s ps)

@@ -15,7 +15,8 @@ node_cmp p q = ordering_then (slice_cmp nat_cmp p.mark q.mark) (nat_cmp p.writer
 -- of some peers each node once, as it was seen last, in the order of marks and numbers
 pub record AreLatest (peers latest : List LogPeer) : Type 0 where
   pub among : (p : LogPeer) → IsAmong p latest → IsAmong p peers
-  pub seen : (p : LogPeer) → IsAmong p peers → (q : LogPeer) × IsAmong q latest × (q.mark ≡ p.mark) × (q.writer ≡ p.writer) × (p.seen ≤ q.seen)
+  pub seen : (p : LogPeer) → IsAmong p peers
+      → (q : LogPeer) × IsAmong q latest × (q.mark ≡ p.mark) × (q.writer ≡ p.writer) × (p.seen ≤ q.seen)
   pub once : IsStrictlySortedBy node_cmp latest
 
 -- ---- how they are found

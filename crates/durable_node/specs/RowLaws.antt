@@ -21,7 +21,8 @@ edits_in-stamped time [] = refl
 edits_in-stamped time (e ∷ es) = ap (λ l. e ∷ l) (edits_in-stamped time es)
 
 -- what rows and more edits come to
-pub added_sum : (time : ℕ) (old new : List LogRow) (es : List Edit) → IsPermutation (old ++ stamped time es) new → sum_of (edits_in new) ≡ join (sum_of (edits_in old)) (sum_of es)
+pub added_sum : (time : ℕ) (old new : List LogRow) (es : List Edit) → IsPermutation (old ++ stamped time es) new
+    → sum_of (edits_in new) ≡ join (sum_of (edits_in old)) (sum_of es)
 added_sum time old new es moved =
     sym (sum_of-permutation (edits_in (old ++ stamped time es)) (edits_in new) (IsPermutation-map (λ (r : LogRow). r.edit) (old ++ stamped time es) new moved))
     ∙ ap sum_of (map-append (λ (r : LogRow). r.edit) old (stamped time es) ∙ ap (λ l. edits_in old ++ l) (edits_in-stamped time es))

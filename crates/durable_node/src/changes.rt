@@ -14,7 +14,8 @@ use std::alloc::AllocError;
 
 // A copy of an edit of this place, version and content.
 fn copied(place: &Place, version: Version, content: &Content) -> Result<Edit, AllocError>
-    ensures edit { IfOk result (λ edit. edit ≡ record { place = place.now; version = version; content = content.now }) }
+    ensures edit { IfOk result
+        (λ edit. edit ≡ record { place = place.now; version = version; content = content.now }) }
 {
     Ok(Edit {
         place: place.try_clone()?,
@@ -50,7 +51,8 @@ impl<L: EditLog> NodeFile<L> {
             { place = place; version = next_version self.old.replica; content = content })) }
         ensures unsaved { OnOk result (self.new.unsaved ≡ self.old.unsaved ++ record
             { place = place; version = next_version self.old.replica; content = content } ∷ []) }
-        ensures spent { IsErrOf result EditFault.VersionsSpent ↔ (2 ^ 63 ≤ high_of self.old.replica.store + 1) }
+        ensures spent { IsErrOf result EditFault.VersionsSpent
+            ↔ (2 ^ 63 ≤ high_of self.old.replica.store + 1) }
         ensures always { IsErrOf result EditFault.Nothing → ⊥ }
         ensures err { OnErr result (self.new ≡ self.old) }
         ensures log { self.new.log ≡ self.old.log }
@@ -81,8 +83,10 @@ impl<L: EditLog> NodeFile<L> {
             { place = place; version = next_version self.old.replica; content = Gone })) }
         ensures unsaved { OnOk result (self.new.unsaved ≡ self.old.unsaved ++ record
             { place = place; version = next_version self.old.replica; content = Gone } ∷ []) }
-        ensures nothing { IsErrOf result EditFault.Nothing ↔ (visible_at self.old.replica.store place ≡ None) }
-        ensures spent { IsErrOf result EditFault.VersionsSpent ↔ (IsSome (visible_at self.old.replica.store place)
+        ensures nothing { IsErrOf result EditFault.Nothing
+            ↔ (visible_at self.old.replica.store place ≡ None) }
+        ensures spent { IsErrOf result EditFault.VersionsSpent
+            ↔ (IsSome (visible_at self.old.replica.store place)
             × (2 ^ 63 ≤ high_of self.old.replica.store + 1)) }
         ensures err { OnErr result (self.new ≡ self.old) }
         ensures log { self.new.log ≡ self.old.log }

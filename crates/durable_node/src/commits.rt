@@ -17,14 +17,23 @@ impl<L: EditLog> NodeFile<L> {
     /// further commit, and has to be opened anew.
     pub fn commit(&mut self, time: u32) -> Result<(), NodeFault>
         ensures spent { IsErrOf result NodeFault.Spent ↔ (self.old.is_spent ≡ true) }
-        ensures held { L.is_honest self.new.log → OnOk result (IsPermutation (L.held self.old.log ++ stamped time self.old.unsaved) (L.held self.new.log)) }
-        ensures peers { L.is_honest self.new.log → OnOk result (L.peers self.new.log ≡ L.peers self.old.log) }
-        ensures sum { L.is_honest self.new.log → OnOk result (sum_of (edits_in (L.held self.new.log)) ≡ self.new.replica.store) }
-        ensures lasts { L.is_honest self.new.log → OnOk result (LeavesJust (L.held self.new.log) (L.may_leave self.new.log)) }
+        ensures held { L.is_honest self.new.log
+            → OnOk result
+            (IsPermutation (L.held self.old.log ++ stamped time self.old.unsaved)
+            (L.held self.new.log)) }
+        ensures peers { L.is_honest self.new.log
+            → OnOk result (L.peers self.new.log ≡ L.peers self.old.log) }
+        ensures sum { L.is_honest self.new.log
+            → OnOk result (sum_of (edits_in (L.held self.new.log)) ≡ self.new.replica.store) }
+        ensures lasts { L.is_honest self.new.log
+            → OnOk result (LeavesJust (L.held self.new.log) (L.may_leave self.new.log)) }
         ensures saved { OnOk result (self.new.unsaved ≡ []) }
-        ensures crash { L.is_honest self.new.log → LeavesAllOrNone (L.held self.old.log) (stamped time self.old.unsaved) (L.may_leave self.old.log) (L.may_leave self.new.log) }
-        ensures found { L.is_honest self.new.log → (left : List LogRow) → L.may_leave self.new.log left →
-            L.may_leave self.old.log left ⊎ (sum_of (edits_in left) ≡ self.new.replica.store) }
+        ensures crash { L.is_honest self.new.log
+            → LeavesAllOrNone (L.held self.old.log) (stamped time self.old.unsaved)
+            (L.may_leave self.old.log) (L.may_leave self.new.log) }
+        ensures found { L.is_honest self.new.log → (left : List LogRow)
+            → L.may_leave self.new.log left
+            → L.may_leave self.old.log left ⊎ (sum_of (edits_in left) ≡ self.new.replica.store) }
         ensures whole { OnOk result (self.new.is_spent ≡ false) }
         ensures refused { OnErr result (self.new.is_spent ≡ true) }
         ensures unwritten { OnErr result (self.new.unsaved ≡ self.old.unsaved) }

@@ -35,11 +35,18 @@ impl<L: EditLog> NodeFile<L> {
         peers: &[LogPeer],
     ) -> Result<(), NodeFault>
         requires running { M.is_running fresh.old }
-        ensures rows { M.is_honest fresh.new → OnOk result (IsPermutation (M.held fresh.old ++ stamped time (edits_of self.now.replica.store)) (M.held fresh.new)) }
-        ensures sum { M.is_honest fresh.new → OnOk result (M.held fresh.old ≡ [] → sum_of (edits_in (M.held fresh.new)) ≡ self.now.replica.store) }
-        ensures peers { M.is_honest fresh.new → OnOk result (IsPermutation (M.peers fresh.old ++ peers.now) (M.peers fresh.new)) }
+        ensures rows { M.is_honest fresh.new
+            → OnOk result
+            (IsPermutation (M.held fresh.old ++ stamped time (edits_of self.now.replica.store))
+            (M.held fresh.new)) }
+        ensures sum { M.is_honest fresh.new
+            → OnOk result (M.held fresh.old ≡ []
+            → sum_of (edits_in (M.held fresh.new)) ≡ self.now.replica.store) }
+        ensures peers { M.is_honest fresh.new
+            → OnOk result (IsPermutation (M.peers fresh.old ++ peers.now) (M.peers fresh.new)) }
         ensures running { OnOk result (M.is_running fresh.new) }
-        ensures counter { IsErrOf result NodeFault.Counter ↔ (2 ^ 63 ≤ high_of self.now.replica.store) }
+        ensures counter { IsErrOf result NodeFault.Counter
+            ↔ (2 ^ 63 ≤ high_of self.now.replica.store) }
         ensures head { M.head fresh.new ≡ M.head fresh.old }
         ensures honest { M.is_honest fresh.new → M.is_honest fresh.old }
     {

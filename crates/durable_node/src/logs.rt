@@ -55,12 +55,18 @@ impl<L: EditLog> NodeFile<L> {
     /// out, the log holds what it held.
     pub fn histories(&mut self, alloc: Global) -> Result<Vec<LoggedAt>, NodeFault>
         ensures spent { IsErrOf result NodeFault.Spent ↔ (self.old.is_spent ≡ true) }
-        ensures rows { L.is_honest self.new.log → IfOk result (λ logged. IsPermutation (logged_all (L.held self.old.log)) logged.items) }
+        ensures rows { L.is_honest self.new.log
+            → IfOk result
+            (λ logged. IsPermutation (logged_all (L.held self.old.log)) logged.items) }
         ensures sorted { IfOk result (λ logged. IsSorted ⟦<LoggedAt as Ord>⟧.cmp logged.items) }
-        ensures held { L.is_honest self.new.log → OnOk result (L.held self.new.log ≡ L.held self.old.log) }
-        ensures peers { L.is_honest self.new.log → OnOk result (L.peers self.new.log ≡ L.peers self.old.log) }
-        ensures refused { OnErr result ((self.new.is_spent ≡ true) ⊎ (L.is_honest self.new.log → L.held self.new.log ≡ L.held self.old.log)) }
-        ensures crash { L.is_honest self.new.log → LeavesNothingNew (L.may_leave self.old.log) (L.may_leave self.new.log) }
+        ensures held { L.is_honest self.new.log
+            → OnOk result (L.held self.new.log ≡ L.held self.old.log) }
+        ensures peers { L.is_honest self.new.log
+            → OnOk result (L.peers self.new.log ≡ L.peers self.old.log) }
+        ensures refused { OnErr result ((self.new.is_spent ≡ true)
+            ⊎ (L.is_honest self.new.log → L.held self.new.log ≡ L.held self.old.log)) }
+        ensures crash { L.is_honest self.new.log
+            → LeavesNothingNew (L.may_leave self.old.log) (L.may_leave self.new.log) }
         ensures replica { self.new.replica ≡ self.old.replica }
         ensures unsaved { self.new.unsaved ≡ self.old.unsaved }
         ensures head { L.head self.new.log ≡ L.head self.old.log }

@@ -35,9 +35,20 @@ impl<L: EditLog> Model for NodeFile<L> {
 
     ghost coded = { coded_node L.code };
 
-    ghost view = { λ n. record { log = n.log; replica = n.replica; unsaved = n.unsaved.items; is_spent = n.is_spent } };
+    ghost view = { λ n. record {
+      log = n.log;
+      replica = n.replica;
+      unsaved = n.unsaved.items;
+      is_spent = n.is_spent;
+    } };
 
-    ghost invariant = { λ n. IsKept L.is_honest L.is_running L.held (record { log = n.log; replica = n.replica; unsaved = n.unsaved.items; is_spent = n.is_spent }) };
+    ghost invariant = { λ n. IsKept L.is_honest L.is_running L.held
+        (record {
+          log = n.log;
+          replica = n.replica;
+          unsaved = n.unsaved.items;
+          is_spent = n.is_spent;
+        }) };
 }
 
 impl<L: EditLog> NodeFile<L> {
@@ -46,11 +57,13 @@ impl<L: EditLog> NodeFile<L> {
     /// all lives have it. A crash leaves what stands in the log (`lasts`).
     pub fn replica(&self) -> &Replica
         ensures replica { result.now ≡ self.now.replica }
-        ensures sums { self.now.is_spent ≡ false → L.is_honest self.now.log →
-            result.now.store ≡ join (sum_of (edits_in (L.held self.now.log))) (sum_of self.now.unsaved) }
-        ensures high { self.now.is_spent ≡ false → L.is_honest self.now.log →
-            high_of result.now.store ≡ high_among (edits_in (L.held self.now.log) ++ self.now.unsaved) }
-        ensures lasts { self.now.is_spent ≡ false → L.is_honest self.now.log → LeavesJust (L.held self.now.log) (L.may_leave self.now.log) }
+        ensures sums { self.now.is_spent ≡ false → L.is_honest self.now.log → result.now.store
+            ≡ join (sum_of (edits_in (L.held self.now.log))) (sum_of self.now.unsaved) }
+        ensures high { self.now.is_spent ≡ false → L.is_honest self.now.log
+            → high_of result.now.store
+            ≡ high_among (edits_in (L.held self.now.log) ++ self.now.unsaved) }
+        ensures lasts { self.now.is_spent ≡ false → L.is_honest self.now.log
+            → LeavesJust (L.held self.now.log) (L.may_leave self.now.log) }
     {
         &self.replica
     }

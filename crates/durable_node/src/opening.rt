@@ -31,7 +31,8 @@ fn last_place_first(rows: &mut [LogRow])
 // What a log comes to.
 fn read_sum<L: EditLog>(alloc: Global, log: &mut L) -> Result<Store, NodeFault>
     requires running { L.is_running log.old }
-    ensures sum { L.is_honest log.new → IfOk result (λ store. store ≡ sum_of (edits_in (L.held log.old))) }
+    ensures sum { L.is_honest log.new
+        → IfOk result (λ store. store ≡ sum_of (edits_in (L.held log.old))) }
     ensures held { L.is_honest log.new → OnOk result (L.held log.new ≡ L.held log.old) }
     ensures peers { L.is_honest log.new → OnOk result (L.peers log.new ≡ L.peers log.old) }
     ensures running { OnOk result (L.is_running log.new) }
@@ -48,12 +49,15 @@ impl<L: EditLog + Drop> NodeFile<L> {
     /// the log is of another format, which is read no further; else with what the log refuses, or with `Memory`.
     pub fn open(alloc: Global, mut log: L) -> Result<NodeFile<L>, NodeFault>
         requires running { L.is_running log }
-        ensures format { (L.head log).format ≢ FORMAT → IsErrAnd result (λ fault. fault ≡ NodeFault.Format) }
+        ensures format { (L.head log).format ≢ FORMAT
+            → IsErrAnd result (λ fault. fault ≡ NodeFault.Format) }
         ensures known { OnOk result ((L.head log).format ≡ FORMAT) }
         ensures writer { IfOk result (λ node. node.replica.writer ≡ (L.head log).writer) }
-        ensures sum { IfOk result (λ node. L.is_honest node.log → node.replica.store ≡ sum_of (edits_in (L.held log))) }
+        ensures sum { IfOk result
+            (λ node. L.is_honest node.log → node.replica.store ≡ sum_of (edits_in (L.held log))) }
         ensures log { IfOk result (λ node. L.is_honest node.log → L.held node.log ≡ L.held log) }
-        ensures peers { IfOk result (λ node. L.is_honest node.log → L.peers node.log ≡ L.peers log) }
+        ensures peers { IfOk result
+            (λ node. L.is_honest node.log → L.peers node.log ≡ L.peers log) }
         ensures head { IfOk result (λ node. L.head node.log ≡ L.head log) }
         ensures saved { IfOk result (λ node. node.unsaved ≡ []) }
         ensures whole { IfOk result (λ node. node.is_spent ≡ false) }

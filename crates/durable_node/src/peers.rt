@@ -52,11 +52,16 @@ impl<L: EditLog> NodeFile<L> {
     /// log holds what it held.
     pub fn peers(&mut self, alloc: Global) -> Result<Vec<LogPeer>, NodeFault>
         ensures spent { IsErrOf result NodeFault.Spent ↔ (self.old.is_spent ≡ true) }
-        ensures latest { L.is_honest self.new.log → IfOk result (λ peers. AreLatest (L.peers self.old.log) peers.items) }
-        ensures known { L.is_honest self.new.log → OnOk result (L.peers self.new.log ≡ L.peers self.old.log) }
-        ensures held { L.is_honest self.new.log → OnOk result (L.held self.new.log ≡ L.held self.old.log) }
-        ensures refused { OnErr result ((self.new.is_spent ≡ true) ⊎ (L.is_honest self.new.log → L.held self.new.log ≡ L.held self.old.log)) }
-        ensures crash { L.is_honest self.new.log → LeavesNothingNew (L.may_leave self.old.log) (L.may_leave self.new.log) }
+        ensures latest { L.is_honest self.new.log
+            → IfOk result (λ peers. AreLatest (L.peers self.old.log) peers.items) }
+        ensures known { L.is_honest self.new.log
+            → OnOk result (L.peers self.new.log ≡ L.peers self.old.log) }
+        ensures held { L.is_honest self.new.log
+            → OnOk result (L.held self.new.log ≡ L.held self.old.log) }
+        ensures refused { OnErr result ((self.new.is_spent ≡ true)
+            ⊎ (L.is_honest self.new.log → L.held self.new.log ≡ L.held self.old.log)) }
+        ensures crash { L.is_honest self.new.log
+            → LeavesNothingNew (L.may_leave self.old.log) (L.may_leave self.new.log) }
         ensures whole { OnOk result (self.new.is_spent ≡ false) }
         ensures running { OnOk result (L.is_running self.new.log) }
         ensures replica { self.new.replica ≡ self.old.replica }
@@ -82,14 +87,21 @@ impl<L: EditLog> NodeFile<L> {
     /// would have found before, or what the log came to (`found`).
     pub fn note_peers(&mut self, met: &[LogPeer]) -> Result<(), NodeFault>
         ensures spent { IsErrOf result NodeFault.Spent ↔ (self.old.is_spent ≡ true) }
-        ensures noted { L.is_honest self.new.log → OnOk result (IsPermutation (L.peers self.old.log ++ met.now) (L.peers self.new.log)) }
-        ensures held { L.is_honest self.new.log → OnOk result (L.held self.new.log ≡ L.held self.old.log) }
-        ensures lasts { L.is_honest self.new.log → OnOk result (LeavesJust (L.held self.new.log) (L.may_leave self.new.log)) }
-        ensures crash { L.is_honest self.new.log → LeavesAllOrNone (L.held self.old.log) [] (L.may_leave self.old.log) (L.may_leave self.new.log) }
-        ensures found { L.is_honest self.new.log → (left : List LogRow) → L.may_leave self.new.log left →
-            L.may_leave self.old.log left ⊎ (sum_of (edits_in left) ≡ sum_of (edits_in (L.held self.old.log))) }
-        ensures saved { L.is_honest self.new.log → self.old.unsaved ≡ [] → (left : List LogRow) → L.may_leave self.new.log left →
-            L.may_leave self.old.log left ⊎ (sum_of (edits_in left) ≡ self.new.replica.store) }
+        ensures noted { L.is_honest self.new.log
+            → OnOk result (IsPermutation (L.peers self.old.log ++ met.now) (L.peers self.new.log)) }
+        ensures held { L.is_honest self.new.log
+            → OnOk result (L.held self.new.log ≡ L.held self.old.log) }
+        ensures lasts { L.is_honest self.new.log
+            → OnOk result (LeavesJust (L.held self.new.log) (L.may_leave self.new.log)) }
+        ensures crash { L.is_honest self.new.log
+            → LeavesAllOrNone (L.held self.old.log) [] (L.may_leave self.old.log)
+            (L.may_leave self.new.log) }
+        ensures found { L.is_honest self.new.log → (left : List LogRow)
+            → L.may_leave self.new.log left → L.may_leave self.old.log left
+            ⊎ (sum_of (edits_in left) ≡ sum_of (edits_in (L.held self.old.log))) }
+        ensures saved { L.is_honest self.new.log → self.old.unsaved ≡ [] → (left : List LogRow)
+            → L.may_leave self.new.log left
+            → L.may_leave self.old.log left ⊎ (sum_of (edits_in left) ≡ self.new.replica.store) }
         ensures whole { OnOk result (self.new.is_spent ≡ false) }
         ensures refused { OnErr result (self.new.is_spent ≡ true) }
         ensures running { OnOk result (L.is_running self.new.log) }

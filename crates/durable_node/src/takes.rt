@@ -50,7 +50,8 @@ fn news_of(store: &Store, other: &Store) -> Result<Vec<Edit>, AllocError>
 
 // A replica that holds what another store holds too, and how many places that changes.
 fn joined(replica: &Replica, other: &Store) -> Result<(Replica, u64), AllocError>
-    ensures joined { IfOk result (λ both. both.0 ≡ record replica.now { store = join replica.now.store other.now }) }
+    ensures joined { IfOk result
+        (λ both. both.0 ≡ record replica.now { store = join replica.now.store other.now }) }
     ensures changed { IfOk result (λ both. both.1 ≡ changed_places replica.now.store both.0.store) }
 {
     let mut next = replica.try_clone()?;
@@ -64,9 +65,13 @@ impl<L: EditLog> NodeFile<L> {
     /// Fails with `Counter` exactly if the piece has a counter of 2^63 or more, and with `Memory` only if memory runs out.
     /// Then it changes nothing.
     pub fn take(&mut self, piece: &Piece) -> Result<u64, NodeFault>
-        ensures joined { OnOk result (self.new.replica ≡ record self.old.replica { store = join self.old.replica.store piece.now }) }
-        ensures changed { IfOk result (λ changed. changed ≡ changed_places self.old.replica.store self.new.replica.store) }
-        ensures unsaved { OnOk result (self.new.unsaved ≡ self.old.unsaved ++ news_of self.old.replica.store piece.now) }
+        ensures joined { OnOk result
+            (self.new.replica
+            ≡ record self.old.replica { store = join self.old.replica.store piece.now }) }
+        ensures changed { IfOk result
+            (λ changed. changed ≡ changed_places self.old.replica.store self.new.replica.store) }
+        ensures unsaved { OnOk result
+            (self.new.unsaved ≡ self.old.unsaved ++ news_of self.old.replica.store piece.now) }
         ensures counter { IsErrOf result NodeFault.Counter ↔ (2 ^ 63 ≤ high_of piece.now) }
         ensures err { OnErr result (self.new ≡ self.old) }
         ensures log { self.new.log ≡ self.old.log }
@@ -77,9 +82,13 @@ impl<L: EditLog> NodeFile<L> {
 
     /// Joins a store into the replica alone, as `take` does a piece: the faults are those of `take`.
     pub fn join(&mut self, other: &Store) -> Result<u64, NodeFault>
-        ensures joined { OnOk result (self.new.replica ≡ record self.old.replica { store = join self.old.replica.store other.now }) }
-        ensures changed { IfOk result (λ changed. changed ≡ changed_places self.old.replica.store self.new.replica.store) }
-        ensures unsaved { OnOk result (self.new.unsaved ≡ self.old.unsaved ++ news_of self.old.replica.store other.now) }
+        ensures joined { OnOk result
+            (self.new.replica
+            ≡ record self.old.replica { store = join self.old.replica.store other.now }) }
+        ensures changed { IfOk result
+            (λ changed. changed ≡ changed_places self.old.replica.store self.new.replica.store) }
+        ensures unsaved { OnOk result
+            (self.new.unsaved ≡ self.old.unsaved ++ news_of self.old.replica.store other.now) }
         ensures counter { IsErrOf result NodeFault.Counter ↔ (2 ^ 63 ≤ high_of other.now) }
         ensures err { OnErr result (self.new ≡ self.old) }
         ensures log { self.new.log ≡ self.old.log }
@@ -101,9 +110,13 @@ impl<L: EditLog> NodeFile<L> {
     /// Fails with `Counter` exactly if the piece has a counter of 2^63 or more, and changes nothing. Fails with `Memory` only
     /// if memory runs out: then it changes nothing, or the node is spent, and what stands in its log is as it was.
     pub fn absorb(&mut self, piece: Piece) -> Result<u64, NodeFault>
-        ensures joined { OnOk result (self.new.replica ≡ record self.old.replica { store = join self.old.replica.store piece }) }
-        ensures changed { IfOk result (λ changed. changed ≡ changed_places self.old.replica.store self.new.replica.store) }
-        ensures unsaved { OnOk result (self.new.unsaved ≡ self.old.unsaved ++ news_of self.old.replica.store piece) }
+        ensures joined { OnOk result
+            (self.new.replica
+            ≡ record self.old.replica { store = join self.old.replica.store piece }) }
+        ensures changed { IfOk result
+            (λ changed. changed ≡ changed_places self.old.replica.store self.new.replica.store) }
+        ensures unsaved { OnOk result
+            (self.new.unsaved ≡ self.old.unsaved ++ news_of self.old.replica.store piece) }
         ensures counter { IsErrOf result NodeFault.Counter ↔ (2 ^ 63 ≤ high_of piece) }
         ensures above { 2 ^ 63 ≤ high_of piece → self.new ≡ self.old }
         ensures kept { OnErr result ((self.new.is_spent ≡ true) ⊎ (self.new ≡ self.old)) }

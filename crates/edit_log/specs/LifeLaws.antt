@@ -31,7 +31,8 @@ after-append w s [] is = refl
 after-append w s (h ∷ hs) is = after-append w (after_one w s h) hs is
 
 -- after an answered commit all that the node held stays in the log, whatever happens
-pub answered_stays : (w : ℕ) (s : Lived) (before later : List Happening) → HasPrefix (all_of (after w s before)) (after w s (before ++ Commit ∷ later)).logged
+pub answered_stays : (w : ℕ) (s : Lived) (before later : List Happening)
+    → HasPrefix (all_of (after w s before)) (after w s (before ++ Commit ∷ later)).logged
 answered_stays w s before later =
     subst (λ (t : Lived). HasPrefix (all_of (after w s before)) t.logged) (sym (after-append w s before (Commit ∷ later)))
     (logged_stays w (after_one w (after w s before) Commit) later)
@@ -50,7 +51,8 @@ one_asked w s (Restart whole) e m =
       | false ↦ λ n. inl (IsAmong-append_left e s.logged s.unsaved (subst (IsAmong e) (append-nil s.logged) n))
     ] m
 
-pub asked : (w : ℕ) (s : Lived) (hs : List Happening) (e : Edit) → IsAmong e (all_of (after w s hs)) → IsAmong e (all_of s) ⊎ IsAskedFor w e hs
+pub asked : (w : ℕ) (s : Lived) (hs : List Happening) (e : Edit) → IsAmong e (all_of (after w s hs))
+    → IsAmong e (all_of s) ⊎ IsAskedFor w e hs
 asked w s [] e m = inl m
 asked w s (h ∷ hs) e m = ⊎_elim
     (λ here. ⊎_elim (λ old. inl old) (λ asks. inr (inl asks)) (one_asked w s h e here))
@@ -78,7 +80,8 @@ fresh w s hs place content e m =
 -- these edits may come after a: of the writer's own each is one of a, or above it; and of those above no two have one version
 record MayFollow (w : ℕ) (a es : List Edit) : Type 0 where
   known : (e : Edit) → IsAmong e es → e.version.writer ≡ w → IsAmong e a ⊎ (high_among a < e.version.counter)
-  one : (e f : Edit) → IsAmong e es → IsAmong f es → e.version.writer ≡ w → f.version.writer ≡ w → high_among a < e.version.counter → e.version.counter ≡ f.version.counter → e ≡ f
+  one : (e f : Edit) → IsAmong e es → IsAmong f es → e.version.writer ≡ w → f.version.writer ≡ w
+      → high_among a < e.version.counter → e.version.counter ≡ f.version.counter → e ≡ f
 
 honest_more : (w : ℕ) (a es : List Edit) → IsHonestOf w a → MayFollow w a es → IsHonestOf w (a ++ es)
 honest_more w a es old new e f m n ew fw same = ⊎_elim
@@ -131,13 +134,15 @@ one_honest w s (Restart whole) honest own =
     ]
 
 -- no version of its own is ever made for two edits that are held at one time
-pub stays_honest : (w : ℕ) (s : Lived) (hs : List Happening) → IsHonestOf w (all_of s) → AlwaysTakesOwnBack w s hs → IsHonestOf w (all_of (after w s hs))
+pub stays_honest : (w : ℕ) (s : Lived) (hs : List Happening) → IsHonestOf w (all_of s) → AlwaysTakesOwnBack w s hs
+    → IsHonestOf w (all_of (after w s hs))
 stays_honest w s [] honest own = honest
 stays_honest w s (h ∷ hs) honest own = stays_honest w (after_one w s h) hs (one_honest w s h honest own.0) own.1
 
 -- ---- one life in place of many
 
-held_after-append : (w : ℕ) (held : List Edit) (hs is : List Happening) → held_after w held (hs ++ is) ≡ held_after w (held_after w held hs) is
+held_after-append : (w : ℕ) (held : List Edit) (hs is : List Happening)
+    → held_after w held (hs ++ is) ≡ held_after w (held_after w held hs) is
 held_after-append w held [] is = refl
 held_after-append w held (Put place content ∷ hs) is = held_after-append w (held ++ own_edit w held place content ∷ []) hs is
 held_after-append w held (Take edits ∷ hs) is = held_after-append w (held ++ edits.items) hs is
@@ -149,14 +154,16 @@ abbrev Survives : ℕ → List Happening → Type 0
 Survives w hs = (s : Lived) (pending : List Happening) → all_of s ≡ held_after w s.logged pending
     → all_of (after w s hs) ≡ held_after w s.logged (survivors pending hs)
 
-put_more : (w : ℕ) (s : Lived) (pending : List Happening) (place : PlaceParts) (content : Content) → all_of s ≡ held_after w s.logged pending
+put_more : (w : ℕ) (s : Lived) (pending : List Happening) (place : PlaceParts) (content : Content)
+    → all_of s ≡ held_after w s.logged pending
     → all_of (after_one w s (Put place content)) ≡ held_after w s.logged (pending ++ Put place content ∷ [])
 put_more w s pending place content same =
     sym (append_assoc s.logged s.unsaved _) ∙ ap (λ (l : List Edit). l ++ own_edit w l place content ∷ []) same
     ∙ sym (held_after-append w s.logged pending (Put place content ∷ []))
 
 take_more : (w : ℕ) (s : Lived) (pending : List Happening) (h : Happening) (es : List Edit) → all_of s ≡ held_after w s.logged pending
-    → ((held : List Edit) → held_after w held (h ∷ []) ≡ held ++ es) → (s.logged ++ (s.unsaved ++ es)) ≡ held_after w s.logged (pending ++ h ∷ [])
+    → ((held : List Edit) → held_after w held (h ∷ []) ≡ held ++ es)
+    → (s.logged ++ (s.unsaved ++ es)) ≡ held_after w s.logged (pending ++ h ∷ [])
 take_more w s pending h es same takes =
     sym (append_assoc s.logged s.unsaved es) ∙ ap (λ (l : List Edit). l ++ es) same ∙ sym (takes (held_after w s.logged pending)) ∙ sym (held_after-append w s.logged pending (h ∷ []))
 

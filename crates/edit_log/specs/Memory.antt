@@ -12,7 +12,8 @@ MayLeave rows None left = left ≡ rows
 MayLeave rows (Some group) left = (left ≡ rows) ⊎ (left ≡ rows ++ group.items)
 
 -- while it has not failed, it leaves its rows
-pub running_leaves : (rows : List LogRow) (failed : Option (Vec LogRow Global)) (left : List LogRow) → failed ≡ None → MayLeave rows failed left → IsPermutation rows left
+pub running_leaves : (rows : List LogRow) (failed : Option (Vec LogRow Global)) (left : List LogRow) → failed ≡ None
+    → MayLeave rows failed left → IsPermutation rows left
 running_leaves rows failed left none may =
     let same : left ≡ rows = subst (λ f. MayLeave rows f left) none may in
     subst (IsPermutation rows) (sym same) (IsPermutation-refl rows)

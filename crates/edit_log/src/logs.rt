@@ -129,9 +129,13 @@ pub trait EditLog {
     fn append(&mut self, edits: &[Edit], time: u32) -> Result<(), LogFault>
         requires running { is_running self.old }
         requires counters { high_among edits.now < 2 ^ 63 }
-        ensures held { is_honest self.new → OnOk result (IsPermutation (held self.old ++ stamped time edits.now) (held self.new)) }
+        ensures held { is_honest self.new
+            → OnOk result
+            (IsPermutation (held self.old ++ stamped time edits.now) (held self.new)) }
         ensures peers { is_honest self.new → OnOk result (peers self.new ≡ peers self.old) }
-        ensures crash { is_honest self.new → LeavesAllOrNone (held self.old) (stamped time edits.now) (may_leave self.old) (may_leave self.new) }
+        ensures crash { is_honest self.new
+            → LeavesAllOrNone (held self.old) (stamped time edits.now) (may_leave self.old)
+            (may_leave self.new) }
         ensures running { OnOk result (is_running self.new) }
         ensures head { head self.new ≡ head self.old }
         ensures honest { is_honest self.new → is_honest self.old };
@@ -139,10 +143,12 @@ pub trait EditLog {
     /// Returns all rows, in some order. A crash leaves what it could leave before.
     fn read(&mut self, alloc: Global) -> Result<Vec<LogRow>, LogFault>
         requires running { is_running self.old }
-        ensures rows { is_honest self.new → IfOk result (λ rows. IsPermutation (held self.old) rows.items) }
+        ensures rows { is_honest self.new
+            → IfOk result (λ rows. IsPermutation (held self.old) rows.items) }
         ensures held { is_honest self.new → OnOk result (held self.new ≡ held self.old) }
         ensures peers { is_honest self.new → OnOk result (peers self.new ≡ peers self.old) }
-        ensures crash { is_honest self.new → LeavesNothingNew (may_leave self.old) (may_leave self.new) }
+        ensures crash { is_honest self.new
+            → LeavesNothingNew (may_leave self.old) (may_leave self.new) }
         ensures running { OnOk result (is_running self.new) }
         ensures head { head self.new ≡ head self.old }
         ensures honest { is_honest self.new → is_honest self.old };
@@ -153,9 +159,11 @@ pub trait EditLog {
     /// that it held.
     fn note_peers(&mut self, met: &[LogPeer]) -> Result<(), LogFault>
         requires running { is_running self.old }
-        ensures noted { is_honest self.new → OnOk result (IsPermutation (peers self.old ++ met.now) (peers self.new)) }
+        ensures noted { is_honest self.new
+            → OnOk result (IsPermutation (peers self.old ++ met.now) (peers self.new)) }
         ensures held { is_honest self.new → OnOk result (held self.new ≡ held self.old) }
-        ensures crash { is_honest self.new → LeavesAllOrNone (held self.old) [] (may_leave self.old) (may_leave self.new) }
+        ensures crash { is_honest self.new
+            → LeavesAllOrNone (held self.old) [] (may_leave self.old) (may_leave self.new) }
         ensures running { OnOk result (is_running self.new) }
         ensures head { head self.new ≡ head self.old }
         ensures honest { is_honest self.new → is_honest self.old };
@@ -163,14 +171,17 @@ pub trait EditLog {
     /// Returns all peers that are noted, in some order. A crash leaves what it could leave before.
     fn peers(&mut self, alloc: Global) -> Result<Vec<LogPeer>, LogFault>
         requires running { is_running self.old }
-        ensures all { is_honest self.new → IfOk result (λ all. IsPermutation (peers self.old) all.items) }
+        ensures all { is_honest self.new
+            → IfOk result (λ all. IsPermutation (peers self.old) all.items) }
         ensures peers { is_honest self.new → OnOk result (peers self.new ≡ peers self.old) }
         ensures held { is_honest self.new → OnOk result (held self.new ≡ held self.old) }
-        ensures crash { is_honest self.new → LeavesNothingNew (may_leave self.old) (may_leave self.new) }
+        ensures crash { is_honest self.new
+            → LeavesNothingNew (may_leave self.old) (may_leave self.new) }
         ensures running { OnOk result (is_running self.new) }
         ensures head { head self.new ≡ head self.old }
         ensures honest { is_honest self.new → is_honest self.old };
 
     /// While it runs, a crash leaves the rows that stand in it and no others.
-    ghost lasts: { (log : Self) → is_honest log → is_running log → LeavesJust (held log) (may_leave log) };
+    ghost lasts: { (log : Self) → is_honest log → is_running log
+        → LeavesJust (held log) (may_leave log) };
 }

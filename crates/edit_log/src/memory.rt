@@ -47,7 +47,8 @@ impl MemoryLog {
     pub fn after_crash(self, whole: bool, steps: u64) -> Result<MemoryLog, AllocError>
         ensures running { IfOk result (λ log. log.failed ≡ None) }
         ensures left { IfOk result (λ log. MayLeave self.rows.items self.failed log.rows.items) }
-        ensures peers { IfOk result (λ log. (log.peers.items ≡ self.peers.items) ⊎ (log.peers.items ≡ self.peers.items ++ self.missed.items)) }
+        ensures peers { IfOk result (λ log. (log.peers.items ≡ self.peers.items)
+            ⊎ (log.peers.items ≡ self.peers.items ++ self.missed.items)) }
         ensures head { IfOk result (λ log. log.head ≡ self.head) }
     {
         let MemoryLog {
@@ -94,7 +95,8 @@ fn peers_left(
     mut missed: Vec<LogPeer>,
     whole: bool,
 ) -> Result<Vec<LogPeer>, AllocError>
-    ensures left { IfOk result (λ left. (left.items ≡ peers.items) ⊎ (left.items ≡ peers.items ++ missed.items)) }
+    ensures left { IfOk result
+        (λ left. (left.items ≡ peers.items) ⊎ (left.items ≡ peers.items ++ missed.items)) }
 {
     if whole {
         peers.append(&mut missed)?;
@@ -140,7 +142,8 @@ impl EditLog for MemoryLog {
 
     ghost may_leave = { λ log. MayLeave log.rows.items log.failed };
 
-    ghost lasts = { λ log honest running left may. running_leaves log.rows.items log.failed left running may };
+    ghost lasts = { λ log honest running left may.
+        running_leaves log.rows.items log.failed left running may };
 
     fn head(&self) -> LogHead {
         self.head

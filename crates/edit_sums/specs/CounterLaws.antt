@@ -56,7 +56,8 @@ high_of-sum_of es =
     let up : high_among es ≤ high_of (sum_of es) = high_among-least es (high_of (sum_of es)) (λ e a. held e (finmap.get (sum_of es) e.place) refl ((sum_of-IsSum es).above e a)) in
     omega arith
   where
-    held : (e : Edit) (y : Option Entry) → finmap.get (sum_of es) e.place ≡ y → IsBelow (Some (entry_of e)) y → e.version.counter ≤ high_of (sum_of es)
+    held : (e : Edit) (y : Option Entry) → finmap.get (sum_of es) e.place ≡ y → IsBelow (Some (entry_of e)) y
+        → e.version.counter ≤ high_of (sum_of es)
     held e None g b = absurd b
     held e (Some y) g b =
         let low = counter_of_below (entry_of e) y b in

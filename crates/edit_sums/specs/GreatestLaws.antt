@@ -20,7 +20,8 @@ filled x None = refl
 filled x (Some y) =
     elim (is_gt (entry_cmp x y)) as (λ b. Some (unwrap_or (cond b (Some x) (Some y)) x) ≡ cond b (Some x) (Some y)) [ true ↦ refl | false ↦ refl ]
 
-pub get-with_edit : (s : EntryMap) (e : Edit) (q : PlaceParts) → finmap.get (with_edit s e) q ≡ cond (eq_by_cmp place_cmp q e.place) (larger (Some (entry_of e)) (finmap.get s q)) (finmap.get s q)
+pub get-with_edit : (s : EntryMap) (e : Edit) (q : PlaceParts) → finmap.get (with_edit s e) q
+    ≡ cond (eq_by_cmp place_cmp q e.place) (larger (Some (entry_of e)) (finmap.get s q)) (finmap.get s q)
 get-with_edit s e q =
     finmap.get-insert place_cmp_total s e.place _ q ∙
     elim (eq_by_cmp place_cmp q e.place) as (λ b. eq_by_cmp place_cmp q e.place ≡ b → cond b (Some (unwrap_or (larger (Some (entry_of e)) (finmap.get s e.place)) (entry_of e))) (finmap.get s q) ≡ cond b (larger (Some (entry_of e)) (finmap.get s q)) (finmap.get s q)) [
@@ -71,7 +72,8 @@ greatest_at-found q (f ∷ fs) x h =
     ] refl h
 
 -- the greatest is at most everything that each edit is at most
-pub greatest_at-least : (q : PlaceParts) (es : List Edit) (z : Option Entry) → ((e : Edit) → IsAmong e es → e.place ≡ q → IsBelow (Some (entry_of e)) z) → IsBelow (greatest_at q es) z
+pub greatest_at-least : (q : PlaceParts) (es : List Edit) (z : Option Entry)
+    → ((e : Edit) → IsAmong e es → e.place ≡ q → IsBelow (Some (entry_of e)) z) → IsBelow (greatest_at q es) z
 greatest_at-least q [] z h = tt
 greatest_at-least q (f ∷ fs) z h =
     let rest : IsBelow (greatest_at q fs) z = greatest_at-least q fs z (λ e a p. h e (inr a) p) in
@@ -81,7 +83,8 @@ greatest_at-least q (f ∷ fs) z h =
     ] refl
 
 -- more edits give a greater sum
-pub greatest_at-mono : (q : PlaceParts) (xs ys : List Edit) → ((e : Edit) → IsAmong e xs → IsAmong e ys) → IsBelow (greatest_at q xs) (greatest_at q ys)
+pub greatest_at-mono : (q : PlaceParts) (xs ys : List Edit) → ((e : Edit) → IsAmong e xs → IsAmong e ys)
+    → IsBelow (greatest_at q xs) (greatest_at q ys)
 greatest_at-mono q xs ys within =
     greatest_at-least q xs _ (λ e a p. subst (λ (r : PlaceParts). IsBelow (Some (entry_of e)) (greatest_at r ys)) p (greatest_at-above e ys (within e a)))
 
@@ -103,7 +106,8 @@ abbrev pub passed : (Edit → Bool) → PlaceParts → Option Entry → Option E
 passed p q None = None
 passed p q (Some x) = cond (p (edit_of (q, x))) (Some x) None
 
-greatest_at-passed : (p : Edit → Bool) (q : PlaceParts) (es : List (PlaceParts × Entry)) → T (is_sorted place_cmp es) → greatest_at q (filter p (map edit_of es)) ≡ passed p q (find place_cmp q es)
+greatest_at-passed : (p : Edit → Bool) (q : PlaceParts) (es : List (PlaceParts × Entry)) → T (is_sorted place_cmp es)
+    → greatest_at q (filter p (map edit_of es)) ≡ passed p q (find place_cmp q es)
 greatest_at-passed p q [] h = refl
 greatest_at-passed p q (e ∷ es) h =
     let rest : greatest_at q (filter p (map edit_of es)) ≡ passed p q (find place_cmp q es) = greatest_at-passed p q es (T-both _ _ h).1 in
@@ -122,7 +126,8 @@ greatest_at-passed p q (e ∷ es) h =
       ] ∙ rest
     ] refl
 
-pub greatest_at-filter : (p : Edit → Bool) (q : PlaceParts) (s : EntryMap) → greatest_at q (filter p (edits_of s)) ≡ passed p q (finmap.get s q)
+pub greatest_at-filter : (p : Edit → Bool) (q : PlaceParts) (s : EntryMap)
+    → greatest_at q (filter p (edits_of s)) ≡ passed p q (finmap.get s q)
 greatest_at-filter p q s =
     greatest_at-passed p q (finmap.entries s) (finmap.entries_sorted s) ∙ ap (passed p q) (sym (finmap.get-entries s q))
 
@@ -144,7 +149,8 @@ get-join s t q =
     get-sum_of (edits_of s ++ edits_of t) q ∙ greatest_at-append q (edits_of s) (edits_of t) ∙
     ap (λ y. larger y (greatest_at q (edits_of t))) (greatest_at-edits_of q s) ∙ ap (larger (finmap.get s q)) (greatest_at-edits_of q t)
 
-entry_in : (e : Edit) (es : List (PlaceParts × Entry)) → T (is_sorted place_cmp es) → IsAmong e (map edit_of es) → find place_cmp e.place es ≡ Some (entry_of e)
+entry_in : (e : Edit) (es : List (PlaceParts × Entry)) → T (is_sorted place_cmp es) → IsAmong e (map edit_of es)
+    → find place_cmp e.place es ≡ Some (entry_of e)
 entry_in e [] h a = absurd a
 entry_in e (f ∷ fs) h (inl a) =
     let here : f.0 ≡ e.place = λ i. (a i).place in

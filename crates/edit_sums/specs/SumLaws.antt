@@ -25,7 +25,8 @@ sum_of-append xs ys =
     sym (get-join (sum_of xs) (sum_of ys) q ∙ ap (λ y. larger y (finmap.get (sum_of ys) q)) (get-sum_of xs q) ∙ ap (larger (greatest_at q xs)) (get-sum_of ys q)))
 
 -- a sum depends only on the set of edits, not on their order or on repetitions
-pub sum_of-same_edits : (xs ys : List Edit) → ((e : Edit) → IsAmong e xs → IsAmong e ys) → ((e : Edit) → IsAmong e ys → IsAmong e xs) → sum_of xs ≡ sum_of ys
+pub sum_of-same_edits : (xs ys : List Edit) → ((e : Edit) → IsAmong e xs → IsAmong e ys)
+    → ((e : Edit) → IsAmong e ys → IsAmong e xs) → sum_of xs ≡ sum_of ys
 sum_of-same_edits xs ys there back =
     same_store _ _
     (λ q. get-sum_of xs q ∙ below_antisym _ _ (greatest_at-mono q xs ys there) (greatest_at-mono q ys xs back) ∙ sym (get-sum_of ys q))

@@ -10,7 +10,8 @@ pub fn sum_laws()
     ensures sum { (es : List Edit) → IsSum es (sum_of es) }
     ensures members { (xs ys : List Edit) → ((e : Edit) → IsAmong e xs → IsAmong e ys)
         → ((e : Edit) → IsAmong e ys → IsAmong e xs) → sum_of xs ≡ sum_of ys }
-    ensures above { (es : List Edit) (s : EntryMap) → IsStoreBelow (sum_of es) s ↔ IsAboveEdits es s }
+    ensures above { (es : List Edit) (s : EntryMap) → IsStoreBelow (sum_of es) s
+        ↔ IsAboveEdits es s }
     ensures append { (xs ys : List Edit) → sum_of (xs ++ ys) ≡ join (sum_of xs) (sum_of ys) }
     ensures counters { CountersDecide }
     ensures writers { WritersDecide }
@@ -22,11 +23,13 @@ pub fn sum_laws()
 /// idempotent.
 pub fn joins_of_stores()
     ensures reflexive { (s : EntryMap) → IsStoreBelow s s }
-    ensures transitive { (s t u : EntryMap) → IsStoreBelow s t → IsStoreBelow t u → IsStoreBelow s u }
+    ensures transitive { (s t u : EntryMap) → IsStoreBelow s t → IsStoreBelow t u
+        → IsStoreBelow s u }
     ensures antisymmetric { (s t : EntryMap) → IsStoreBelow s t → IsStoreBelow t s → s ≡ t }
     ensures left { (s t : EntryMap) → IsStoreBelow s (join s t) }
     ensures right { (s t : EntryMap) → IsStoreBelow t (join s t) }
-    ensures least { (s t u : EntryMap) → IsStoreBelow s u → IsStoreBelow t u → IsStoreBelow (join s t) u }
+    ensures least { (s t u : EntryMap) → IsStoreBelow s u → IsStoreBelow t u
+        → IsStoreBelow (join s t) u }
     ensures commutative { (s t : EntryMap) → join s t ≡ join t s }
     ensures associative { (s t u : EntryMap) → join (join s t) u ≡ join s (join t u) }
     ensures idempotent { (s : EntryMap) → join s s ≡ s }

@@ -9,14 +9,16 @@ use Rattle.byte_fields.specs.Spelling.{number}
 use Rattle.store_bytes.specs.ListReading.{Reader}
 use Rattle.exchange_bytes.specs.Chains.{AreChained, chain, chain_at, chained, chained_at, IsChain}
 
-module _ {S A : Type 0} (at : S → Reader A) (text : S → A → List ℕ) (told : A → S) (Fits : S → A → Type 0) (IsTold : S → Type 0) (field : (s : S) → IsTold s → IsField (at s) (text s) (Fits s))
+module _ {S A : Type 0} (at : S → Reader A) (text : S → A → List ℕ) (told : A → S) (Fits : S → A → Type 0)
+    (IsTold : S → Type 0) (field : (s : S) → IsTold s → IsField (at s) (text s) (Fits s))
     (goes_on : (s : S) (x : A) → Fits s x → IsTold (told x)) where
   pub record AreRead (s : S) (n : ℕ) (bytes : List ℕ) (xs : List A) (rest : List ℕ) : Type 0 where
     pub taken : Takes bytes (chain text told s xs) rest
     pub count : length xs ≡ n
     pub each : IsChain Fits told s xs
 
-  chain_takes : (n : ℕ) (s : S) (bytes : List ℕ) (x : List A × List ℕ) → IsTold s → IsBytes bytes → chain_at at told n s bytes ≡ Ok x → AreRead s n bytes x.0 x.1
+  chain_takes : (n : ℕ) (s : S) (bytes : List ℕ) (x : List A × List ℕ) → IsTold s → IsBytes bytes
+      → chain_at at told n s bytes ≡ Ok x → AreRead s n bytes x.0 x.1
   unfolding chain_at
   chain_takes zero s bytes x is fits e =
       subst (λ (y : List A × List ℕ). AreRead s 0 bytes y.0 y.1) (ok_is ([], bytes) x e) (record { taken = record { parts = refl; rest_fits = fits }; count = refl; each = tt })
@@ -32,7 +34,8 @@ module _ {S A : Type 0} (at : S → Reader A) (text : S → A → List ℕ) (tol
         each = (first.1, second.each);
       })
 
-  chain_again : (s : S) (xs : List A) (rest : List ℕ) → IsTold s → IsChain Fits told s xs → chain_at at told (length xs) s (chain text told s xs ++ rest) ≡ Ok (xs, rest)
+  chain_again : (s : S) (xs : List A) (rest : List ℕ) → IsTold s → IsChain Fits told s xs
+      → chain_at at told (length xs) s (chain text told s xs ++ rest) ≡ Ok (xs, rest)
   unfolding chain_at
   chain_again s [] rest is each = refl
   chain_again s (x ∷ xs) rest is each =
@@ -40,7 +43,8 @@ module _ {S A : Type 0} (at : S → Reader A) (text : S → A → List ℕ) (tol
       ap (chain_at at told (suc (length xs)) s) regrouped
       ∙ rw ((field s is).again x (chain text told (told x) xs ++ rest) each.0, chain_again (told x) xs rest (goes_on s x each.0) each.1) refl
 
-  chained_takes : (s : S) → IsTold s → (bytes : List ℕ) (x : List A × List ℕ) → IsBytes bytes → chained_at at told s bytes ≡ Ok x → Takes bytes (chained text told s x.0) x.1 × AreChained Fits told s x.0
+  chained_takes : (s : S) → IsTold s → (bytes : List ℕ) (x : List A × List ℕ) → IsBytes bytes
+      → chained_at at told s bytes ≡ Ok x → Takes bytes (chained text told s x.0) x.1 × AreChained Fits told s x.0
   unfolding chained_at
   chained_takes s is bytes x fits e =
       let a = bind_ok (number_at bytes) (λ n. chain_at at told n.0 s n.1) x e in
@@ -50,7 +54,8 @@ module _ {S A : Type 0} (at : S → Reader A) (text : S → A → List ℕ) (tol
         record { count = omega (arith, second.count, first.1); each = second.each },
       )
 
-  chained_again : (s : S) → IsTold s → (xs : List A) (rest : List ℕ) → AreChained Fits told s xs → chained_at at told s (chained text told s xs ++ rest) ≡ Ok (xs, rest)
+  chained_again : (s : S) → IsTold s → (xs : List A) (rest : List ℕ) → AreChained Fits told s xs
+      → chained_at at told s (chained text told s xs ++ rest) ≡ Ok (xs, rest)
   unfolding chained_at
   chained_again s is xs rest are =
       ap (λ (l : List ℕ). number_at l >>= λ count. chain_at at told count.0 s count.1) (append_assoc (number (length xs)) (chain text told s xs) rest)

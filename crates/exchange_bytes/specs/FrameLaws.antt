@@ -20,7 +20,8 @@ use Rattle.exchange_bytes.specs.Spelling.{fields, frame_spelling, HasFrameSpelli
 abbrev inner_from : List ℕ → Result FrameParts SpellingFault
 inner_from inner = fields_at inner >>= whole
 
-pub frame_taken : (bytes : List ℕ) (f : FrameParts) → IsBytes bytes → frame_in bytes ≡ Ok f → HasFrameSpelling f × (bytes ≡ frame_spelling f)
+pub frame_taken : (bytes : List ℕ) (f : FrameParts) → IsBytes bytes → frame_in bytes ≡ Ok f
+    → HasFrameSpelling f × (bytes ≡ frame_spelling f)
 unfolding frame_in
 frame_taken bytes f fits e =
     let a = bind_ok (opened 4 bytes) inner_from f e in

@@ -48,7 +48,8 @@ record IsSeenAs {A B : Type 0} (s : A → List ℕ) (P : A → Type 0) (text : B
   pub fits : (a : A) → P a → R (make a)
   pub plain : (b : B) → R b → P (back b)
 
-module _ {A B : Type 0} (f : Reader A) (s : A → List ℕ) (P : A → Type 0) (text : B → List ℕ) (R : B → Type 0) (make : A → B) (F : IsField f s P) (M : IsSeenAs s P text R make) where
+module _ {A B : Type 0} (f : Reader A) (s : A → List ℕ) (P : A → Type 0) (text : B → List ℕ) (R : B → Type 0)
+    (make : A → B) (F : IsField f s P) (M : IsSeenAs s P text R make) where
   abbrev seen_at : Reader B
   seen_at bytes = f bytes >>= λ a. Ok (make a.0, a.1)
 
@@ -79,11 +80,13 @@ not_told last p other = ap (λ (b : Bool). cond b (1 ∷ []) (2 ∷ place p)) ot
 abbrev IsTaken : Option PlaceParts → List ℕ → Option PlaceParts × List ℕ → Type 0
 IsTaken last bytes x = Takes bytes (bound last x.0) x.1 × IsBound x.0
 
-last_takes : (last : Option PlaceParts) (bytes rest : List ℕ) (x : Option PlaceParts × List ℕ) → IsBound last → Takes bytes (1 ∷ []) rest → last_from last rest ≡ Ok x → IsTaken last bytes x
+last_takes : (last : Option PlaceParts) (bytes rest : List ℕ) (x : Option PlaceParts × List ℕ) → IsBound last
+    → Takes bytes (1 ∷ []) rest → last_from last rest ≡ Ok x → IsTaken last bytes x
 last_takes None bytes rest x is t e = absurd cc
 last_takes (Some q) bytes rest x is t e = subst (IsTaken (Some q) bytes) (ok_is (Some q, rest) x e) (subst (λ (l : List ℕ). Takes bytes l rest) (sym (told_again q)) t, is)
 
-other_takes : (last : Option PlaceParts) (bytes rest : List ℕ) (x : Option PlaceParts × List ℕ) → Takes bytes (2 ∷ []) rest → (place_at rest >>= other_from last) ≡ Ok x → IsTaken last bytes x
+other_takes : (last : Option PlaceParts) (bytes rest : List ℕ) (x : Option PlaceParts × List ℕ)
+    → Takes bytes (2 ∷ []) rest → (place_at rest >>= other_from last) ≡ Ok x → IsTaken last bytes x
 other_takes last bytes rest x t e =
     let p = bind_ok (place_at rest) (other_from last) x e in
     let u = place_field.takes rest p.0 t.rest_fits p.1 in
@@ -94,7 +97,8 @@ other_takes last bytes rest x t e =
     (subst (λ (l : List ℕ). Takes bytes l p.0.1) (sym (not_told last p.0.0 other.0)) (Takes-then bytes (2 ∷ []) rest (place p.0.0) p.0.1 t u.0), u.1))
     (chosen (is_last last p.0.0) (Err fault.Order) (Ok (Some p.0.0, p.0.1)) (Ok x) p.2)
 
-bound_takes : (last : Option PlaceParts) → IsBound last → (bytes : List ℕ) (x : Option PlaceParts × List ℕ) → IsBytes bytes → bound_at last bytes ≡ Ok x → IsTaken last bytes x
+bound_takes : (last : Option PlaceParts) → IsBound last → (bytes : List ℕ) (x : Option PlaceParts × List ℕ)
+    → IsBytes bytes → bound_at last bytes ≡ Ok x → IsTaken last bytes x
 unfolding bound_at
 bound_takes last is bytes x fits e =
     let b = bind_ok (byte_at bytes) (bound_from last) x e in
@@ -116,7 +120,8 @@ last_again : (last : Option PlaceParts) (p : PlaceParts) (rest : List ℕ) → i
 last_again None p rest same = absurd cc
 last_again (Some q) p rest same = ap (λ (z : PlaceParts). Ok (Some z, rest)) (place_cmp-IsAntisymmetric q p (is_equal _ same))
 
-bound_again : (last : Option PlaceParts) (b : Option PlaceParts) (rest : List ℕ) → IsBound b → bound_at last (bound last b ++ rest) ≡ Ok (b, rest)
+bound_again : (last : Option PlaceParts) (b : Option PlaceParts) (rest : List ℕ) → IsBound b
+    → bound_at last (bound last b ++ rest) ≡ Ok (b, rest)
 unfolding bound_at
 bound_again last None rest fits = refl
 bound_again last (Some p) rest fits = by (is_last last p) refl
@@ -138,7 +143,8 @@ until_from from until = Ok (record { from = from; until = until.0 }, until.1)
 abbrev range_from : Option PlaceParts × List ℕ → Result (Range × List ℕ) SpellingFault
 range_from from = bound_at from.0 from.1 >>= until_from from.0
 
-range_takes : (last : Option PlaceParts) → IsBound last → (bytes : List ℕ) (x : Range × List ℕ) → IsBytes bytes → range_at last bytes ≡ Ok x → Takes bytes (range last x.0) x.1 × IsRange x.0
+range_takes : (last : Option PlaceParts) → IsBound last → (bytes : List ℕ) (x : Range × List ℕ) → IsBytes bytes
+    → range_at last bytes ≡ Ok x → Takes bytes (range last x.0) x.1 × IsRange x.0
 unfolding range_at
 range_takes last is bytes x fits e =
     let a = bind_ok (bound_at last bytes) range_from x e in

@@ -42,7 +42,8 @@ unfolding number_within
 number_short zero n = omega arith
 number_short (suc k) n = by (ltb n 128) (number_short k (n / 128))
   where
-    by : (b : Bool) → length (number_within k (n / 128)) ≤ k → length (cond b (n ∷ []) ((n % 128 + 128) ∷ number_within k (n / 128))) ≤ suc k
+    by : (b : Bool) → length (number_within k (n / 128)) ≤ k
+        → length (cond b (n ∷ []) ((n % 128 + 128) ∷ number_within k (n / 128))) ≤ suc k
     by true rest = omega arith
     by false rest = omega (arith, rest)
 
@@ -128,7 +129,8 @@ print_short last it is =
     let parts = length-append (range last it.range) (number it.print) in
     omega (arith, a, b, parts)
 
-versions_short : (vs : List (PlaceParts × Version)) → AllByRecursion (λ p. IsPlace p.0 × IsVersion p.1) vs → length (flat_map (pair place version) vs) ≤ 598 * length vs
+versions_short : (vs : List (PlaceParts × Version)) → AllByRecursion (λ p. IsPlace p.0 × IsVersion p.1) vs
+    → length (flat_map (pair place version) vs) ≤ 598 * length vs
 versions_short [] each = omega arith
 versions_short (v ∷ vs) each =
     let rest = versions_short vs each.1 in
@@ -154,7 +156,8 @@ ask_short last it is =
     let least : min (length vs) 1498 ≡ length vs = omega (arith, few) in
     omega (arith, a, b, c, list, parts, least)
 
-chain_short : {S A : Type 0} (text : S → A → List ℕ) (told : A → S) (Fits : S → A → Type 0) (weight : A → ℕ) → ((s : S) (x : A) → Fits s x → length (text s x) ≤ weight x) → (s : S) (xs : List A) → IsChain Fits told s xs
+chain_short : {S A : Type 0} (text : S → A → List ℕ) (told : A → S) (Fits : S → A → Type 0) (weight : A → ℕ)
+    → ((s : S) (x : A) → Fits s x → length (text s x) ≤ weight x) → (s : S) (xs : List A) → IsChain Fits told s xs
     → length (chain text told s xs) ≤ total weight xs
 chain_short text told Fits weight one s [] each = omega arith
 chain_short text told Fits weight one s (x ∷ xs) each =
@@ -163,14 +166,16 @@ chain_short text told Fits weight one s (x ∷ xs) each =
     let parts = length-append (text s x) (chain text told (told x) xs) in
     omega (arith, a, rest, parts)
 
-few_asks : (last : Option PlaceParts) (its : List RangeAsk) → IsChain IsAsk ask_tells last its → AllByRecursion TellsFew its → IsChain IsFewAsk ask_tells last its
+few_asks : (last : Option PlaceParts) (its : List RangeAsk) → IsChain IsAsk ask_tells last its
+    → AllByRecursion TellsFew its → IsChain IsFewAsk ask_tells last its
 unfolding IsFewAsk
 few_asks last [] each few = tt
 few_asks last (it ∷ its) each few = ((each.0, few.0), few_asks (ask_tells it) its each.1 few.1)
 
 -- ---- pieces
 
-own_short : (es : List (PathParts × Entry)) → AllByRecursion (λ p. IsPath p.0 × IsEntry p.1) es → length (flat_map (pair path entry) es) + 156 * length es ≤ total (λ e. content_weight e.1.content) es
+own_short : (es : List (PathParts × Entry)) → AllByRecursion (λ p. IsPath p.0 × IsEntry p.1) es
+    → length (flat_map (pair path entry) es) + 156 * length es ≤ total (λ e. content_weight e.1.content) es
 own_short [] each = omega arith
 own_short (e ∷ es) each =
     let rest = own_short es each.1 in
@@ -188,7 +193,8 @@ total_placed : (s : Scope) (es : List (PathParts × Entry)) → total entry_weig
 total_placed s [] = refl
 total_placed s (e ∷ es) = ap (λ n. content_weight e.1.content + n) (total_placed s es)
 
-scopes_short : (gs : List Scoped) → AllByRecursion (λ g. IsScope g.0 × AreGroup path_cmp IsPath IsEntry g.1) gs → length (flat_map (pair scope (pairs path entry)) gs) ≤ total entry_weight (flattened gs)
+scopes_short : (gs : List Scoped) → AllByRecursion (λ g. IsScope g.0 × AreGroup path_cmp IsPath IsEntry g.1) gs
+    → length (flat_map (pair scope (pairs path entry)) gs) ≤ total entry_weight (flattened gs)
 scopes_short [] each = omega arith
 scopes_short (g ∷ gs) each =
     let rest = scopes_short gs each.1 in

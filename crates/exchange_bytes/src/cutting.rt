@@ -52,9 +52,11 @@ pub fn frames_of(
     ensures prints { IfOk result (λ frames. all_prints frames.items ≡ message.prints.items) }
     ensures asks { IfOk result (λ frames. all_asks frames.items ≡ message.asks.items) }
     // Whoever takes the frames' pieces takes the message's.
-    ensures pieces { IfOk result (λ frames. (s : EntryMap) → joined s (all_pieces frames.items) ≡ joined s message.pieces.items) }
+    ensures pieces { IfOk result (λ frames. (s : EntryMap)
+        → joined s (all_pieces frames.items) ≡ joined s message.pieces.items) }
     ensures frames { IfOk result (λ frames. AreFrames hello frames.items) }
-    ensures one { IfOk result (λ frames. message_weight message ≤ frame_limit → length frames.items ≡ 1) }
+    ensures one { IfOk result
+        (λ frames. message_weight message ≤ frame_limit → length frames.items ≡ 1) }
     // Each weighs no more than a frame may; `frames_are_short` says what that is in bytes.
     ensures small { IfOk result (λ frames. All IsSmall frames.items) }
 {
@@ -215,7 +217,8 @@ impl Packing {
     fn with_pieces(self, pieces: Vec<Piece>) -> Result<Packing, AllocError>
         ensures prints { IfOk result (λ now. prints_in now ≡ prints_in self) }
         ensures asks { IfOk result (λ now. asks_in now ≡ asks_in self) }
-        ensures pieces { IfOk result (λ now. (s : EntryMap) → joined s (pieces_in now) ≡ joined (joined s (pieces_in self)) pieces.items) }
+        ensures pieces { IfOk result (λ now. (s : EntryMap)
+            → joined s (pieces_in now) ≡ joined (joined s (pieces_in self)) pieces.items) }
         ensures linked { IfOk result (λ now. (first : _) → IsOpen first self → IsOpen first now) }
         ensures heavier { IfOk result (λ now. GrowsBy self now (total piece_weight pieces.items)) }
         ensures small { IfOk result (λ now. HasRoom self 0 → HasRoom now 0) }
@@ -232,8 +235,10 @@ impl Packing {
         ensures prints { IfOk result (λ frames. all_prints frames.items ≡ prints_in self) }
         ensures asks { IfOk result (λ frames. all_asks frames.items ≡ asks_in self) }
         ensures pieces { IfOk result (λ frames. all_pieces frames.items ≡ pieces_in self) }
-        ensures frames { IfOk result (λ frames. (first : _) → IsOpen first self → AreFrames first frames.items) }
-        ensures count { IfOk result (λ frames. length frames.items ≡ suc (length self.frames.items)) }
+        ensures frames { IfOk result
+            (λ frames. (first : _) → IsOpen first self → AreFrames first frames.items) }
+        ensures count { IfOk result
+            (λ frames. length frames.items ≡ suc (length self.frames.items)) }
         ensures small { IfOk result (λ frames. HasRoom self 0 → All IsSmall frames.items) }
     {
         let Packing {

@@ -58,7 +58,8 @@ impl Peers {
 
     /// Adds a peer, unless it is there. Moves those above it. Fails only if memory runs out; then nothing has changed.
     pub fn insert(&mut self, peer: Peer) -> Result<(), AllocError>
-        ensures inserted { OnOk result ((other : Peer) → IsAmong other self.new ↔ ((other ≡ peer) ⊎ IsAmong other self.old)) }
+        ensures inserted { OnOk result
+            ((other : Peer) → IsAmong other self.new ↔ ((other ≡ peer) ⊎ IsAmong other self.old)) }
         ensures err { OnErr result (self.new ≡ self.old) }
     {
         let at = leading_of(&self.list, &peer);

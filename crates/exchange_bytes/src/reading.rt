@@ -43,7 +43,8 @@ fn last_of<'a>(
     last: Option<&Place>,
     rest: &'a [u8],
 ) -> Result<(Option<Place>, &'a [u8]), DecodeFault>
-    ensures read { Gives (λ x. (x.0, x.1.now)) result (last_from (option_copied last.entry) rest.now) }
+    ensures read { Gives (λ x. (x.0, x.1.now)) result
+        (last_from (option_copied last.entry) rest.now) }
 {
     match last {
         None => Err(DecodeFault::Fault(SpellingFault::Order)),
@@ -59,7 +60,8 @@ fn bound_of<'a>(
     last: Option<&Place>,
     bytes: &'a [u8],
 ) -> Result<(Option<Place>, &'a [u8]), DecodeFault>
-    ensures read { Gives (λ x. (x.0, x.1.now)) result (bound_at (option_copied last.entry) bytes.now) }
+    ensures read { Gives (λ x. (x.0, x.1.now)) result
+        (bound_at (option_copied last.entry) bytes.now) }
 {
     let (sort, rest) = byte_of(bytes)?;
     match sort {
@@ -83,7 +85,8 @@ fn range_of<'a>(
     last: Option<&Place>,
     bytes: &'a [u8],
 ) -> Result<(Range, &'a [u8]), DecodeFault>
-    ensures read { Gives (λ x. (x.0, x.1.now)) result (range_at (option_copied last.entry) bytes.now) }
+    ensures read { Gives (λ x. (x.0, x.1.now)) result
+        (range_at (option_copied last.entry) bytes.now) }
 {
     let (from, rest) = bound_of(alloc, last, bytes)?;
     let (until, rest) = bound_of(alloc, from.as_ref(), rest)?;
@@ -97,7 +100,8 @@ fn print_of<'a>(
     last: Option<&Place>,
     bytes: &'a [u8],
 ) -> Result<(RangePrint, &'a [u8]), DecodeFault>
-    ensures read { Gives (λ x. (x.0, x.1.now)) result (print_at (option_copied last.entry) bytes.now) }
+    ensures read { Gives (λ x. (x.0, x.1.now)) result
+        (print_at (option_copied last.entry) bytes.now) }
 {
     let (range, rest) = range_of(alloc, last, bytes)?;
     let (print, rest) = number_of(rest)?;
@@ -110,7 +114,8 @@ fn version_list_of(
     alloc: Global,
     bytes: &[u8],
 ) -> Result<(Vec<(Place, Version)>, &[u8]), DecodeFault>
-    ensures read { Gives (λ x. (x.0.items, x.1.now)) result (list_at place_cmp place_at version_at bytes.now) }
+    ensures read { Gives (λ x. (x.0.items, x.1.now)) result
+        (list_at place_cmp place_at version_at bytes.now) }
 {
     let (count, inner) = number_of(bytes)?;
     let mut versions = Vec::new(alloc);
@@ -142,7 +147,8 @@ fn ask_of<'a>(
     last: Option<&Place>,
     bytes: &'a [u8],
 ) -> Result<(RangeAsk, &'a [u8]), DecodeFault>
-    ensures read { Gives (λ x. (x.0, x.1.now)) result (ask_at (option_copied last.entry) bytes.now) }
+    ensures read { Gives (λ x. (x.0, x.1.now)) result
+        (ask_at (option_copied last.entry) bytes.now) }
 {
     let (range, rest) = range_of(alloc, last, bytes)?;
     let (versions, rest) = versions_of(alloc, rest)?;
@@ -216,7 +222,8 @@ fn writer_of(bytes: &[u8]) -> Result<(u32, &[u8]), DecodeFault>
 // Reads a peer, which is above the last one. `Order` if it isn't.
 #[tactic(auto, unfolding(crate::specs::Reading::peer_at, store_bytes::specs::ListReading::key_above_at))]
 fn peer_of<'a>(last: Option<&Peer>, bytes: &'a [u8]) -> Result<(Peer, &'a [u8]), DecodeFault>
-    ensures read { Gives (λ x. (x.0, x.1.now)) result (key_above_at peer_cmp peer_at (option_copied last.entry) bytes.now) }
+    ensures read { Gives (λ x. (x.0, x.1.now)) result
+        (key_above_at peer_cmp peer_at (option_copied last.entry) bytes.now) }
 {
     let (mark, rest) = mark_of(bytes)?;
     let (writer, rest) = writer_of(rest)?;
@@ -293,7 +300,8 @@ fn hello_of(alloc: Global, bytes: &[u8]) -> Result<(Option<Hello>, &[u8]), Decod
 
 // Joins an entry at its place.
 fn join_entry(store: &mut Store, scope: Scope, pair: (Path, Entry)) -> Result<(), AllocError>
-    ensures joined { OnOk result (store.new ≡ with_edit store.old (edit_of (within scope pair.0, pair.1))) }
+    ensures joined { OnOk result
+        (store.new ≡ with_edit store.old (edit_of (within scope pair.0, pair.1))) }
 {
     let (path, entry) = pair;
     let Entry { version, content } = entry;
@@ -333,7 +341,8 @@ fn take_scope<'a>(
     last: Option<&Scope>,
     bytes: &'a [u8],
 ) -> Result<((Store, Scope), &'a [u8]), DecodeFault>
-    ensures read { Gives (λ x. (x.0, x.1.now)) result (scope_taken (option_copied last.entry) store bytes.now) }
+    ensures read { Gives (λ x. (x.0, x.1.now)) result
+        (scope_taken (option_copied last.entry) store bytes.now) }
 {
     let ((scope, count), rest) = scope_head_of(alloc, last, bytes)?;
     let (store, rest) = take_own(alloc, store, &scope, count, rest)?;

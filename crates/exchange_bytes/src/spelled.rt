@@ -26,9 +26,11 @@ pub fn frame_to_bytes(alloc: Global, frame: &Frame) -> Result<Vec<u8>, AllocErro
 /// from the start, where the checksum is tested before what it covers; trailing bytes are a fault too. O(n log n).
 pub fn frame_from_bytes(alloc: Global, bytes: &[u8]) -> Result<Frame, DecodeFault>
     // The bytes are the spelling of the frame, each byte of it.
-    ensures found { IfOk result (λ frame. HasFrameSpelling (parts_of frame) × (bytes.now ≡ frame_spelling (parts_of frame))) }
+    ensures found { IfOk result (λ frame. HasFrameSpelling (parts_of frame)
+        × (bytes.now ≡ frame_spelling (parts_of frame))) }
     // The spelling of a frame is read as that frame, unless memory runs out.
-    ensures only { (f : FrameParts) → HasFrameSpelling f → bytes.now ≡ frame_spelling f → Gives (λ frame. parts_of frame) result (Ok f) }
+    ensures only { (f : FrameParts) → HasFrameSpelling f → bytes.now ≡ frame_spelling f
+        → Gives (λ frame. parts_of frame) result (Ok f) }
     // Which fault it is.
     ensures exact { Gives (λ frame. parts_of frame) result (frame_in bytes.now) }
 {

@@ -26,7 +26,8 @@ pub(crate) fn is_last_bound(last: Option<&Place>, place: &Place) -> bool
 // Appends a place that is a bound, after the last one told.
 fn put_told(out: &mut Vec<u8>, last: Option<&Place>, place: &Place) -> Result<(), AllocError>
     requires last { IsBound (option_copied last) }
-    ensures written { OnOk result (out.new.items ≡ out.old.items ++ bound (option_copied last.entry) (Some place.now)) }
+    ensures written { OnOk result
+        (out.new.items ≡ out.old.items ++ bound (option_copied last.entry) (Some place.now)) }
     ensures fits { OnOk result (IsBound (Some place.now)) }
 {
     if is_last_bound(last, place) {
@@ -44,7 +45,9 @@ fn put_bound(
     place: Option<&Place>,
 ) -> Result<(), AllocError>
     requires last { IsBound (option_copied last) }
-    ensures written { OnOk result (out.new.items ≡ out.old.items ++ bound (option_copied last.entry) (option_copied place.entry)) }
+    ensures written { OnOk result
+        (out.new.items
+        ≡ out.old.items ++ bound (option_copied last.entry) (option_copied place.entry)) }
     ensures fits { OnOk result (IsBound (option_copied place.entry)) }
 {
     match place {
@@ -59,7 +62,8 @@ fn put_bound(
 // Appends a range, after the last bound told.
 fn put_range(out: &mut Vec<u8>, last: Option<&Place>, r: &Range) -> Result<(), AllocError>
     requires last { IsBound (option_copied last) }
-    ensures written { OnOk result (out.new.items ≡ out.old.items ++ range (option_copied last.entry) r.now) }
+    ensures written { OnOk result
+        (out.new.items ≡ out.old.items ++ range (option_copied last.entry) r.now) }
     ensures fits { OnOk result (IsRange r.now) }
 {
     put_bound(out, last, r.from.as_ref())?;
@@ -69,7 +73,8 @@ fn put_range(out: &mut Vec<u8>, last: Option<&Place>, r: &Range) -> Result<(), A
 // Appends a print, after the last bound told.
 fn put_print(out: &mut Vec<u8>, last: Option<&Place>, it: &RangePrint) -> Result<(), AllocError>
     requires last { IsBound (option_copied last) }
-    ensures written { OnOk result (out.new.items ≡ out.old.items ++ print (option_copied last.entry) it.now) }
+    ensures written { OnOk result
+        (out.new.items ≡ out.old.items ++ print (option_copied last.entry) it.now) }
     ensures fits { OnOk result (IsPrint (option_copied last.entry) it.now) }
 {
     put_range(out, last, &it.range)?;
@@ -79,7 +84,8 @@ fn put_print(out: &mut Vec<u8>, last: Option<&Place>, it: &RangePrint) -> Result
 // Appends an ask, after the last bound told.
 fn put_ask(out: &mut Vec<u8>, last: Option<&Place>, it: &RangeAsk) -> Result<(), AllocError>
     requires last { IsBound (option_copied last) }
-    ensures written { OnOk result (out.new.items ≡ out.old.items ++ ask (option_copied last.entry) it.now) }
+    ensures written { OnOk result
+        (out.new.items ≡ out.old.items ++ ask (option_copied last.entry) it.now) }
     ensures fits { OnOk result (IsAsk (option_copied last.entry) it.now) }
 {
     put_range(out, last, &it.range)?;
@@ -126,7 +132,8 @@ fn put_peer(out: &mut Vec<u8>, it: &Peer) -> Result<(), AllocError>
 
 // Appends peers that are in a list.
 fn put_peer_list(out: &mut Vec<u8>, list: &[Peer]) -> Result<(), AllocError>
-    ensures written { OnOk result (out.new.items ≡ out.old.items ++ (number (length list.now) ++ flat_map peer list.now)) }
+    ensures written { OnOk result
+        (out.new.items ≡ out.old.items ++ (number (length list.now) ++ flat_map peer list.now)) }
     ensures fits { OnOk result (AllByRecursion IsPeer list.now) }
     ensures few { OnOk result (length list.now < 2 ^ 64) }
 {
@@ -159,7 +166,8 @@ fn put_own(out: &mut Vec<u8>, it: &Hello) -> Result<(), AllocError>
 
 // Appends it, or that there is none.
 fn put_hello(out: &mut Vec<u8>, it: Option<&Hello>) -> Result<(), AllocError>
-    ensures written { OnOk result (out.new.items ≡ out.old.items ++ hello (option_copied it.entry)) }
+    ensures written { OnOk result
+        (out.new.items ≡ out.old.items ++ hello (option_copied it.entry)) }
     ensures fits { OnOk result (IsHelloOrNone (option_copied it.entry)) }
 {
     match it {

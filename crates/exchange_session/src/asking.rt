@@ -74,7 +74,8 @@ pub fn pieces_for(
     asks: &[RangeAsk],
 ) -> Result<Vec<Piece>, AllocError>
     requires own { own.now ≡ versions_of node.now.store }
-    ensures pieces { IfOk result (λ pieces. pieces.items ≡ map (piece_for node.now.store) asks.now) }
+    ensures pieces { IfOk result
+        (λ pieces. pieces.items ≡ map (piece_for node.now.store) asks.now) }
 {
     let mut pieces = Vec::with_capacity(alloc, asks.len())?;
     for ask in asks {
@@ -107,8 +108,10 @@ fn asks_for(
 ) -> Result<Vec<RangeAsk>, AllocError>
     requires sorted { IsTrue (is_sorted place_cmp own.now) }
     ensures own { IfOk result (λ asks. All (IsOwnAsk own.now) asks.items) }
-    ensures covered { IfOk result (λ asks. (p : PlaceParts) → is_within range p ≡ true → IsAskedAt asks.items p) }
-    ensures stays { IfOk result (λ asks. (p : PlaceParts) → IsAskedAt asks.items p → is_within range p ≡ true) }
+    ensures covered { IfOk result
+        (λ asks. (p : PlaceParts) → is_within range p ≡ true → IsAskedAt asks.items p) }
+    ensures stays { IfOk result
+        (λ asks. (p : PlaceParts) → IsAskedAt asks.items p → is_within range p ≡ true) }
 {
     let here = within(own, &range);
     let count = here.len().div_ceil(MOST_TOLD).max(1);
@@ -126,8 +129,10 @@ fn ask_back(
     requires own { own.now ≡ versions_of node.now.store }
     ensures own { IfOk result (λ back. All (IsOwnAsk (versions_of node.now.store)) back.items) }
     ensures all { IfOk result (λ back. IsAskedBack (digest_of node.now.store) back.items ask) }
-    ensures stays { IfOk result (λ back. (p : PlaceParts) → IsAskedAt back.items p → IsNewerAt (digest_of node.now.store) (ask ∷ []) p) }
-    ensures none { IfOk result (λ back. IsNothingNew (digest_of node.now.store) ask → back.items ≡ []) }
+    ensures stays { IfOk result (λ back. (p : PlaceParts) → IsAskedAt back.items p
+        → IsNewerAt (digest_of node.now.store) (ask ∷ []) p) }
+    ensures none { IfOk result
+        (λ back. IsNothingNew (digest_of node.now.store) ask → back.items ≡ []) }
 {
     if !knows_more(node, &ask.versions) {
         return Ok(Vec::new(alloc));
@@ -144,9 +149,12 @@ pub fn asks_back(
 ) -> Result<Vec<RangeAsk>, AllocError>
     requires own { own.now ≡ versions_of node.now.store }
     ensures own { IfOk result (λ back. All (IsOwnAsk (versions_of node.now.store)) back.items) }
-    ensures all { IfOk result (λ back. All (IsAskedBack (digest_of node.now.store) back.items) asks.items) }
-    ensures stays { IfOk result (λ back. (p : PlaceParts) → IsAskedAt back.items p → IsNewerAt (digest_of node.now.store) asks.items p) }
-    ensures none { IfOk result (λ back. All (IsNothingNew (digest_of node.now.store)) asks.items → back.items ≡ []) }
+    ensures all { IfOk result
+        (λ back. All (IsAskedBack (digest_of node.now.store) back.items) asks.items) }
+    ensures stays { IfOk result (λ back. (p : PlaceParts) → IsAskedAt back.items p
+        → IsNewerAt (digest_of node.now.store) asks.items p) }
+    ensures none { IfOk result
+        (λ back. All (IsNothingNew (digest_of node.now.store)) asks.items → back.items ≡ []) }
 {
     let mut back = Vec::new(alloc);
     for ask in asks {

@@ -84,7 +84,8 @@ pub fn prints_of(
     ranges: Vec<Range>,
 ) -> Result<Vec<RangePrint>, AllocError>
     requires sorted { IsTrue (is_sorted place_cmp own.now) }
-    ensures prints { IfOk result (λ prints. prints.items ≡ map (own_print seed own.now) ranges.items) }
+    ensures prints { IfOk result
+        (λ prints. prints.items ≡ map (own_print seed own.now) ranges.items) }
 {
     let mut prints = Vec::with_capacity(alloc, ranges.len())?;
     for range in ranges {
@@ -105,10 +106,13 @@ pub fn compare(
     requires sorted { IsTrue (is_sorted place_cmp own.now) }
     ensures prints { IfOk result (λ compared. All (IsOwnPrint seed own.now) compared.prints.items) }
     ensures asks { IfOk result (λ compared. All (IsOwnAsk own.now) compared.asks.items) }
-    ensures covered { IfOk result (λ compared. IsPursued seed own.now compared.prints.items compared.asks.items told) }
+    ensures covered { IfOk result
+        (λ compared. IsPursued seed own.now compared.prints.items compared.asks.items told) }
     ensures agreed { IfOk result (λ compared. IsOwnPrint seed own.now told →
         (compared.prints.items ≡ []) × (compared.asks.items ≡ [])) }
-    ensures stays { IfOk result (λ compared. StaysUnequal seed own.now (told ∷ []) compared.prints.items compared.asks.items) }
+    ensures stays { IfOk result
+        (λ compared. StaysUnequal seed own.now
+        (told ∷ []) compared.prints.items compared.asks.items) }
 {
     let mut compared = Compared::none(alloc);
     let here = within(own, &told.range);
@@ -134,10 +138,14 @@ pub fn compare_all(
     requires sorted { IsTrue (is_sorted place_cmp own.now) }
     ensures prints { IfOk result (λ compared. All (IsOwnPrint seed own.now) compared.prints.items) }
     ensures asks { IfOk result (λ compared. All (IsOwnAsk own.now) compared.asks.items) }
-    ensures covered { IfOk result (λ compared. All (IsPursued seed own.now compared.prints.items compared.asks.items) told.items) }
+    ensures covered { IfOk result
+        (λ compared. All
+        (IsPursued seed own.now compared.prints.items compared.asks.items) told.items) }
     ensures agreed { IfOk result (λ compared. All (IsOwnPrint seed own.now) told.items →
         (compared.prints.items ≡ []) × (compared.asks.items ≡ [])) }
-    ensures stays { IfOk result (λ compared. StaysUnequal seed own.now told.items compared.prints.items compared.asks.items) }
+    ensures stays { IfOk result
+        (λ compared.
+        StaysUnequal seed own.now told.items compared.prints.items compared.asks.items) }
 {
     let mut all = Compared::none(alloc);
     for print in told {

@@ -74,7 +74,8 @@ impl Drop for Message {
 impl Message {
     /// Returns whether it asks for no answer: it has no prints and no asks.
     pub fn is_quiet(&self) -> bool
-        ensures quiet { (result ≡ true) ↔ ((self.now.prints.items ≡ []) × (self.now.asks.items ≡ [])) }
+        ensures quiet { (result ≡ true)
+            ↔ ((self.now.prints.items ≡ []) × (self.now.asks.items ≡ [])) }
     {
         self.prints.is_empty() && self.asks.is_empty()
     }

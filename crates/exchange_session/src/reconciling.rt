@@ -45,8 +45,8 @@ fn turn_both(
 
 // Tells the whole difference to each side.
 fn tell_all(alloc: Global, one: &mut Replica, other: &mut Replica) -> Result<(), AllocError>
-    ensures joined { OnOk result (AreToldApart (edits_of other.old.store ++ edits_of one.old.store) →
-        other.new.store ≡ join other.old.store one.old.store) }
+    ensures joined { OnOk result (AreToldApart (edits_of other.old.store ++ edits_of one.old.store)
+        → other.new.store ≡ join other.old.store one.old.store) }
     ensures same { OnOk result (AreToldApart (edits_of one.old.store ++ edits_of other.new.store) →
         one.new.store ≡ join one.old.store other.new.store) }
     ensures kept { IsStoreBelow one.old.store one.new.store }
@@ -69,9 +69,11 @@ pub fn reconcile(
     one: &mut Replica,
     other: &mut Replica,
 ) -> Result<(), AllocError>
-    ensures joined { OnOk result (AreToldApart (edits_of one.old.store ++ edits_of other.old.store) →
-        Collided seed one.old.store other.old.store
-        ⊎ ((one.new.store ≡ join one.old.store other.old.store) × (other.new.store ≡ join one.old.store other.old.store))) }
+    ensures joined { OnOk result
+        (AreToldApart (edits_of one.old.store ++ edits_of other.old.store)
+        → Collided seed one.old.store other.old.store
+        ⊎ ((one.new.store ≡ join one.old.store other.old.store)
+        × (other.new.store ≡ join one.old.store other.old.store))) }
     ensures kept { IsStoreBelow one.old.store one.new.store }
     ensures others_kept { IsStoreBelow other.old.store other.new.store }
     ensures writer { one.new.writer ≡ one.old.writer }

@@ -58,16 +58,27 @@ pub fn answer(
     prints: Vec<RangePrint>,
     asks: Vec<RangeAsk>,
 ) -> Result<Message, AllocError>
-    ensures prints { IfOk result (λ told. All (IsOwnPrint seed (versions_of node.now.store)) told.prints.items) }
-    ensures asks { IfOk result (λ told. All (IsOwnAsk (versions_of node.now.store)) told.asks.items) }
-    ensures pieces { IfOk result (λ told. told.pieces.items ≡ map (piece_for node.now.store) asks.items) }
-    ensures pursued { IfOk result (λ told. All (IsPursued seed (versions_of node.now.store) told.prints.items told.asks.items) prints.items) }
-    ensures asked_back { IfOk result (λ told. All (IsAskedBack (digest_of node.now.store) told.asks.items) asks.items) }
-    ensures agreed { IfOk result (λ told. All (IsOwnPrint seed (versions_of node.now.store)) prints.items → told.prints.items ≡ []) }
-    ensures quiet { IfOk result (λ told. All (IsOwnPrint seed (versions_of node.now.store)) prints.items →
-        All (IsNothingNew (digest_of node.now.store)) asks.items → told.asks.items ≡ []) }
-    ensures stays { IfOk result (λ told. (p : PlaceParts) → IsTold p told.prints.items told.asks.items →
-        IsUnequalAt seed (versions_of node.now.store) prints.items p ⊎ IsNewerAt (digest_of node.now.store) asks.items p) }
+    ensures prints { IfOk result
+        (λ told. All (IsOwnPrint seed (versions_of node.now.store)) told.prints.items) }
+    ensures asks { IfOk result
+        (λ told. All (IsOwnAsk (versions_of node.now.store)) told.asks.items) }
+    ensures pieces { IfOk result
+        (λ told. told.pieces.items ≡ map (piece_for node.now.store) asks.items) }
+    ensures pursued { IfOk result
+        (λ told. All (IsPursued seed (versions_of node.now.store) told.prints.items told.asks.items)
+        prints.items) }
+    ensures asked_back { IfOk result
+        (λ told. All (IsAskedBack (digest_of node.now.store) told.asks.items) asks.items) }
+    ensures agreed { IfOk result
+        (λ told. All (IsOwnPrint seed (versions_of node.now.store)) prints.items
+        → told.prints.items ≡ []) }
+    ensures quiet { IfOk result
+        (λ told. All (IsOwnPrint seed (versions_of node.now.store)) prints.items
+        → All (IsNothingNew (digest_of node.now.store)) asks.items → told.asks.items ≡ []) }
+    ensures stays { IfOk result
+        (λ told. (p : PlaceParts) → IsTold p told.prints.items told.asks.items
+        → IsUnequalAt seed (versions_of node.now.store) prints.items p
+        ⊎ IsNewerAt (digest_of node.now.store) asks.items p) }
 {
     let own = versions(alloc, node.store())?;
     let compared = compare_all(alloc, seed, &own, prints)?;
@@ -93,17 +104,27 @@ pub fn reply(
     ensures taken { OnOk result (node.new.store ≡ joined node.old.store message.pieces.items) }
     ensures writer { node.new.writer ≡ node.old.writer }
     ensures kept { IsStoreBelow node.old.store node.new.store }
-    ensures prints { IfOk result (λ told. All (IsOwnPrint seed (versions_of node.new.store)) told.prints.items) }
-    ensures asks { IfOk result (λ told. All (IsOwnAsk (versions_of node.new.store)) told.asks.items) }
-    ensures pieces { IfOk result (λ told. told.pieces.items ≡ map (piece_for node.new.store) message.asks.items) }
-    ensures pursued { IfOk result (λ told. All (IsPursued seed (versions_of node.new.store) told.prints.items told.asks.items)
+    ensures prints { IfOk result
+        (λ told. All (IsOwnPrint seed (versions_of node.new.store)) told.prints.items) }
+    ensures asks { IfOk result
+        (λ told. All (IsOwnAsk (versions_of node.new.store)) told.asks.items) }
+    ensures pieces { IfOk result
+        (λ told. told.pieces.items ≡ map (piece_for node.new.store) message.asks.items) }
+    ensures pursued { IfOk result
+        (λ told. All (IsPursued seed (versions_of node.new.store) told.prints.items told.asks.items)
         message.prints.items) }
-    ensures asked_back { IfOk result (λ told. All (IsAskedBack (digest_of node.new.store) told.asks.items) message.asks.items) }
-    ensures agreed { IfOk result (λ told. All (IsOwnPrint seed (versions_of node.new.store)) message.prints.items → told.prints.items ≡ []) }
-    ensures quiet { IfOk result (λ told. All (IsOwnPrint seed (versions_of node.new.store)) message.prints.items →
-        All (IsNothingNew (digest_of node.new.store)) message.asks.items → told.asks.items ≡ []) }
-    ensures stays { IfOk result (λ told. (p : PlaceParts) → IsTold p told.prints.items told.asks.items →
-        IsUnequalAt seed (versions_of node.new.store) message.prints.items p ⊎ IsNewerAt (digest_of node.new.store) message.asks.items p) }
+    ensures asked_back { IfOk result
+        (λ told. All (IsAskedBack (digest_of node.new.store) told.asks.items) message.asks.items) }
+    ensures agreed { IfOk result
+        (λ told. All (IsOwnPrint seed (versions_of node.new.store)) message.prints.items
+        → told.prints.items ≡ []) }
+    ensures quiet { IfOk result
+        (λ told. All (IsOwnPrint seed (versions_of node.new.store)) message.prints.items
+        → All (IsNothingNew (digest_of node.new.store)) message.asks.items → told.asks.items ≡ []) }
+    ensures stays { IfOk result
+        (λ told. (p : PlaceParts) → IsTold p told.prints.items told.asks.items
+        → IsUnequalAt seed (versions_of node.new.store) message.prints.items p
+        ⊎ IsNewerAt (digest_of node.new.store) message.asks.items p) }
 {
     let (prints, asks, pieces) = message.into_parts();
     take_all(node, pieces)?;
@@ -112,7 +133,8 @@ pub fn reply(
 
 /// Returns what a side says first: the print of all that its replica holds. One pass. Fails only if memory runs out.
 pub fn open(alloc: Global, node: &Replica, seed: u64) -> Result<Message, AllocError>
-    ensures print { IfOk result (λ told. told.prints.items ≡ own_print seed (versions_of node.now.store) everything ∷ []) }
+    ensures print { IfOk result
+        (λ told. told.prints.items ≡ own_print seed (versions_of node.now.store) everything ∷ []) }
     ensures asks { IfOk result (λ told. told.asks.items ≡ []) }
     ensures pieces { IfOk result (λ told. told.pieces.items ≡ []) }
 {

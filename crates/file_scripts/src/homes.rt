@@ -41,8 +41,11 @@ impl<L: EditLog> LastingHome<L> {
 
 // Joins a store into the node, and commits what was news.
 fn kept<L: EditLog>(node: &mut NodeFile<L>, store: &Store, time: u32) -> Result<(), NodeFault>
-    ensures held { OnOk result (IsHeldNext store.now (IsHeldIn L.is_honest L.held L.may_leave node.old) (IsHeldIn L.is_honest L.held L.may_leave node.new)) }
-    ensures kept { StaysKept (IsFoundIn L.is_honest L.may_leave node.old) (IsFoundIn L.is_honest L.may_leave node.new) }
+    ensures held { OnOk result
+        (IsHeldNext store.now (IsHeldIn L.is_honest L.held L.may_leave node.old)
+        (IsHeldIn L.is_honest L.held L.may_leave node.new)) }
+    ensures kept { StaysKept (IsFoundIn L.is_honest L.may_leave node.old)
+        (IsFoundIn L.is_honest L.may_leave node.new) }
 {
     node.join(store)?;
     node.commit(time)
@@ -53,7 +56,8 @@ impl<L: EditLog> Home for LastingHome<L> {
 
     ghost keeps = { λ home s. IsFoundIn L.is_honest L.may_leave home.node s };
 
-    ghost lasts = { λ home s held. found_from_held L.is_honest L.held L.may_leave home.node s held };
+    ghost lasts = { λ home s held.
+        found_from_held L.is_honest L.held L.may_leave home.node s held };
 
     fn keep(&mut self, store: &Store) -> Result<(), Unkept> {
         match kept(&mut self.node, store, self.time) {

@@ -28,21 +28,26 @@ pub fn run_at<R: AllocGlobal + Threads + Wait + Sync, L: EditLog, S: Source, K: 
     requires saved { home.old.node.unsaved ≡ [] }
 
     // The answers to the whole script are written, and the log comes to what the node holds at the end, whatever crashes.
-    ensures ok { OnOk result (IsAnsweredFrom (begun here home.old.node.replica.writer home.old.node.replica.store)
-        MAX_SCRIPT_BYTES (S.remaining reader.old) (K.contents writer.old) (K.contents writer.new)
+    ensures ok { OnOk result
+        (IsAnsweredFrom
+        (begun here home.old.node.replica.writer home.old.node.replica.store) MAX_SCRIPT_BYTES
+        (S.remaining reader.old) (K.contents writer.old) (K.contents writer.new)
         (IsHeldIn L.is_honest L.held L.may_leave home.new.node)) }
 
     // If the script wasn't read, nothing is written, and a read failed or the script is too long.
-    ensures read { IsErrOf result KeptFault.Read → IsUnread MAX_SCRIPT_BYTES (S.remaining reader.old)
-        (S.failures reader.old) (S.failures reader.new) (K.contents writer.old) (K.contents writer.new) }
+    ensures read { IsErrOf result KeptFault.Read
+        → IsUnread MAX_SCRIPT_BYTES (S.remaining reader.old) (S.failures reader.old)
+        (S.failures reader.new) (K.contents writer.old) (K.contents writer.new) }
     ensures unread { IsErrOf result KeptFault.Read → home.new ≡ home.old }
 
     // On every fault a prefix of the answers to some first lines is written, and whatever crashes, what the next open finds is
     // at least what the node held after these lines.
-    ensures prefix { OnErr result (IsPrefixFrom (begun here home.old.node.replica.writer home.old.node.replica.store)
+    ensures prefix { OnErr result
+        (IsPrefixFrom (begun here home.old.node.replica.writer home.old.node.replica.store)
         (S.remaining reader.old) (K.contents writer.old) (K.contents writer.new)
         (IsFoundIn L.is_honest L.may_leave home.new.node)) }
-    ensures write { IsErrOf result KeptFault.Write → FailedSince (K.refusals writer.old) (K.refusals writer.new) }
+    ensures write { IsErrOf result KeptFault.Write
+        → FailedSince (K.refusals writer.old) (K.refusals writer.new) }
 {
     let here = home.node.replica().try_clone()?;
     run_kept(rt, home, here, reader, writer)

@@ -13,7 +13,8 @@ OneAnswer = (s : EntryMap) (extra : List Name) (question : Question) (a b : Answ
 -- a host.
 abbrev pub OtherHostsChangeNothing : Type 0
 OtherHostsChangeNothing = (s t : EntryMap) (extra : List Name) (question : Question) (place : PlaceParts) → level_for (viewer_asked question) place ≡ None
-    → ((q : PlaceParts) → q ≢ place → finmap.get s q ≡ finmap.get t q) → (a : Answer) → IsAnswer s extra question a → IsAnswer t extra question a
+    → ((q : PlaceParts) → q ≢ place → finmap.get s q ≡ finmap.get t q) → (a : Answer) → IsAnswer s extra question a
+    → IsAnswer t extra question a
 
 -- ---- the names of a question are in a load of them
 
@@ -25,7 +26,8 @@ asked_among Manager extra n h = IsAmong-append_right n perpetual_units extra h
 pub names_are_known : (s : HostViewMap) (names : List Name) (load : LoadMap) → IsLoad s names load → AreKnown load names
 names_are_known s names load is n a = (known_names s names load n is).1 (record { steps = 0; chain = inl (asked_among s.profile names n a) })
 
-pub own_are_known : (s : HostViewMap) (extra : List Name) (question : Question) (load : LoadMap) → IsLoad s (asked extra question) load → AreKnown load (names_asked question)
+pub own_are_known : (s : HostViewMap) (extra : List Name) (question : Question) (load : LoadMap)
+    → IsLoad s (asked extra question) load → AreKnown load (names_asked question)
 own_are_known s extra question load is n a = names_are_known s (asked extra question) load is n (IsAmong-append_right n extra (names_asked question) a)
 
 -- ---- units
@@ -67,7 +69,8 @@ module _ (load : LoadMap) (right : AreAtTheirNames load) where
       let mains : h.0 ≡ k.0 = sym (right h.0 a.unit h.1.unit_is) ∙ ap (λ (u : LoadedUnit). u.name) e ∙ right k.0 b.unit k.1.unit_is in
       linked_is a b e (one_list_by_kind load k.0 a.edges b.edges (subst (λ (main : Name). AreEdgesOf load main a.edges) mains h.1.edges_are) k.1.edges_are)
 
-  one_each : (ones others : List LinkedUnit) → map (λ (one : LinkedUnit). one.unit) ones ≡ map (λ (one : LinkedUnit). one.unit) others → All HasEdges ones → All HasEdges others → ones ≡ others
+  one_each : (ones others : List LinkedUnit) → map (λ (one : LinkedUnit). one.unit) ones
+      ≡ map (λ (one : LinkedUnit). one.unit) others → All HasEdges ones → All HasEdges others → ones ≡ others
   one_each [] [] e h k = refl
   one_each [] (b ∷ others) e h k = cc (e)
   one_each (a ∷ ones) [] e h k = cc (e)
@@ -105,13 +108,16 @@ module _ (load : LoadMap) (x y : EdgeMap) (p : AreEdges load x) (q : AreEdges lo
         members = λ k n. (λ h. (same n k).1 ((e.members k n).0 h), λ h. (e.members k n).1 ((same n k).0 h));
       })
     where
-      same : (n : Name) (k : ℕ) → IsDistance (Listed (from ∷ [])) (LeadsBy x pulling) n k ↔ IsDistance (Listed (from ∷ [])) (LeadsBy y pulling) n k
+      same : (n : Name) (k : ℕ) → IsDistance (Listed (from ∷ [])) (LeadsBy x pulling) n k
+          ↔ IsDistance (Listed (from ∷ [])) (LeadsBy y pulling) n k
       same = same_distance (Listed (from ∷ [])) (Listed (from ∷ [])) (LeadsBy x pulling) (LeadsBy y pulling) (λ n. (λ h. h, λ h. h)) same_successors
 
-  one_depths : (name : Name) (a b : List (ℕ × Name)) → IsKnown load name → AreDepths (graph_of load x) name a → AreDepths (graph_of load y) name b → a ≡ b
+  one_depths : (name : Name) (a b : List (ℕ × Name)) → IsKnown load name → AreDepths (graph_of load x) name a
+      → AreDepths (graph_of load y) name b → a ≡ b
   one_depths name a b known d e = one_distances known.0 a b (d known.0 known.1) (e known.0 known.1)
 
-one_pulled : (load : LoadMap) (name : Name) (a b : List (ℕ × Name)) → IsKnown load name → ArePulled load name a → ArePulled load name b → a ≡ b
+one_pulled : (load : LoadMap) (name : Name) (a b : List (ℕ × Name)) → IsKnown load name → ArePulled load name a
+    → ArePulled load name b → a ≡ b
 one_pulled load name a b known d e = one_depths load d.edges e.edges d.edges_are e.edges_are name a b known d.depths_are e.depths_are
 
 module _ (load : LoadMap) (request : Request) (x y : EdgeMap) (p : AreEdges load x) (q : AreEdges load y) where
@@ -150,13 +156,15 @@ module _ (load : LoadMap) (request : Request) (x y : EdgeMap) (p : AreEdges load
 
 -- ---- answers
 
-one_returned : (load : LoadMap) (question : Question) → AreAtTheirNames load → AreKnown load (names_asked question) → (a b : Answer) → IsReturned load question a → IsReturned load question b → a ≡ b
+one_returned : (load : LoadMap) (question : Question) → AreAtTheirNames load → AreKnown load (names_asked question)
+    → (a b : Answer) → IsReturned load question a → IsReturned load question b → a ≡ b
 one_returned load (OfUnit viewer name) right known a b f g = f.2 ∙ ap answer.Unit (one_linked load name f.0 g.0 f.1 g.1) ∙ sym g.2
 one_returned load (OfPulled viewer name) right known a b f g = f.2 ∙ ap answer.Pulled (one_pulled load name f.0 g.0 (known name (inl refl)) f.1 g.1) ∙ sym g.2
 one_returned load (OfPlan request) right known a b f g = one_plan_by load request f.edges g.edges f.edges_are g.edges_are a b f.plan_is g.plan_is
 one_returned load (OfUnits viewer) right known a b f g = f.2 ∙ ap answer.Units (one_list_of_units load right f.0 g.0 f.1 g.1) ∙ sym g.2
 
-module _ (s : HostViewMap) (names : List Name) (question : Question) (own : (load : LoadMap) → IsLoad s names load → AreKnown load (names_asked question)) (a b : Answer) where
+module _ (s : HostViewMap) (names : List Name) (question : Question)
+    (own : (load : LoadMap) → IsLoad s names load → AreKnown load (names_asked question)) (a b : Answer) where
   one_from : IsReturnedFrom s names question a → IsReturnedFrom s names question b → a ≡ b
   one_from f g =
       let same : f.load ≡ g.load = one_load s names f.load g.load f.snapshot.is_load g.snapshot.is_load in

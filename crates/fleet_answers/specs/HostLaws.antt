@@ -159,7 +159,8 @@ no_host (OfUnits viewer) = refl
 -- a question has the answer of another with the same names, where it has so in what is looked at
 module _ (s : EntryMap) (extra : List Name) (one other : Question) (same : names_asked one ≡ names_asked other) (a : Answer)
     (whole : (names : List Name)
-    → IsWholeAnswer (host_view_of s (viewer_asked one)) names one a → IsWholeAnswer (host_view_of s (viewer_asked other)) names other a) where
+    → IsWholeAnswer (host_view_of s (viewer_asked one)) names one a
+    → IsWholeAnswer (host_view_of s (viewer_asked other)) names other a) where
   all_same : asked extra one ≡ asked extra other
   all_same = ap (λ names. extra ++ names) same
 

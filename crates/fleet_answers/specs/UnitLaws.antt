@@ -53,7 +53,8 @@ module _ (s : HostViewMap) (extra : List Name) (load : LoadMap) (is : IsLoad s e
   listed_with (one ∷ later) unit (inl e) = (one, inl refl, e)
   listed_with (one ∷ later) unit (inr a) = (let h = listed_with later unit a in (h.0, inr h.1, h.2))
 
-  same_unit : (one other : LinkedUnit) (main : Name) → other.unit ≡ one.unit → IsUnitWithEdges load main one → ((own : Name) × IsUnitWithEdges load own other) → other ≡ one
+  same_unit : (one other : LinkedUnit) (main : Name) → other.unit ≡ one.unit → IsUnitWithEdges load main one
+      → ((own : Name) × IsUnitWithEdges load own other) → other ≡ one
   same_unit one other main e h k =
       let mains : k.0 ≡ main = sym (at_their_names s extra load is k.0 other.unit k.1.unit_is) ∙ ap (λ (u : LoadedUnit). u.name) e ∙ at_their_names s extra load is main one.unit h.unit_is in
       linked_is other one e (one_list_by_kind load main other.edges one.edges (subst (λ (m : Name). AreEdgesOf load m other.edges) mains k.1.edges_are) h.edges_are)
@@ -65,7 +66,8 @@ module _ (s : HostViewMap) (extra : List Name) (load : LoadMap) (is : IsLoad s e
     names_are : map (λ (one : LinkedUnit). one.unit.name) returned ≡ members_in load
     names_are = map_twice returned ∙ ap (map (λ (u : LoadedUnit). u.name)) are.units_are
       where
-        map_twice : (all : List LinkedUnit) → map (λ (one : LinkedUnit). one.unit.name) all ≡ map (λ (u : LoadedUnit). u.name) (map (λ (one : LinkedUnit). one.unit) all)
+        map_twice : (all : List LinkedUnit) → map (λ (one : LinkedUnit). one.unit.name) all
+            ≡ map (λ (u : LoadedUnit). u.name) (map (λ (one : LinkedUnit). one.unit) all)
         map_twice [] = refl
         map_twice (one ∷ later) = ap (λ (ns : List Name). one.unit.name ∷ ns) (map_twice later)
 

@@ -63,7 +63,8 @@ impl SnapshotCache {
 
     /// Lists places where what the store shows may change. Drops all snapshots if memory runs out.
     pub(crate) fn note(&mut self, places: &[Place])
-        ensures noted { (s t : EntryMap) → ShowTheSameBut places.now s t → IsCacheFor s self.old → IsCacheFor t self.new }
+        ensures noted { (s t : EntryMap) → ShowTheSameBut places.now s t → IsCacheFor s self.old
+            → IsCacheFor t self.new }
     {
         if self.cached.is_empty() || places.len() > MOST_TOUCHED {
             self.clear();
@@ -79,8 +80,9 @@ impl SnapshotCache {
     ///
     /// Reads both stores side by side once, unless nothing is cached.
     pub(crate) fn note_news(&mut self, store: &Store, other: &Store)
-        ensures noted { (t : EntryMap) → IsStoreBelow store.now t → IsStoreBelow t (join store.now other.now)
-            → IsCacheFor store.now self.old → IsCacheFor t self.new }
+        ensures noted { (t : EntryMap) → IsStoreBelow store.now t
+            → IsStoreBelow t (join store.now other.now) → IsCacheFor store.now self.old
+            → IsCacheFor t self.new }
     {
         if self.cached.is_empty() {
             self.clear();
@@ -104,7 +106,8 @@ impl SnapshotCache {
     // Where the snapshot for a viewer is.
     fn place_of(&self, viewer: &Viewer) -> Option<usize>
         ensures there { IfSome result (λ at. at < length self.now.cached.items) }
-        ensures viewer { IfSome result (λ at. (one : _) → (slice_index_or self.now.cached.items at one).snapshot.viewer ≡ viewer.now) }
+        ensures viewer { IfSome result (λ at. (one : _)
+            → (slice_index_or self.now.cached.items at one).snapshot.viewer ≡ viewer.now) }
     {
         for (at, one) in self.cached.iter().enumerate() {
             if is_of(&one.snapshot, viewer) {
@@ -117,7 +120,8 @@ impl SnapshotCache {
     // Takes out the snapshot for a viewer.
     fn take(&mut self, viewer: &Viewer) -> Option<Cached>
         ensures viewer { IfSome result (λ one. one.snapshot.viewer ≡ viewer.now) }
-        ensures taken { (s : EntryMap) → IsCacheFor s self.old → IfSome result (IsCachedFor s self.new.touched.items) }
+        ensures taken { (s : EntryMap) → IsCacheFor s self.old
+            → IfSome result (IsCachedFor s self.new.touched.items) }
         ensures kept { (s : EntryMap) → IsCacheFor s self.old → IsCacheFor s self.new }
     {
         let at = self.place_of(viewer)?;
@@ -147,7 +151,8 @@ impl SnapshotCache {
 
     // Caches a snapshot of the store as the last one, unless memory runs out.
     fn keep(&mut self, snapshot: Snapshot)
-        ensures kept { (s : EntryMap) → IsSnapshotOf s snapshot → IsCacheFor s self.old → IsCacheFor s self.new }
+        ensures kept { (s : EntryMap) → IsSnapshotOf s snapshot → IsCacheFor s self.old
+            → IsCacheFor s self.new }
     {
         self.make_room();
         let mark = self.touched.len();
@@ -174,7 +179,8 @@ impl SnapshotCache {
     ) -> Result<Snapshot, LoadFault>
         requires cache { IsCacheFor store.now self.old }
         ensures snapshot { IfOk result (IsSnapshot (host_view_of store.now viewer.now) names.now) }
-        ensures over { IfErr result (λ fault. OnTooMany fault (IsTooLarge (host_view_of store.now viewer.now) names.now)) }
+        ensures over { IfErr result
+            (λ fault. OnTooMany fault (IsTooLarge (host_view_of store.now viewer.now) names.now)) }
         ensures cache { IsCacheFor store.now self.new }
     {
         let made = match self.take_for(store, viewer, names) {
@@ -197,8 +203,12 @@ impl SnapshotCache {
     fn take_for(&mut self, store: &Store, viewer: &Viewer, names: &[UnitName]) -> Option<Cached>
         requires cache { IsCacheFor store.now self.old }
         ensures viewer { IfSome result (λ one. one.snapshot.viewer ≡ viewer.now) }
-        ensures these { IfSome result (λ one. AreSources (host_view_of store.now one.snapshot.viewer) one.snapshot.extra names.now) }
-        ensures those { IfSome result (λ one. AreSources (host_view_of store.now one.snapshot.viewer) names.now one.snapshot.extra) }
+        ensures these { IfSome result
+            (λ one. AreSources
+            (host_view_of store.now one.snapshot.viewer) one.snapshot.extra names.now) }
+        ensures those { IfSome result
+            (λ one. AreSources
+            (host_view_of store.now one.snapshot.viewer) names.now one.snapshot.extra) }
         ensures taken { IfSome result (IsCachedFor store.now self.new.touched.items) }
         ensures cache { IsCacheFor store.now self.new }
     {
@@ -218,7 +228,8 @@ impl SnapshotCache {
         requires viewer { snapshot.viewer ≡ viewer_asked question.now }
         requires known { AreKnown snapshot (names_asked question.now) }
         ensures returned { IfOk result (IsReturned snapshot question.now) }
-        ensures kept { (s : EntryMap) → IsSnapshotOf s snapshot → IsCacheFor s self.old → IsCacheFor s self.new }
+        ensures kept { (s : EntryMap) → IsSnapshotOf s snapshot → IsCacheFor s self.old
+            → IsCacheFor s self.new }
     {
         let mut snapshot = snapshot;
         let answer = self.answer(&mut snapshot, question)?;

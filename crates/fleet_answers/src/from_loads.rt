@@ -58,7 +58,8 @@ fn linked_at(
     requires table { IsEdgeTable loaded.now table.now }
     requires below { index < count_of loaded.now }
     ensures unit { IfOk result (λ one. one.unit ≡ unit.now) }
-    ensures edges { IfOk result (λ one. AreEdgesOf loaded.now (name_at loaded.now index) one.edges) }
+    ensures edges { IfOk result
+        (λ one. AreEdgesOf loaded.now (name_at loaded.now index) one.edges) }
 {
     let edges = edges_at(loaded.allocator(), loaded, table, index)?;
     let unit = unit.try_clone()?;
@@ -103,8 +104,10 @@ fn plan_of(loaded: &Loaded, table: &EdgeTable, request: &Request) -> Result<Plan
     requires viewer { request.now.viewer ≡ loaded.now.viewer }
     requires names { IsOfGraph loaded.now request.now }
     ensures edges { AreEdges loaded.now (edge_map (keys_of loaded.now.names) table.now) }
-    ensures plan { IfOk result (IsPlanned loaded.now (edge_map (keys_of loaded.now.names) table.now) request.now) }
-    ensures refusal { IfErr result (IsRefusalOf loaded.now (edge_map (keys_of loaded.now.names) table.now) request.now) }
+    ensures plan { IfOk result
+        (IsPlanned loaded.now (edge_map (keys_of loaded.now.names) table.now) request.now) }
+    ensures refusal { IfErr result
+        (IsRefusalOf loaded.now (edge_map (keys_of loaded.now.names) table.now) request.now) }
 {
     let graph = IndexedGraph::build(loaded, table);
     plan_by_index(loaded.allocator(), &graph, request)

@@ -58,7 +58,8 @@ impl SnapshotLimit {
     ) -> Result<Answer, AnswerFault>
         requires within { at < length replicas.old }
         ensures workers { (result ≡ Err Workers) ↔ ((workers ≡ 0) ⊎ (64 < workers)) }
-        ensures answer { IfOk result (λ answer. (d : Replicated) → IsAnswer (slice_index_or replicas.old at d).store [] question.now answer) }
+        ensures answer { IfOk result (λ answer. (d : Replicated)
+            → IsAnswer (slice_index_or replicas.old at d).store [] question.now answer) }
         ensures same { replicas.new ≡ replicas.old }
     {
         let answered = answer_of(rt, alloc, replicas, at, question, workers, gate);
@@ -129,7 +130,8 @@ fn answer_of<R: Threads + Sync, G: Gate + Sync>(
 ) -> Result<Answer, AnswerFault>
     requires within { at < length replicas.old }
     ensures workers { (result ≡ Err Workers) ↔ ((workers ≡ 0) ⊎ (64 < workers)) }
-    ensures answer { IfOk result (λ answer. (d : Replicated) → IsAnswer (slice_index_or replicas.old at d).store [] question.now answer) }
+    ensures answer { IfOk result (λ answer. (d : Replicated)
+        → IsAnswer (slice_index_or replicas.old at d).store [] question.now answer) }
     ensures same { replicas.new ≡ replicas.old }
 {
     replicas[at].answer(rt, alloc, question, workers, gate)

@@ -16,9 +16,11 @@ pub(crate) fn whole_names(
     extra: &[UnitName],
     question: &Question,
 ) -> Result<Option<Vec<UnitName>>, AllocError>
-    ensures template { IfOk result (λ found. MatchOption found (HasTemplate (asked extra.now question.now))
+    ensures template { IfOk result
+        (λ found. MatchOption found (HasTemplate (asked extra.now question.now))
         (λ _. ¬ HasTemplate (asked extra.now question.now))) }
-    ensures names { IfOk result (λ found. IfSome found (λ names. names.items ≡ asked extra.now question.now)) }
+    ensures names { IfOk result
+        (λ found. IfSome found (λ names. names.items ≡ asked extra.now question.now)) }
 {
     let names = asked_names(alloc, extra, question)?;
     if has_template(&names) {

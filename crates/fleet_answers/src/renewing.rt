@@ -29,7 +29,8 @@ pub(crate) fn loaded_anew<R: Threads + Sync, G: Gate + Sync>(
     names: &[UnitName],
 ) -> Result<Snapshot, LoadFault>
     ensures snapshot { IfOk result (IsSnapshot (host_view_of store.now viewer.now) names.now) }
-    ensures over { IfErr result (λ fault. OnTooMany fault (IsTooLarge (host_view_of store.now viewer.now) names.now)) }
+    ensures over { IfErr result
+        (λ fault. OnTooMany fault (IsTooLarge (host_view_of store.now viewer.now) names.now)) }
 {
     let LoadResources {
         rt,
@@ -52,7 +53,8 @@ pub(crate) fn renewed(
     requires these { AreSources (host_view_of store.now snapshot.viewer) snapshot.extra names.now }
     requires those { AreSources (host_view_of store.now snapshot.viewer) names.now snapshot.extra }
     ensures snapshot { IfOk result (IsSnapshot (host_view_of store.now snapshot.viewer) names.now) }
-    ensures over { IfErr result (λ fault. OnTooMany fault (IsTooLarge (host_view_of store.now snapshot.viewer) names.now)) }
+    ensures over { IfErr result
+        (λ fault. OnTooMany fault (IsTooLarge (host_view_of store.now snapshot.viewer) names.now)) }
     ensures no_workers { IfErr result (λ fault. OnWorkers fault ⊥) }
 {
     match refreshed(snapshot, store, touched) {
@@ -64,8 +66,11 @@ pub(crate) fn renewed(
 // The snapshot of a store for the same viewer and names, from one of a store that shows the same at each place but these.
 fn refreshed(snapshot: Snapshot, store: &Store, touched: &[Place]) -> Result<Snapshot, LoadFault>
     requires before { IsSnapshotBefore snapshot store.now touched.now }
-    ensures snapshot { IfOk result (IsSnapshot (host_view_of store.now snapshot.viewer) snapshot.extra) }
-    ensures over { IfErr result (λ fault. OnTooMany fault (IsTooLarge (host_view_of store.now snapshot.viewer) snapshot.extra)) }
+    ensures snapshot { IfOk result
+        (IsSnapshot (host_view_of store.now snapshot.viewer) snapshot.extra) }
+    ensures over { IfErr result
+        (λ fault. OnTooMany fault
+        (IsTooLarge (host_view_of store.now snapshot.viewer) snapshot.extra)) }
     ensures no_workers { IfErr result (λ fault. OnWorkers fault ⊥) }
 {
     if touched.is_empty() {
@@ -96,8 +101,10 @@ fn is_asked_by(snapshot: &Snapshot, names: &[UnitName]) -> bool
 /// Whether a store's load of these names has the units of its load of the snapshot's names, for the snapshot's viewer: each
 /// name was asked for or is visible, and each that was asked for is one of the names or visible.
 pub(crate) fn serves(store: &Store, snapshot: &Snapshot, names: &[UnitName]) -> bool
-    ensures these { IsTrue result → AreSources (host_view_of store.now snapshot.now.viewer) snapshot.now.extra names.now }
-    ensures those { IsTrue result → AreSources (host_view_of store.now snapshot.now.viewer) names.now snapshot.now.extra }
+    ensures these { IsTrue result
+        → AreSources (host_view_of store.now snapshot.now.viewer) snapshot.now.extra names.now }
+    ensures those { IsTrue result
+        → AreSources (host_view_of store.now snapshot.now.viewer) names.now snapshot.now.extra }
 {
     if is_asked_by(snapshot, names) {
         return true;

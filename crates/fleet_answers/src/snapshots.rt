@@ -61,7 +61,8 @@ impl Snapshot {
         extra: &[UnitName],
     ) -> Result<Snapshot, LoadFault>
         ensures snapshot { IfOk result (IsSnapshot (host_view_of store.now viewer.now) extra.now) }
-        ensures over { IfErr result (λ fault. OnTooMany fault (IsTooLarge (host_view_of store.now viewer.now) extra.now)) }
+        ensures over { IfErr result
+            (λ fault. OnTooMany fault (IsTooLarge (host_view_of store.now viewer.now) extra.now)) }
         ensures no_workers { IfErr result (λ fault. OnWorkers fault ⊥) }
     {
         let loaded = load_here(alloc, store, viewer, extra)?;
@@ -81,7 +82,8 @@ impl Snapshot {
     ) -> Result<Snapshot, LoadFault>
         ensures workers { (result ≡ Err Workers) ↔ ((workers ≡ 0) ⊎ (64 < workers)) }
         ensures snapshot { IfOk result (IsSnapshot (host_view_of store.now viewer.now) extra.now) }
-        ensures over { IfErr result (λ fault. OnTooMany fault (IsTooLarge (host_view_of store.now viewer.now) extra.now)) }
+        ensures over { IfErr result
+            (λ fault. OnTooMany fault (IsTooLarge (host_view_of store.now viewer.now) extra.now)) }
     {
         if workers == 1 {
             return Snapshot::of(alloc, store, viewer, extra);
@@ -111,8 +113,11 @@ impl Snapshot {
     /// dependencies stayed the same, the edges are reused by files; a manager's are made anew, as they depend on more.
     pub(crate) fn refreshed(self, store: &Store, touched: &[Place]) -> Result<Snapshot, LoadFault>
         requires before { IsBefore self store.now touched.now }
-        ensures snapshot { IfOk result (IsSnapshot (host_view_of store.now self.viewer) self.extra) }
-        ensures over { IfErr result (λ fault. OnTooMany fault (IsTooLarge (host_view_of store.now self.viewer) self.extra)) }
+        ensures snapshot { IfOk result
+            (IsSnapshot (host_view_of store.now self.viewer) self.extra) }
+        ensures over { IfErr result
+            (λ fault. OnTooMany fault
+            (IsTooLarge (host_view_of store.now self.viewer) self.extra)) }
         ensures no_workers { IfErr result (λ fault. OnWorkers fault ⊥) }
     {
         let Snapshot { loaded, table } = self;

@@ -75,9 +75,11 @@ impl TrackedReplica {
         ensures version { IfOk result (λ version. version ≡ next_version self.old) }
         ensures joined { OnOk result (self.new ≡ with_put self.old (record
             { place = place; version = next_version self.old; content = content })) }
-        ensures spent { IsErrOf result EditFault.VersionsSpent ↔ (high_of self.old.store ≡ u64.MAX) }
+        ensures spent { IsErrOf result EditFault.VersionsSpent
+            ↔ (high_of self.old.store ≡ u64.MAX) }
         ensures always { IsErrOf result EditFault.Nothing → ⊥ }
-        ensures held { IsSome (finmap.get self.old.store place) → IsErrOf result EditFault.Memory → ⊥ }
+        ensures held { IsSome (finmap.get self.old.store place) → IsErrOf result EditFault.Memory
+            → ⊥ }
         ensures err { OnErr result (self.new ≡ self.old) }
     {
         self.cache.note(from_ref(&place));
@@ -89,8 +91,10 @@ impl TrackedReplica {
         ensures version { IfOk result (λ version. version ≡ next_version self.old) }
         ensures joined { OnOk result (self.new ≡ with_put self.old (record
             { place = place; version = next_version self.old; content = Gone })) }
-        ensures nothing { IsErrOf result EditFault.Nothing ↔ (visible_at self.old.store place ≡ None) }
-        ensures spent { IsErrOf result EditFault.VersionsSpent ↔ (IsSome (visible_at self.old.store place)
+        ensures nothing { IsErrOf result EditFault.Nothing
+            ↔ (visible_at self.old.store place ≡ None) }
+        ensures spent { IsErrOf result EditFault.VersionsSpent
+            ↔ (IsSome (visible_at self.old.store place)
             × (high_of self.old.store ≡ u64.MAX)) }
         ensures without_memory { IsErrOf result EditFault.Memory → ⊥ }
         ensures err { OnErr result (self.new ≡ self.old) }
@@ -102,11 +106,15 @@ impl TrackedReplica {
     /// Joins copies of what a store holds, as `Replica::merge`. Lists the places with news if something is cached, which
     /// reads both stores side by side once more.
     pub fn merge(&mut self, other: &Store) -> Result<u64, AllocError>
-        ensures ok { OnOk result (self.new ≡ record self.old { store = join self.old.store other.now }) }
-        ensures changed { IfOk result (λ changed. changed ≡ changed_places self.old.store self.new.store) }
+        ensures ok { OnOk result
+            (self.new ≡ record self.old { store = join self.old.store other.now }) }
+        ensures changed { IfOk result
+            (λ changed. changed ≡ changed_places self.old.store self.new.store) }
         ensures kept { OnErr result (IsStoreBelow self.old.store self.new.store) }
-        ensures within { OnErr result (IsStoreBelow self.new.store (join self.old.store other.now)) }
-        ensures again { OnErr result (join self.new.store other.now ≡ join self.old.store other.now) }
+        ensures within { OnErr result
+            (IsStoreBelow self.new.store (join self.old.store other.now)) }
+        ensures again { OnErr result
+            (join self.new.store other.now ≡ join self.old.store other.now) }
         ensures single { OnErr result (finmap.len other.now ≡ 1 → self.new ≡ self.old) }
         ensures writer { self.new.writer ≡ self.old.writer }
     {
@@ -117,11 +125,14 @@ impl TrackedReplica {
     /// Joins what a store holds, as `Replica::absorb`. Lists the places with news if something is cached, which reads both
     /// stores side by side once more.
     pub fn absorb(&mut self, other: Store) -> Result<u64, Rest<Store>>
-        ensures ok { OnOk result (self.new ≡ record self.old { store = join self.old.store other }) }
-        ensures changed { IfOk result (λ changed. changed ≡ changed_places self.old.store self.new.store) }
+        ensures ok { OnOk result
+            (self.new ≡ record self.old { store = join self.old.store other }) }
+        ensures changed { IfOk result
+            (λ changed. changed ≡ changed_places self.old.store self.new.store) }
         ensures kept { OnErr result (IsStoreBelow self.old.store self.new.store) }
         ensures within { OnErr result (IsStoreBelow self.new.store (join self.old.store other)) }
-        ensures rest { IfErr result (λ fault. join self.new.store fault.rest ≡ join self.old.store other) }
+        ensures rest { IfErr result
+            (λ fault. join self.new.store fault.rest ≡ join self.old.store other) }
         ensures single { OnErr result (finmap.len other ≡ 1 → self.new ≡ self.old) }
         ensures writer { self.new.writer ≡ self.old.writer }
     {

@@ -37,21 +37,28 @@ pub fn answer_in_world<R: Threads + Sync, G: Gate + Sync>(
     ensures some { IfOk result (λ found. IsSome found ↔ (node < length writers.now)) }
 
     // The answer is that of the store of the node after these events, whatever versions the edits have.
-    ensures model { IfOk result (λ found. IfSome found (AnswersItsStore (length writers.now) events.now node extra.now question.now)) }
+    ensures model { IfOk result
+        (λ found. IfSome found
+        (AnswersItsStore (length writers.now) events.now node extra.now question.now)) }
 
     // If no two edits that were put have the same version, it is the answer of the sum of the edits that the node took,
     // which is their least upper bound.
-    ensures sum { IfOk result (λ found. IfSome found (AnswersItsSum (length writers.now) events.now node extra.now question.now)) }
+    ensures sum { IfOk result
+        (λ found. IfSome found
+        (AnswersItsSum (length writers.now) events.now node extra.now question.now)) }
 
     // The same, where what the node took is defined by the events alone.
-    ensures by_events { IfOk result (λ found. IfSome found (AnswersByEvents (length writers.now) events.now node extra.now question.now)) }
+    ensures by_events { IfOk result
+        (λ found. IfSome found
+        (AnswersByEvents (length writers.now) events.now node extra.now question.now)) }
 
     // So any node that took the same edits, by now or by any later moment, has the same answer.
     ensures same { IfOk result (λ found. IfSome found (λ answer. (later : List Event) →
         AgreesLater (length writers.now) events.now node extra.now question.now later answer)) }
 
     // If no two edits that were put have the same version, the node holds the least store above what it took.
-    ensures least { IfOk result (λ found. IfSome found (λ _. HoldsLeast (length writers.now) events.now node)) }
+    ensures least { IfOk result
+        (λ found. IfSome found (λ _. HoldsLeast (length writers.now) events.now node)) }
 
     // And any node that took the same edits, by now or by any later moment, holds the same store.
     ensures stores { IfOk result (λ found. IfSome found (λ _. (later : List Event) →

@@ -32,7 +32,8 @@ IsAskedByOneProfile other world other_world = Unit {0}
 -- both, if it is asked by one profile where it is about units.
 abbrev pub SameEditsSameOutcomes : Type 0
 SameEditsSameOutcomes = (world other : ScriptWorld) (left right : List ℕ) (j k : ℕ) → node_named world.nodes left ≡ Some j → node_named other.nodes right ≡ Some k
-    → AreSameEdits (took (state world) j) (took (state other) k) → (command : Command) → IsReading command → IsAskedByOneProfile command world other
+    → AreSameEdits (took (state world) j) (took (state other) k) → (command : Command) → IsReading command
+    → IsAskedByOneProfile command world other
     → (a b : Outcome) (x y : ScriptWorld) → Does world (of_node left command) a x → Does other (of_node right command) b y → a ≡ b
 
 -- If these moments come after some lines of scripts, both nodes hold the same store.
@@ -44,4 +45,5 @@ SameEditsSameStores = (lines others : List (List ℕ)) (written rendered : List 
 -- A node's store is the least store above the edits that it took.
 abbrev pub StoresAreLeast : Type 0
 StoresAreLeast = (lines : List (List ℕ)) (written : List ℕ) (world : ScriptWorld) → Run blank lines written world
-    → (k : ℕ) (node : worlds.Node) → slice_get (state world).nodes k ≡ Some node → (s : EntryMap) → IsStoreBelow node.store s ↔ IsAboveEdits (took (state world) k) s
+    → (k : ℕ) (node : worlds.Node) → slice_get (state world).nodes k ≡ Some node → (s : EntryMap)
+    → IsStoreBelow node.store s ↔ IsAboveEdits (took (state world) k) s

@@ -24,7 +24,8 @@ AnswersLine old line answer new =
 abbrev pub Run : ScriptWorld → List (List ℕ) → List ℕ → ScriptWorld → Type 0
 Run old [] written new = (written ≡ []) × (new ≡ old)
 Run old (line ∷ lines) written new =
-    (answer : List ℕ) × (later : List ℕ) × (mid : ScriptWorld) × (written ≡ answer ++ later) × AnswersLine old line answer mid × Run mid lines later new
+    (answer : List ℕ) × (later : List ℕ) × (mid : ScriptWorld) × (written ≡ answer ++ later)
+    × AnswersLine old line answer mid × Run mid lines later new
 
 -- these are the answers to the script
 abbrev pub Answers : List ℕ → List ℕ → Type 0

@@ -28,11 +28,16 @@ fn answer_all<R: AllocGlobal + Threads + Wait + Sync, H: Home, K: Sink>(
     script: &[u8],
     writer: &mut K,
 ) -> Result<(), KeptFault>
-    ensures ok { OnOk result ((first : ScriptWorld) → Holds (kept_in shell) first → H.holds home.old (held first 0) →
-        AnswersFrom first script.now (K.contents writer.old) (K.contents writer.new) (H.holds home.new)) }
-    ensures prefix { OnErr result ((first : ScriptWorld) → Holds (kept_in shell) first → H.holds home.old (held first 0) →
-        PrefixFrom first script.now (K.contents writer.old) (K.contents writer.new) (H.keeps home.new)) }
-    ensures write { IsErrOf result KeptFault.Write → FailedSince (K.refusals writer.old) (K.refusals writer.new) }
+    ensures ok { OnOk result
+        ((first : ScriptWorld) → Holds (kept_in shell) first → H.holds home.old (held first 0)
+        → AnswersFrom first script.now (K.contents writer.old) (K.contents writer.new)
+        (H.holds home.new)) }
+    ensures prefix { OnErr result
+        ((first : ScriptWorld) → Holds (kept_in shell) first → H.holds home.old (held first 0)
+        → PrefixFrom first script.now (K.contents writer.old) (K.contents writer.new)
+        (H.keeps home.new)) }
+    ensures write { IsErrOf result KeptFault.Write
+        → FailedSince (K.refusals writer.old) (K.refusals writer.new) }
     ensures read { IsErrOf result KeptFault.Read → ⊥ }
 {
     let alloc = rt.alloc();
@@ -80,12 +85,14 @@ pub fn run<R: AllocGlobal + Threads + Wait + Sync, S: Source, K: Sink>(
     writer: &mut K,
 ) -> Result<(), ShellFault>
     // The answers to the whole script are written.
-    ensures ok { OnOk result (IsAnswered MAX_SCRIPT_BYTES (S.remaining reader.old) (K.contents writer.old)
+    ensures ok { OnOk result
+        (IsAnswered MAX_SCRIPT_BYTES (S.remaining reader.old) (K.contents writer.old)
         (K.contents writer.new)) }
 
     // If the script wasn't read, nothing is written, and a read failed or the script is too long.
-    ensures read { IsErrOf result ShellFault.Read → IsUnread MAX_SCRIPT_BYTES (S.remaining reader.old)
-        (S.failures reader.old) (S.failures reader.new) (K.contents writer.old) (K.contents writer.new) }
+    ensures read { IsErrOf result ShellFault.Read
+        → IsUnread MAX_SCRIPT_BYTES (S.remaining reader.old) (S.failures reader.old)
+        (S.failures reader.new) (K.contents writer.old) (K.contents writer.new) }
 
     // On every fault a prefix of the answers is written.
     ensures prefix { OnErr result (IsPrefixWritten (S.remaining reader.old) (K.contents writer.old)
@@ -120,18 +127,23 @@ pub fn run_kept<R: AllocGlobal + Threads + Wait + Sync, H: Home, S: Source, K: S
     requires held { H.holds home.old here.store }
 
     // The answers to the whole script are written, and the home holds what the node does at the end.
-    ensures ok { OnOk result (IsAnsweredFrom (begun HERE.now here.writer here.store) MAX_SCRIPT_BYTES
-        (S.remaining reader.old) (K.contents writer.old) (K.contents writer.new) (H.holds home.new)) }
+    ensures ok { OnOk result
+        (IsAnsweredFrom (begun HERE.now here.writer here.store) MAX_SCRIPT_BYTES
+        (S.remaining reader.old) (K.contents writer.old) (K.contents writer.new)
+        (H.holds home.new)) }
 
     // If the script wasn't read, nothing is written and nothing is kept, and a read failed or the script is too long.
-    ensures read { IsErrOf result KeptFault.Read → IsUnread MAX_SCRIPT_BYTES (S.remaining reader.old)
-        (S.failures reader.old) (S.failures reader.new) (K.contents writer.old) (K.contents writer.new) }
+    ensures read { IsErrOf result KeptFault.Read
+        → IsUnread MAX_SCRIPT_BYTES (S.remaining reader.old) (S.failures reader.old)
+        (S.failures reader.new) (K.contents writer.old) (K.contents writer.new) }
     ensures unread { IsErrOf result KeptFault.Read → home.new ≡ home.old }
 
     // On every fault a prefix of the answers to some first lines is written, and what the node holds after these lines is kept.
-    ensures prefix { OnErr result (IsPrefixFrom (begun HERE.now here.writer here.store) (S.remaining reader.old)
+    ensures prefix { OnErr result
+        (IsPrefixFrom (begun HERE.now here.writer here.store) (S.remaining reader.old)
         (K.contents writer.old) (K.contents writer.new) (H.keeps home.new)) }
-    ensures write { IsErrOf result KeptFault.Write → FailedSince (K.refusals writer.old) (K.refusals writer.new) }
+    ensures write { IsErrOf result KeptFault.Write
+        → FailedSince (K.refusals writer.old) (K.refusals writer.new) }
 {
     let alloc = rt.alloc();
     match read_all(alloc, reader) {

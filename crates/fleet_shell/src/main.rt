@@ -49,15 +49,15 @@ fn answer_script<R: AllocGlobal + Eprint + Threads + Wait + Sync, S: Source, K: 
         (K.contents sink.old) (K.contents sink.new) }
 
     // A read failed or the script is too long, and nothing is written; or a write failed after a prefix of the answers.
-    ensures faulted { exit_status result ≡ 1 →
-        IsUnread MAX_SCRIPT_BYTES (S.remaining source.old) (S.failures source.old) (S.failures source.new)
-        (K.contents sink.old) (K.contents sink.new)
+    ensures faulted { exit_status result ≡ 1
+        → IsUnread MAX_SCRIPT_BYTES (S.remaining source.old) (S.failures source.old)
+        (S.failures source.new) (K.contents sink.old) (K.contents sink.new)
         ⊎ IsUnwritten (S.remaining source.old) (K.refusals sink.old) (K.refusals sink.new)
         (K.contents sink.old) (K.contents sink.new) }
 
     // Memory ran out after a prefix of the answers.
-    ensures starved { exit_status result ≡ 2 → IsPrefixWritten (S.remaining source.old) (K.contents sink.old)
-        (K.contents sink.new) }
+    ensures starved { exit_status result ≡ 2
+        → IsPrefixWritten (S.remaining source.old) (K.contents sink.old) (K.contents sink.new) }
 {
     let outcome = run(rt, source, sink);
     ExitCode::from(finish(rt, outcome))

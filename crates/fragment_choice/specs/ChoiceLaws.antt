@@ -51,7 +51,8 @@ templates_come_last s n o r c nothing t h e none =
     ∙ ap (λ x. unwrap_or x NotFound) (first_at (says s n o) r c h e none)
 
 -- The same visible content says the same.
-says_same : (s t : HostViewMap) → AreForOne s t → (n o : Name) (k : ℕ) → viewed_at s (own_path o k) ≡ viewed_at t (own_path o k) → says s n o k ≡ says t n o k
+says_same : (s t : HostViewMap) → AreForOne s t → (n o : Name) (k : ℕ)
+    → viewed_at s (own_path o k) ≡ viewed_at t (own_path o k) → says s n o k ≡ says t n o k
 says_same s t one n o k same = (λ i. option_and_then (content_says n o (same_place s t one (own_path o k) i)) (same i))
 
 mask_says : (n o : Name) (p : PlaceParts) (x : Content) → IsMask x → content_says n o p x ≡ Some Masked

@@ -63,14 +63,20 @@ made_other Instance n Instance t p e = cc (e)
 link_other : (n o : Name) (t : List ℕ) (p : PlaceParts) → IsOther (link_says n o t) p
 link_other n o t p e = by (is_name t) (is_self o t) (is_bad_kind (kind o) (kind t)) (shapes_agree (shape o) (instance o) (shape t) (instance t)) e
   where
-    by : (a b c d : Bool) → IsOther (cond a (cond b None (cond c (Some (Bad cause.Kind)) (cond d (Some (alias_of (shape n) n (shape t) t)) (Some (Bad cause.Shape))))) (Some (Bad cause.Target))) p
+    by : (a b c d : Bool)
+        → IsOther
+        (cond a (cond b None
+        (cond c (Some (Bad cause.Kind))
+        (cond d (Some (alias_of (shape n) n (shape t) t)) (Some (Bad cause.Shape)))))
+        (Some (Bad cause.Target))) p
     by false b c d e = cc (e)
     by true true c d e = cc (e)
     by true false true d e = cc (e)
     by true false false true e = made_other (shape n) n (shape t) t p e
     by true false false false e = cc (e)
 
-content_file : (n o : Name) (q p : PlaceParts) (c : Content) → content_says n o q c ≡ Some (Fragment p) → (b : ℕ) × (bs : List ℕ) × (c ≡ content.File (b ∷ bs)) × (q ≡ p)
+content_file : (n o : Name) (q p : PlaceParts) (c : Content) → content_says n o q c ≡ Some (Fragment p)
+    → (b : ℕ) × (bs : List ℕ) × (c ≡ content.File (b ∷ bs)) × (q ≡ p)
 content_file n o q p content.Gone e = cc (e)
 content_file n o q p (content.File []) e = cc (e)
 content_file n o q p (content.File (b ∷ bs)) e = (b, bs, refl, cc)

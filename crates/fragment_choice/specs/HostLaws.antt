@@ -17,7 +17,8 @@ abbrev pub ChoicesAreTheFleets : Type 0
 ChoicesAreTheFleets = (s : EntryMap) (profile : Profile) (n : Name) → choice (host_view_of s (of_fleet profile)) n ≡ fleet_choice (scope_of s Fleet) n
 
 -- A view in which only contents of the fleet are visible.
-module _ (s : EntryMap) (profile : Profile) (v : HostViewMap) (same : (p : PathParts) → viewed_at v p ≡ viewed_at (host_view_of s (of_fleet profile)) p) where
+module _ (s : EntryMap) (profile : Profile) (v : HostViewMap)
+    (same : (p : PathParts) → viewed_at v p ≡ viewed_at (host_view_of s (of_fleet profile)) p) where
   -- The levels of a host say nothing, and the levels of the fleet say what their ranks say.
   says_by_rank : (n o : Name) (level : ℕ) → says v n o level ≡ cond (level % 2 == 0) None (fleet_says (scope_of s Fleet) n o (level / 2))
   says_by_rank n o level = ap (option_and_then (content_says n o (own_place v o level))) (same (own_path o level) ∙ fleets_sights s profile (own_path o level)) ∙ by (level % 2 == 0)

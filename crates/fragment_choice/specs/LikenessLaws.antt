@@ -38,7 +38,8 @@ module _ (n t m : Name) (good : IsName t) where
       let all = instance_has_parts t (instance n) m good (template_alias (with_instance t (instance n)) m h) in
       record { name = all.2.name; kind_is = all.2.kind_is ∙ sym all.1; shape_is = all.2.shape_is }
 
-  by_own_link : (x y : UnitShape) → shape t ≡ y → shapes_agree x (instance n) y (instance t) ≡ true → alias_of x n y t ≡ Alias m → IsMade t m x
+  by_own_link : (x y : UnitShape) → shape t ≡ y → shapes_agree x (instance n) y (instance t) ≡ true
+      → alias_of x n y t ≡ Alias m → IsMade t m x
   by_own_link Plain Plain e g h = itself Plain e h
   by_own_link Plain Template e g h = cc (g)
   by_own_link Plain Instance e g h = cc (g)
@@ -49,7 +50,8 @@ module _ (n t m : Name) (good : IsName t) where
   by_own_link Instance Template e g h = with_its_part h
   by_own_link Instance Instance e g h = itself Instance e h
 
-  by_template_link : (i : Name) (y : UnitShape) → shapes_agree Template i y (instance t) ≡ true → alias_of Instance n y t ≡ Alias m → IsMade t m Instance
+  by_template_link : (i : Name) (y : UnitShape) → shapes_agree Template i y (instance t) ≡ true
+      → alias_of Instance n y t ≡ Alias m → IsMade t m Instance
   by_template_link i Plain g h = cc (g)
   by_template_link i Template g h = with_its_part h
   by_template_link i Instance g h = cc (g)

@@ -56,7 +56,8 @@ TargetsMakeBad = (s : HostViewMap) (n o t : Name) (level : ℕ) → IsName n →
 -- What a good link to `t` makes `n` an alias of: a template `t` with the instance part of an instance `n`, else `t`
 -- itself.
 pub data IsAliasOf (n t m : Name) : Type 0 where
-  with_part : shape n ≡ Instance → shape t ≡ Template → m ≡ instance_name (prefix t) (instance n) (suffix t) → length m ≤ 255 → IsAliasOf n t m
+  with_part : shape n ≡ Instance → shape t ≡ Template → m ≡ instance_name (prefix t) (instance n) (suffix t)
+      → length m ≤ 255 → IsAliasOf n t m
   itself : (shape n ≡ Instance → shape t ≢ Template) → m ≡ t → IsAliasOf n t m
 
 -- A link makes an alias exactly if it isn't ignored, neither the kinds nor the shapes clash, and the alias isn't too
@@ -76,7 +77,8 @@ said_link s n o t level k =
     ∙ by (is_null k.target) refl
     ∙ ap (link_says n o) k.component
   where
-    by : (b : Bool) → is_null k.target ≡ b → cond b (Some Masked) (link_says n o (last_component k.target)) ≡ link_says n o (last_component k.target)
+    by : (b : Bool) → is_null k.target ≡ b
+        → cond b (Some Masked) (link_says n o (last_component k.target)) ≡ link_says n o (last_component k.target)
     by true e = absurd (k.no_mask ((bytes_eq-Decides k.target (codes "/dev/null")).0 e))
     by false e = refl
 
@@ -237,21 +239,24 @@ too_long m h = by (leb (length m) 255) refl
     by false e = refl
 
 -- A template with the instance part of a name, if the result isn't too long.
-with_part_is : (n t : Name) → IsName n → shape n ≡ Instance → shape t ≡ Template → with_instance t (instance n) ≡ if_short (instance_name (prefix t) (instance n) (suffix t))
+with_part_is : (n t : Name) → IsName n → shape n ≡ Instance → shape t ≡ Template
+    → with_instance t (instance n) ≡ if_short (instance_name (prefix t) (instance n) (suffix t))
 with_part_is n t h a b =
     let fit : is_instance (instance n) ≡ true = sym (ap (λ x. fits x (instance n)) a) ∙ (parts_of_names_fit n h).instance_fits in
     ap (λ x. instance_at x t (instance n)) b ∙ ap (λ x. cond x (if_short (instance_name (prefix t) (instance n) (suffix t))) None) fit
 
 -- ---- what follows from the tests that were passed
 
-kind_decided : (a b c d : Bool) (x : Choice) → (x ≡ Bad Kind → ⊥) → decided a b c d x ≡ Some (Bad Kind) → (a ≡ true) × (b ≡ false) × (c ≡ true)
+kind_decided : (a b c d : Bool) (x : Choice) → (x ≡ Bad Kind → ⊥) → decided a b c d x ≡ Some (Bad Kind)
+    → (a ≡ true) × (b ≡ false) × (c ≡ true)
 kind_decided false b c d x h e = cc (e)
 kind_decided true true c d x h e = cc (e)
 kind_decided true false true d x h e = (refl, refl, refl)
 kind_decided true false false true x h e = absurd (h (same_Some _ _ e))
 kind_decided true false false false x h e = cc (e)
 
-shape_decided : (a b c d : Bool) (x : Choice) → (x ≡ Bad Shape → ⊥) → decided a b c d x ≡ Some (Bad Shape) → (a ≡ true) × (b ≡ false) × (c ≡ false) × (d ≡ false)
+shape_decided : (a b c d : Bool) (x : Choice) → (x ≡ Bad Shape → ⊥) → decided a b c d x ≡ Some (Bad Shape)
+    → (a ≡ true) × (b ≡ false) × (c ≡ false) × (d ≡ false)
 shape_decided false b c d x h e = cc (e)
 shape_decided true true c d x h e = cc (e)
 shape_decided true false true d x h e = cc (e)
@@ -310,7 +315,8 @@ shapes_make_bad s n o t level well_formed stands = (there, back)
 pub targets_make_bad : TargetsMakeBad
 targets_make_bad s n o t level named well_formed stands = (there, back)
   where
-    grown : IsLast (is_name t) (is_self o t) (is_bad_kind (kind o) (kind t)) (agree o t) (alias_of (shape n) n (shape t) t) → GrowsTooLong n o t
+    grown : IsLast (is_name t) (is_self o t) (is_bad_kind (kind o) (kind t)) (agree o t)
+        (alias_of (shape n) n (shape t) t) → GrowsTooLong n o t
     grown k =
         let u = unmade n t Target k.4 in
         record {
@@ -322,7 +328,8 @@ targets_make_bad s n o t level named well_formed stands = (there, back)
           long = not_short _ (sym (with_part_is n t named u.of_instance u.to_template) ∙ u.none);
         }
 
-    pick : (is_name t ≡ false) ⊎ IsLast (is_name t) (is_self o t) (is_bad_kind (kind o) (kind t)) (agree o t) (alias_of (shape n) n (shape t) t) → (IsName t → ⊥) ⊎ GrowsTooLong n o t
+    pick : (is_name t ≡ false) ⊎ IsLast (is_name t) (is_self o t) (is_bad_kind (kind o) (kind t)) (agree o t)
+        (alias_of (shape n) n (shape t) t) → (IsName t → ⊥) ⊎ GrowsTooLong n o t
     pick (inl e) = inl (λ h. true≢false (sym h ∙ e))
     pick (inr k) = inr (grown k)
 

@@ -20,15 +20,18 @@ pub record ByLink (s : HostViewMap) (n o m : Name) : Type 0 where
   pub said : target_says n o (last_component target) ≡ Some (Alias m)
   pub well_formed : IsName (last_component target)
 
-null_or : (b : Bool) (n o t m : Name) → cond b (Some Masked) (link_says n o t) ≡ Some (Alias m) → IsName t × (target_says n o t ≡ Some (Alias m))
+null_or : (b : Bool) (n o t m : Name) → cond b (Some Masked) (link_says n o t) ≡ Some (Alias m)
+    → IsName t × (target_says n o t ≡ Some (Alias m))
 null_or true n o t m h = cc (h)
 null_or false n o t m h = by (is_name t) refl h
   where
-    by : (b : Bool) → is_name t ≡ b → cond b (target_says n o t) (Some (Bad Target)) ≡ Some (Alias m) → IsName t × (target_says n o t ≡ Some (Alias m))
+    by : (b : Bool) → is_name t ≡ b → cond b (target_says n o t) (Some (Bad Target)) ≡ Some (Alias m)
+        → IsName t × (target_says n o t ≡ Some (Alias m))
     by true e k = (e, k)
     by false e k = cc (k)
 
-by_link : (s : HostViewMap) (n o m : Name) (r : ℕ) → IsLevel r → (v : Option Content) → viewed_at s (own_path o r) ≡ v → option_and_then (content_says n o (own_place s o r)) v ≡ Some (Alias m) → ByLink s n o m
+by_link : (s : HostViewMap) (n o m : Name) (r : ℕ) → IsLevel r → (v : Option Content) → viewed_at s (own_path o r) ≡ v
+    → option_and_then (content_says n o (own_place s o r)) v ≡ Some (Alias m) → ByLink s n o m
 by_link s n o m r within None e h = cc (h)
 by_link s n o m r within (Some Gone) e h = cc (h)
 by_link s n o m r within (Some (File [])) e h = cc (h)
@@ -59,7 +62,8 @@ has_link s n m h = by_own (own_choice s n n) refl h
     by_template None e k = cc (k)
     by_template (Some o) e k = record { owner = o; owns = inr e; link = own_link s n o m (alias_said (own_choice s n o) m k) }
 
-    by_own : (c : Option Choice) → own_choice s n n ≡ c → unwrap_or (option_or c (option_and_then (own_choice s n) (template_of n))) NotFound ≡ Alias m → HasLink s n m
+    by_own : (c : Option Choice) → own_choice s n n ≡ c
+        → unwrap_or (option_or c (option_and_then (own_choice s n) (template_of n))) NotFound ≡ Alias m → HasLink s n m
     by_own None e k = by_template (template_of n) refl k
     by_own (Some c) e k = record { owner = n; owns = inl refl; link = own_link s n n m (e ∙ ap (λ x. Some x) k) }
 
@@ -77,15 +81,24 @@ pub record IsPassed (n o t m : Name) : Type 0 where
 pub passed : (n o t m : Name) → target_says n o t ≡ Some (Alias m) → IsPassed n o t m
 passed n o t m h = by_self (is_self o t) h
   where
-    by_shape : (b : Bool) → is_bad_kind (kind o) (kind t) ≡ false → shapes_agree (shape o) (instance o) (shape t) (instance t) ≡ b → cond b (Some (alias_of (shape n) n (shape t) t)) (Some (Bad Shape)) ≡ Some (Alias m) → IsPassed n o t m
+    by_shape : (b : Bool) → is_bad_kind (kind o) (kind t) ≡ false
+        → shapes_agree (shape o) (instance o) (shape t) (instance t) ≡ b
+        → cond b (Some (alias_of (shape n) n (shape t) t)) (Some (Bad Shape)) ≡ Some (Alias m) → IsPassed n o t m
     by_shape true q e k = record { kinds = q; agree = e; alias = same_Some _ _ k }
     by_shape false q e k = cc (k)
 
-    by_kind : (b : Bool) → is_bad_kind (kind o) (kind t) ≡ b → cond b (Some (Bad Kind)) (cond (shapes_agree (shape o) (instance o) (shape t) (instance t)) (Some (alias_of (shape n) n (shape t) t)) (Some (Bad Shape))) ≡ Some (Alias m) → IsPassed n o t m
+    by_kind : (b : Bool) → is_bad_kind (kind o) (kind t) ≡ b
+        → cond b (Some (Bad Kind))
+        (cond (shapes_agree (shape o) (instance o) (shape t) (instance t)) (Some (alias_of (shape n) n (shape t) t))
+        (Some (Bad Shape))) ≡ Some (Alias m) → IsPassed n o t m
     by_kind true q k = cc (k)
     by_kind false q k = by_shape (shapes_agree (shape o) (instance o) (shape t) (instance t)) q refl k
 
-    by_self : (b : Bool) → cond b None (cond (is_bad_kind (kind o) (kind t)) (Some (Bad Kind)) (cond (shapes_agree (shape o) (instance o) (shape t) (instance t)) (Some (alias_of (shape n) n (shape t) t)) (Some (Bad Shape)))) ≡ Some (Alias m) → IsPassed n o t m
+    by_self : (b : Bool)
+        → cond b None
+        (cond (is_bad_kind (kind o) (kind t)) (Some (Bad Kind))
+        (cond (shapes_agree (shape o) (instance o) (shape t) (instance t))
+        (Some (alias_of (shape n) n (shape t) t)) (Some (Bad Shape)))) ≡ Some (Alias m) → IsPassed n o t m
     by_self true k = cc (k)
     by_self false k = by_kind (is_bad_kind (kind o) (kind t)) refl k
 
@@ -101,7 +114,8 @@ has_template Template n t h = absurd (none-some _ h)
 has_template Instance n t h = refl
 
 -- The owner of an instance's link is that instance, or a template.
-owner_shape : (n o : Name) → IsName n → shape n ≡ Instance → (o ≡ n) ⊎ (template_of n ≡ Some o) → ((shape o ≡ Instance) × (instance o ≡ instance n)) ⊎ (shape o ≡ Template)
+owner_shape : (n o : Name) → IsName n → shape n ≡ Instance → (o ≡ n) ⊎ (template_of n ≡ Some o)
+    → ((shape o ≡ Instance) × (instance o ≡ instance n)) ⊎ (shape o ≡ Template)
 owner_shape n o h e (inl q) = inl (ap shape q ∙ e, ap instance q)
 owner_shape n o h e (inr q) = inr (templates_keep_parts n o h q).2.shape_is
 
@@ -119,11 +133,13 @@ template_alias (Some x) m h = ap (λ c. unaliased c) h
 pub alias_same : (t m : Name) → Alias t ≡ Alias m → t ≡ m
 alias_same t m h = same_Some _ _ (template_alias (Some t) m h)
 
-keeps : (n o t m : Name) → IsName n → shape n ≡ Instance → IsName t → ((shape o ≡ Instance) × (instance o ≡ instance n)) ⊎ (shape o ≡ Template) → IsPassed n o t m → IsInstance (instance n) m
+keeps : (n o t m : Name) → IsName n → shape n ≡ Instance → IsName t → ((shape o ≡ Instance) × (instance o ≡ instance n))
+    ⊎ (shape o ≡ Template) → IsPassed n o t m → IsInstance (instance n) m
 keeps n o t m h e well_formed owner p =
     by (shape t) refl owner (sym (ap (λ x. alias_of x n (shape t) t) e) ∙ p.alias) p.agree
   where
-    agreed : (x y : UnitShape) → shape o ≡ x → shape t ≡ y → shapes_agree (shape o) (instance o) (shape t) (instance t) ≡ true → shapes_agree x (instance o) y (instance t) ≡ true
+    agreed : (x y : UnitShape) → shape o ≡ x → shape t ≡ y → shapes_agree (shape o) (instance o) (shape t) (instance t)
+        ≡ true → shapes_agree x (instance o) y (instance t) ≡ true
     agreed x y a b k = sym (ap (λ z. shapes_agree z (instance o) (shape t) (instance t)) a ∙ ap (λ z. shapes_agree x (instance o) z (instance t)) b) ∙ k
 
     of_template : shape t ≡ Template → alias_of Instance n (shape t) t ≡ Alias m → IsInstance (instance n) m
@@ -132,7 +148,9 @@ keeps n o t m h e well_formed owner p =
         let all = (instances_have_the_template t (instance n) m well_formed).0 some in
         record { name = all.0; shape_is = has_template (shape m) m t all.1; part = all.2 }
 
-    by : (y : UnitShape) → shape t ≡ y → ((shape o ≡ Instance) × (instance o ≡ instance n)) ⊎ (shape o ≡ Template) → alias_of Instance n (shape t) t ≡ Alias m → shapes_agree (shape o) (instance o) (shape t) (instance t) ≡ true → IsInstance (instance n) m
+    by : (y : UnitShape) → shape t ≡ y → ((shape o ≡ Instance) × (instance o ≡ instance n)) ⊎ (shape o ≡ Template)
+        → alias_of Instance n (shape t) t ≡ Alias m → shapes_agree (shape o) (instance o) (shape t) (instance t) ≡ true
+        → IsInstance (instance n) m
     by Plain q (inl (a, i)) k g = cc (agreed Instance Plain a q g)
     by Plain q (inr a) k g = cc (agreed Template Plain a q g)
     by Template q (inl (a, i)) k g = of_template q k

@@ -23,7 +23,8 @@ longer : (s : HostViewMap) {n m : Name} {k : ℕ} (u : Name) → Chain s k n m �
 longer s u (here m) l = step m u u 0 l (here u)
 longer s u (step n x m j h rest) l = step n x u (suc j) h (longer s u rest l)
 
-after : (s : HostViewMap) (n m : Name) (k i : ℕ) (c : Choice) → choice s m ≡ c → i + suc k ≡ 9 → Chain s i n m → ((a : Name) → choice s m ≡ Alias a → Resolves s n (follow s k n a)) → Resolves s n (ended_or (follow s k n) m c)
+after : (s : HostViewMap) (n m : Name) (k i : ℕ) (c : Choice) → choice s m ≡ c → i + suc k ≡ 9 → Chain s i n m
+    → ((a : Name) → choice s m ≡ Alias a → Resolves s n (follow s k n a)) → Resolves s n (ended_or (follow s k n) m c)
 after s n m k i NotFound e t h rest = subst (λ c. IsEnd c → Resolves s n (record { main = m; choice = c })) e (ends_at i m (omega arith) h) tt
 after s n m k i Masked e t h rest = subst (λ c. IsEnd c → Resolves s n (record { main = m; choice = c })) e (ends_at i m (omega arith) h) tt
 after s n m k i (Fragment p) e t h rest = subst (λ c. IsEnd c → Resolves s n (record { main = m; choice = c })) e (ends_at i m (omega arith) h) tt
@@ -80,7 +81,8 @@ mains_are_their_own s n =
     let e = again s n (resolution s n) refl (resolution_resolves s n) in
     (ap (λ r. r.main) e, e)
 
-ended_same : (more same : Name → Resolution) (n : Name) (c : Choice) → ((m : Name) → more m ≡ same m) → ended_or more n c ≡ ended_or same n c
+ended_same : (more same : Name → Resolution) (n : Name) (c : Choice) → ((m : Name) → more m ≡ same m)
+    → ended_or more n c ≡ ended_or same n c
 ended_same more same n NotFound h = refl
 ended_same more same n Masked h = refl
 ended_same more same n (Fragment p) h = refl

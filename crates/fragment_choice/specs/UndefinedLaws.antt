@@ -157,14 +157,16 @@ undefined s n o e level x h v =
 speechless : (s : HostViewMap) (n o : Name) → NothingSpeaks s o → own_choice s n o ≡ None
 speechless s n o quiet = all_none (says s n o) (λ level h. by level h (viewed_at s (own_path o level)) refl)
   where
-    by : (level : ℕ) → IsLevel level → (y : Option Content) → viewed_at s (own_path o level) ≡ y → option_and_then (content_says n o (own_place s o level)) y ≡ None
+    by : (level : ℕ) → IsLevel level → (y : Option Content) → viewed_at s (own_path o level) ≡ y
+        → option_and_then (content_says n o (own_place s o level)) y ≡ None
     by level h None e = refl
     by level h (Some x) e = nothing_said n o (own_place s o level) x (quiet level x h e)
 
 pub undefined_is_not_found : UndefinedIsNotFound
 undefined_is_not_found s n = (there, back)
   where
-    template_undefined : (t : Option Name) → template_of n ≡ t → unwrap_or (option_and_then (own_choice s n) t) NotFound ≡ NotFound → (o : Name) → template_of n ≡ Some o → NothingSpeaks s o
+    template_undefined : (t : Option Name) → template_of n ≡ t → unwrap_or (option_and_then (own_choice s n) t) NotFound
+        ≡ NotFound → (o : Name) → template_of n ≡ Some o → NothingSpeaks s o
     template_undefined None e h o k = absurd (none-some _ (sym e ∙ k))
     template_undefined (Some t) e h o k = subst (NothingSpeaks s) (same_Some _ _ (sym e ∙ k)) (undefined s n t (by (own_choice s n t) refl h))
       where
@@ -172,14 +174,17 @@ undefined_is_not_found s n = (there, back)
         by None f g = f
         by (Some c) f g = absurd (own_found s n t (f ∙ ap (λ y. Some y) g))
 
-    own_undefined : (c : Option Choice) → own_choice s n n ≡ c → unwrap_or (option_or c (option_and_then (own_choice s n) (template_of n))) NotFound ≡ NotFound → NothingSpeaks s n × ((o : Name) → template_of n ≡ Some o → NothingSpeaks s o)
+    own_undefined : (c : Option Choice) → own_choice s n n ≡ c
+        → unwrap_or (option_or c (option_and_then (own_choice s n) (template_of n))) NotFound ≡ NotFound
+        → NothingSpeaks s n × ((o : Name) → template_of n ≡ Some o → NothingSpeaks s o)
     own_undefined None e h = (undefined s n n e, template_undefined (template_of n) refl h)
     own_undefined (Some c) e h = absurd (own_found s n n (e ∙ ap (λ y. Some y) h))
 
     there : choice s n ≡ NotFound → NothingSpeaks s n × ((o : Name) → template_of n ≡ Some o → NothingSpeaks s o)
     there h = own_undefined (own_choice s n n) refl h
 
-    no_template : (t : Option Name) → template_of n ≡ t → ((o : Name) → template_of n ≡ Some o → NothingSpeaks s o) → unwrap_or (option_and_then (own_choice s n) t) NotFound ≡ NotFound
+    no_template : (t : Option Name) → template_of n ≡ t → ((o : Name) → template_of n ≡ Some o → NothingSpeaks s o)
+        → unwrap_or (option_and_then (own_choice s n) t) NotFound ≡ NotFound
     no_template None e quiet = refl
     no_template (Some o) e quiet = ap (λ c. unwrap_or c NotFound) (speechless s n o (quiet o e))
 

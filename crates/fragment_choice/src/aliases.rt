@@ -202,8 +202,11 @@ fn add_linked(
     view: &HostView,
     level: u8,
 ) -> Result<(), AllocError>
-    ensures added { OnOk result (Collects (IsOwnAt view.now level) (keys_of targets.old.items) (keys_of targets.new.items)) }
-    ensures own { OnOk result (All (HasOwnLinkTargets view.now) targets.old.items → All (HasOwnLinkTargets view.now) targets.new.items) }
+    ensures added { OnOk result
+        (Collects (IsOwnAt view.now level) (keys_of targets.old.items)
+        (keys_of targets.new.items)) }
+    ensures own { OnOk result (All (HasOwnLinkTargets view.now) targets.old.items
+        → All (HasOwnLinkTargets view.now) targets.new.items) }
 {
     let mut entries = view.entries_in(level, b"");
     while let Some(placed) = entries.next_entry() {
@@ -219,8 +222,10 @@ fn add_entry(
     view: &HostView,
     placed: &HostViewEntry,
 ) -> Result<(), AllocError>
-    ensures added { OnOk result (Collects (IsOwnEntry placed.now) (keys_of targets.old.items) (keys_of targets.new.items)) }
-    ensures own { OnOk result (All (HasOwnLinkTargets view.now) targets.old.items → All (HasOwnLinkTargets view.now) targets.new.items) }
+    ensures added { OnOk result
+        (Collects (IsOwnEntry placed.now) (keys_of targets.old.items) (keys_of targets.new.items)) }
+    ensures own { OnOk result (All (HasOwnLinkTargets view.now) targets.old.items
+        → All (HasOwnLinkTargets view.now) targets.new.items) }
 {
     if !is_link(placed) {
         return Ok(());

@@ -76,7 +76,8 @@ pub fn choose(
     viewer: &Viewer,
     name: &UnitName,
 ) -> Result<Choice, AllocError>
-    ensures choice { IfOk result (λ chosen. chosen ≡ choice (host_view_of store.now viewer.now) name.now) }
+    ensures choice { IfOk result
+        (λ chosen. chosen ≡ choice (host_view_of store.now viewer.now) name.now) }
 {
     store.host_view(viewer).choose(alloc, name)
 }

@@ -73,7 +73,8 @@ fn shapes_agree(own: &UnitName, target: &UnitName) -> bool
 
 // Returns the alias that a link to the target makes of the name.
 fn alias_of(name: &UnitName, target: UnitName) -> Result<Choice, AllocError>
-    ensures alias { IfOk result (λ said. said ≡ alias_of (shape name.now) name.now (shape target) target) }
+    ensures alias { IfOk result
+        (λ said. said ≡ alias_of (shape name.now) name.now (shape target) target) }
 {
     match (name.shape(), target.shape()) {
         (Shape::Instance, Shape::Template) => match target.with_instance(name.instance())? {

@@ -28,7 +28,8 @@ pub fn names_of(
     name: &UnitName,
 ) -> Result<Vec<UnitName>, AllocError>
     requires main { main (host_view_of store.now viewer.now) name.now ≡ name.now }
-    ensures names { IfOk result (λ names. AreNames (host_view_of store.now viewer.now) name.now names.items) }
+    ensures names { IfOk result
+        (λ names. AreNames (host_view_of store.now viewer.now) name.now names.items) }
 {
     AliasIndex::of(alloc, store, viewer)?.names_of(alloc, name)
 }
@@ -69,7 +70,8 @@ impl<'a> AliasIndex<'a> {
 
     // Returns the names that are aliases of one of these.
     fn after(&self, alloc: Global, level: &[UnitName]) -> Result<BTreeSet<UnitName>, AllocError>
-        ensures gathered { IfOk result (λ next. Gathers (LeadsToAny self.now level.now) [] next.keys) }
+        ensures gathered { IfOk result
+            (λ next. Gathers (LeadsToAny self.now level.now) [] next.keys) }
     {
         let mut next = BTreeSet::new(alloc);
         for name in level {
@@ -105,8 +107,9 @@ impl<'a> AliasIndex<'a> {
         name: &UnitName,
         owners: &[UnitName],
     ) -> Result<(), AllocError>
-        ensures gathered { OnOk result (Gathers (IsLeadingInstanceOfAny self.now name.now owners.now)
-            others.old.keys others.new.keys) }
+        ensures gathered { OnOk result
+            (Gathers
+            (IsLeadingInstanceOfAny self.now name.now owners.now) others.old.keys others.new.keys) }
     {
         for owner in owners {
             self.add_instance(alloc, others, name, owner)?;

@@ -28,7 +28,8 @@ pub fn resolve(
     viewer: &Viewer,
     name: &UnitName,
 ) -> Result<Resolution, AllocError>
-    ensures resolution { IfOk result (λ it. it ≡ resolution (host_view_of store.now viewer.now) name.now) }
+    ensures resolution { IfOk result
+        (λ it. it ≡ resolution (host_view_of store.now viewer.now) name.now) }
     ensures chain { IfOk result (Resolves (host_view_of store.now viewer.now) name.now) }
     ensures no_alias { IfOk result (λ it. IsEnd it.choice) }
 {

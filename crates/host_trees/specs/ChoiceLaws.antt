@@ -43,7 +43,8 @@ TreesShowTheSameNames = (s t : EntryMap) (viewer : Viewer) → ShowsTree t s vie
 -- A fragment has the same content.
 abbrev pub TreesHaveTheSameFragments : Type 0
 TreesHaveTheSameFragments = (s t : EntryMap) (viewer : Viewer) → ShowsTree t s viewer.host → (n : Name) → IsName n → (p : PlaceParts)
-    → choice (host_view_of s viewer) n ≡ Fragment p → content_at (host_view_of t (of_fleet viewer.profile)) (within Fleet p.path) ≡ content_at (host_view_of s viewer) p
+    → choice (host_view_of s viewer) n ≡ Fragment p
+    → content_at (host_view_of t (of_fleet viewer.profile)) (within Fleet p.path) ≡ content_at (host_view_of s viewer) p
 
 -- ---- choices and main names
 
@@ -125,7 +126,8 @@ module _ (s t : EntryMap) (viewer : Viewer) (shows : ShowsTree t s viewer.host) 
   shown_in_tree : IsShown (host_view_of s viewer) n → IsShown (host_view_of t (of_fleet viewer.profile)) n
   shown_in_tree (level, in_levels, seen) = by (halves level)
     where
-      stands : (r : ℕ) → IsLevel (r + r + 1) → (is_some (own_at s viewer.host (unit_path n r)) || is_some (fleets_at s (unit_path n r))) ≡ true
+      stands : (r : ℕ) → IsLevel (r + r + 1)
+          → (is_some (own_at s viewer.host (unit_path n r)) || is_some (fleets_at s (unit_path n r))) ≡ true
           → IsShown (host_view_of t (of_fleet viewer.profile)) n
       stands r it_is either = (
         r + r + 1,

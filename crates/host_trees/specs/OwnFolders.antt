@@ -29,10 +29,12 @@ module _ (s t : EntryMap) (viewer : Viewer) (shows : ShowsTree t s viewer.host) 
       ap (option_and_then shown) (places_are_in_views u looks (within Fleet (path_at r folder file)) (r + r + 1) refl)
 
   -- What the host doesn't show for itself isn't its own.
-  own_none : (r : ℕ) (folder file : List ℕ) → viewed_at v (path_at (r + r) folder file) ≡ None → own_at s viewer.host (path_at r folder file) ≡ None
+  own_none : (r : ℕ) (folder file : List ℕ) → viewed_at v (path_at (r + r) folder file) ≡ None
+      → own_at s viewer.host (path_at r folder file) ≡ None
   own_none r folder file = by viewer.host
     where
-      by : (h : Option (List ℕ)) → viewed_at (host_view_of s (record viewer { host = h })) (path_at (r + r) folder file) ≡ None → own_at s h (path_at r folder file) ≡ None
+      by : (h : Option (List ℕ)) → viewed_at (host_view_of s (record viewer { host = h })) (path_at (r + r) folder file)
+          ≡ None → own_at s h (path_at r folder file) ≡ None
       by None e = refl
       by (Some h) e =
           sym (ap (option_and_then shown) (places_are_in_views s (of_host h viewer.profile) (within (Host h) (path_at r folder file)) (r + r)
@@ -42,7 +44,8 @@ module _ (s t : EntryMap) (viewer : Viewer) (shows : ShowsTree t s viewer.host) 
       → viewed_at v (path_at level folder file) ≡ viewed_at w (path_at level folder file)
   same_at_level level folder file it_is none = by (halves level)
     where
-      by : (r : ℕ) × ((level ≡ r + r) ⊎ (level ≡ r + r + 1)) → viewed_at v (path_at level folder file) ≡ viewed_at w (path_at level folder file)
+      by : (r : ℕ) × ((level ≡ r + r) ⊎ (level ≡ r + r + 1))
+          → viewed_at v (path_at level folder file) ≡ viewed_at w (path_at level folder file)
       by (r, inl e) =
           let own = none r (omega (arith, it_is, e)) file in
           let tree : viewed_at w (path_at (r + r) folder file) ≡ None =
@@ -67,5 +70,6 @@ module _ (s t : EntryMap) (viewer : Viewer) (shows : ShowsTree t s viewer.host) 
       by Requires = same_in (dirs_with (ending Requires) fs) none.requires
 
 -- Such a unit isn't crossed.
-pub nothing_of_its_own : (s : EntryMap) (viewer : Viewer) (names : List Name) → OwnsNothing (host_view_of s viewer) (folders names) → ReadsItsTree s viewer names
+pub nothing_of_its_own : (s : EntryMap) (viewer : Viewer) (names : List Name)
+    → OwnsNothing (host_view_of s viewer) (folders names) → ReadsItsTree s viewer names
 nothing_of_its_own s viewer names none t shows = reads_alike s t viewer shows (folders names) none

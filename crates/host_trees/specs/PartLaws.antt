@@ -11,16 +11,19 @@ OwnNamesDecide = (n own : Name) (place : PlaceParts) (p : PathParts) (c : Conten
 -- Under a unit's own name a file counts, and a link unless it leads to that name itself or to its template.
 abbrev pub LinksToThemselvesArePassedOver : Type 0
 LinksToThemselvesArePassedOver = (own : Name) (p : PathParts) (target : List ℕ)
-    → counts_as (OfUnit own) p (Link target) ≡ (is_null target || not (is_name (last_component target) && is_self own (last_component target)))
+    → counts_as (OfUnit own) p (Link target)
+    ≡ (is_null target || not (is_name (last_component target) && is_self own (last_component target)))
 
 -- Files count in each part but among links, and links in each but under their own name and among drop-ins.
 abbrev pub FilesCount : Type 0
 FilesCount = (own : Name) (p : PathParts) (bytes : List ℕ)
-    → (counts_as (OfUnit own) p (File bytes) ≡ true) × (counts_as DropIn p (File bytes) ≡ true) × (counts_as UnitLink p (File bytes) ≡ false) × (counts_as Other p (File bytes) ≡ true)
+    → (counts_as (OfUnit own) p (File bytes) ≡ true) × (counts_as DropIn p (File bytes) ≡ true)
+    × (counts_as UnitLink p (File bytes) ≡ false) × (counts_as Other p (File bytes) ≡ true)
 
 abbrev pub LinksCount : Type 0
 LinksCount = (p : PathParts) (target : List ℕ)
-    → (counts_as DropIn p (Link target) ≡ is_null target) × (counts_as UnitLink p (Link target) ≡ true) × (counts_as Other p (Link target) ≡ true)
+    → (counts_as DropIn p (Link target) ≡ is_null target) × (counts_as UnitLink p (Link target) ≡ true)
+    × (counts_as Other p (Link target) ≡ true)
 
 -- ---- links under a unit's own name
 
@@ -38,7 +41,8 @@ link_passed n own t =
     (alias_of (shape n) n (shape t) t)
 
 link_counts : (n own : Name) (place : PlaceParts) (target : List ℕ)
-    → is_some (content_says n own place (Link target)) ≡ (is_null target || not (is_name (last_component target) && is_self own (last_component target)))
+    → is_some (content_says n own place (Link target))
+    ≡ (is_null target || not (is_name (last_component target) && is_self own (last_component target)))
 link_counts n own place target = by (is_null target)
   where
     by : (b : Bool) → is_some (cond b (Some Masked) (link_says n own (last_component target)))
@@ -115,7 +119,8 @@ not_both true false e = cc (e)
 not_both false b e = cc (e)
 
 module _ (p : PathParts) where
-  itself_from : has_folder p ≡ false → is_name p.name ≡ true → (c : Content) → c ≢ Gone → counts_as (OfUnit p.name) p c ≡ false → IsLinkToItself p c
+  itself_from : has_folder p ≡ false → is_name p.name ≡ true → (c : Content) → c ≢ Gone
+      → counts_as (OfUnit p.name) p c ≡ false → IsLinkToItself p c
   itself_from alone unit Gone some e = absurd (some refl)
   itself_from alone unit (File bytes) some e = let wrong = sym (files_count p.name p bytes).0 ∙ e in cc (wrong)
   itself_from alone unit (Link target) some e =
@@ -123,30 +128,35 @@ module _ (p : PathParts) where
       let both = not_both _ _ parts.1 in
       record { alone = alone; unit = unit; target = target; link = refl; kept = parts.0; name = both.0; itself = both.1 }
 
-  drop_in_from : has_folder p ≡ true → is_drop_in_folder p.folder ≡ true → is_conf p.name ≡ true → (c : Content) → c ≢ Gone → counts_as DropIn p c ≡ false → IsLinkAmongDropIns p c
+  drop_in_from : has_folder p ≡ true → is_drop_in_folder p.folder ≡ true → is_conf p.name ≡ true → (c : Content)
+      → c ≢ Gone → counts_as DropIn p c ≡ false → IsLinkAmongDropIns p c
   drop_in_from below folder conf Gone some e = absurd (some refl)
   drop_in_from below folder conf (File bytes) some e = let wrong = sym (files_count p.name p bytes).1 ∙ e in cc (wrong)
   drop_in_from below folder conf (Link target) some e =
       record { below = below; folder = folder; conf = conf; target = target; link = refl; kept = sym (links_count p target).0 ∙ e }
 
-  file_from : has_folder p ≡ true → is_drop_in_folder p.folder ≡ false → is_link_folder p.folder ≡ true → (c : Content) → c ≢ Gone → counts_as UnitLink p c ≡ false → IsFileAmongLinks p c
+  file_from : has_folder p ≡ true → is_drop_in_folder p.folder ≡ false → is_link_folder p.folder ≡ true → (c : Content)
+      → c ≢ Gone → counts_as UnitLink p c ≡ false → IsFileAmongLinks p c
   file_from below other folder Gone some e = absurd (some refl)
   file_from below other folder (File bytes) some e = record { below = below; other = other; folder = folder; bytes = bytes; file = refl }
   file_from below other folder (Link target) some e = let wrong = sym (links_count p target).1 ∙ e in cc (wrong)
 
   module _ (c : Content) (some : c ≢ Gone) where
-    alone_from : has_folder p ≡ false → (b : Bool) → is_name p.name ≡ b → counts_as (cond b (OfUnit p.name) Other) p c ≡ false → IsPassedOverAt p c
+    alone_from : has_folder p ≡ false → (b : Bool) → is_name p.name ≡ b
+        → counts_as (cond b (OfUnit p.name) Other) p c ≡ false → IsPassedOverAt p c
     alone_from alone true unit e = inl (itself_from alone unit c some e)
     alone_from alone false unit e = cc (e)
 
-    among_from : has_folder p ≡ true → (d : Bool) → is_drop_in_folder p.folder ≡ d → (f : Bool) → is_conf p.name ≡ f → (l : Bool) → is_link_folder p.folder ≡ l
+    among_from : has_folder p ≡ true → (d : Bool) → is_drop_in_folder p.folder ≡ d → (f : Bool) → is_conf p.name ≡ f
+        → (l : Bool) → is_link_folder p.folder ≡ l
         → counts_as (cond d (cond f DropIn Other) (cond l UnitLink Other)) p c ≡ false → IsPassedOverAt p c
     among_from below true d true f l k e = inr (inl (drop_in_from below d f c some e))
     among_from below true d false f l k e = cc (e)
     among_from below false d f g true k e = inr (inr (file_from below d k c some e))
     among_from below false d f g false k e = cc (e)
 
-    forth : (b : Bool) → has_folder p ≡ b → counts_as (cond b (part_within p.folder p.name) (part_alone p.name)) p c ≡ false → IsPassedOverAt p c
+    forth : (b : Bool) → has_folder p ≡ b
+        → counts_as (cond b (part_within p.folder p.name) (part_alone p.name)) p c ≡ false → IsPassedOverAt p c
     forth true below e = among_from below (is_drop_in_folder p.folder) refl (is_conf p.name) refl (is_link_folder p.folder) refl e
     forth false alone e = alone_from alone (is_name p.name) refl e
 

@@ -49,7 +49,8 @@ module _ (s : EntryMap) (viewer : Viewer) (o : Name) (r : ℕ) where
   pub own_seen : viewed_at (host_view_of s viewer) (own_path o (r + r)) ≡ own_at s viewer.host (unit_path o r)
   own_seen = by viewer.host
     where
-      by : (host : Option (List ℕ)) → viewed_at (host_view_of s (record viewer { host = host })) (own_path o (r + r)) ≡ own_at s host (unit_path o r)
+      by : (host : Option (List ℕ)) → viewed_at (host_view_of s (record viewer { host = host })) (own_path o (r + r))
+          ≡ own_at s host (unit_path o r)
       by None =
           fleets_sights s viewer.profile (own_path o (r + r))
           ∙ ap (λ b. cond b None (shown_at (scope_of s Fleet) (path_after (own_path o (r + r))))) (even_level r)
@@ -110,7 +111,8 @@ module _ (s t : EntryMap) (viewer : Viewer) (shows : ShowsTree t s viewer.host) 
         (option_and_then (content_says n o (place_at s viewer o r (r + r + 1))) (fleets_at s path))
         ∙ ap (option_map f) (sym (said_at_levels s viewer o r n))
 
-    own_choices_alike : (n o : Name) → IsName o → own_choice (host_view_of t (of_fleet viewer.profile)) n o ≡ option_map f (own_choice (host_view_of s viewer) n o)
+    own_choices_alike : (n o : Name) → IsName o → own_choice (host_view_of t (of_fleet viewer.profile)) n o
+        ≡ option_map f (own_choice (host_view_of s viewer) n o)
     own_choices_alike n o good =
         mapped_levels f (says (host_view_of s viewer) n o) (says (host_view_of t (of_fleet viewer.profile)) n o) (ranks_alike n o good)
 
@@ -119,7 +121,8 @@ module _ (s t : EntryMap) (viewer : Viewer) (shows : ShowsTree t s viewer.host) 
     templates_alike n good = by (template_of n) refl
       where
         by : (o : Option Name) → template_of n ≡ o
-            → option_and_then (own_choice (host_view_of t (of_fleet viewer.profile)) n) o ≡ option_map f (option_and_then (own_choice (host_view_of s viewer) n) o)
+            → option_and_then (own_choice (host_view_of t (of_fleet viewer.profile)) n) o
+            ≡ option_map f (option_and_then (own_choice (host_view_of s viewer) n) o)
         by None e = refl
         by (Some o) e = own_choices_alike n o (templates_keep_parts n o good e).2.name
 
@@ -192,7 +195,8 @@ module _ (s : EntryMap) (viewer : Viewer) (n o : Name) (good : IsName o) (r : �
   fragment_of_rank : rank_says (says (host_view_of s viewer) n o) r ≡ Some (Fragment p) → ItStands s viewer p
   fragment_of_rank e = by (own_at s viewer.host (unit_path o r)) refl (fleets_at s (unit_path o r)) refl (sym (said_at_levels s viewer o r n) ∙ e)
     where
-      by : (own : Option Content) → own_at s viewer.host (unit_path o r) ≡ own → (fleets : Option Content) → fleets_at s (unit_path o r) ≡ fleets
+      by : (own : Option Content) → own_at s viewer.host (unit_path o r) ≡ own → (fleets : Option Content)
+          → fleets_at s (unit_path o r) ≡ fleets
           → option_or (option_and_then (content_says n o (place_at s viewer o r (r + r))) own)
           (option_and_then (content_says n o (place_at s viewer o r (r + r + 1))) fleets) ≡ Some (Fragment p)
           → ItStands s viewer p
@@ -209,7 +213,8 @@ fragments_stand s viewer n good p e = by (own_choice (host_view_of s viewer) n n
     said o of_name =
         said_at_rank (says (host_view_of s viewer) n o) (Fragment p) (ItStands s viewer p) (λ r. fragment_of_rank s viewer n o of_name r p)
 
-    of_template : (o : Name) → IsName o → (c : Option Choice) → own_choice (host_view_of s viewer) n o ≡ c → unwrap_or c NotFound ≡ Fragment p
+    of_template : (o : Name) → IsName o → (c : Option Choice) → own_choice (host_view_of s viewer) n o ≡ c
+        → unwrap_or c NotFound ≡ Fragment p
         → ItStands s viewer p
     of_template o of_name None at e = cc (e)
     of_template o of_name (Some c) at e = said o of_name (at ∙ ap Some e)

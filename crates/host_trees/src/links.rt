@@ -12,7 +12,8 @@ pub(crate) fn link_counts(
     own: &UnitName,
     component: &[u8],
 ) -> Result<bool, AllocError>
-    ensures counts { IfOk result (λ counts. counts ≡ is_some (link_says own.now own.now component.now)) }
+    ensures counts { IfOk result
+        (λ counts. counts ≡ is_some (link_says own.now own.now component.now)) }
 {
     match UnitName::parse(alloc, component) {
         Ok(target) => Ok(!is_self(own, &target)?),

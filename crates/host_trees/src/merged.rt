@@ -140,7 +140,8 @@ fn first_counting<'a>(
     own: &'a Content,
     fleets: &'a Content,
 ) -> Result<&'a Content, AllocError>
-    ensures first { IfOk result (λ stands. Some stands.now ≡ standing path.now (Some own.now) (Some fleets.now)) }
+    ensures first { IfOk result
+        (λ stands. Some stands.now ≡ standing path.now (Some own.now) (Some fleets.now)) }
 {
     if counts(alloc, path, own)? {
         return Ok(own);
@@ -184,13 +185,17 @@ impl<'a> Model for MergedPaths<'a> {
 
     ghost Value = { List Merged };
 
-    ghost view = { λ s. merged (from_first s.own (seen_in (option_copied s.scope) s.own_left)) (from_first s.fleets (seen_in (Some Fleet) s.fleets_left)) };
+    ghost view = { λ s. merged (from_first s.own (seen_in (option_copied s.scope) s.own_left))
+        (from_first s.fleets (seen_in (Some Fleet) s.fleets_left)) };
 }
 
 impl<'a> MergedPaths<'a> {
     // Returns a cursor over the paths of a store. Fails only if memory runs out.
     pub(crate) fn of(store: &'a Store, scope: Option<&'a Scope>) -> Result<Self, AllocError>
-        ensures merged { IfOk result (λ paths. paths ≡ merged (seen_in (option_copied scope.entry) (finmap.entries store.now)) (seen_in (Some Fleet) (finmap.entries store.now))) }
+        ensures merged { IfOk result
+            (λ paths. paths
+            ≡ merged (seen_in (option_copied scope.entry) (finmap.entries store.now))
+            (seen_in (Some Fleet) (finmap.entries store.now))) }
     {
         let mut own_left = store.entries();
         let mut fleets_left = store.entries();
@@ -205,7 +210,9 @@ impl<'a> MergedPaths<'a> {
 
     // Takes the next path, if one is left. Fails only if memory runs out.
     fn next_merged(&mut self) -> Result<Option<MergedPath<'a>>, AllocError>
-        ensures first { IfOk result (λ next. MatchOption next ((self.old ≡ []) × (self.new ≡ [])) (λ it. self.old ≡ it ∷ self.new)) }
+        ensures first { IfOk result
+            (λ next. MatchOption next ((self.old ≡ []) × (self.new ≡ []))
+            (λ it. self.old ≡ it ∷ self.new)) }
     {
         match (self.own.take(), self.fleets.take()) {
             (None, None) => Ok(None),
@@ -256,9 +263,12 @@ fn next_seen<'a>(
     entries: &mut Entries<'a>,
     scope: Option<&Scope>,
 ) -> Result<Option<Seen<'a>>, AllocError>
-    ensures first { IfOk result (λ next. MatchOption next
-        ((seen_in (option_copied scope.entry) entries.old ≡ []) × (seen_in (option_copied scope.entry) entries.new ≡ []))
-        (λ seen. seen_in (option_copied scope.entry) entries.old ≡ seen ∷ seen_in (option_copied scope.entry) entries.new)) }
+    ensures first { IfOk result
+        (λ next. MatchOption next
+        ((seen_in (option_copied scope.entry) entries.old ≡ [])
+        × (seen_in (option_copied scope.entry) entries.new ≡ []))
+        (λ seen. seen_in (option_copied scope.entry) entries.old
+        ≡ seen ∷ seen_in (option_copied scope.entry) entries.new)) }
 {
     while let Some(placed) = entries.next_entry() {
         if let Some(content) = content_of(scope, &placed) {

@@ -59,7 +59,8 @@ fn owns_nothing_at(view: &HostView, dir: &[u8]) -> bool
 
 // Returns whether nothing is held in this folder at a level; then nothing is visible there.
 fn holds_nothing(view: &HostView, level: u8, dir: &[u8]) -> bool
-    ensures nothing { IsTrue result → (file : List ℕ) → viewed_at view.now (path_at level dir.now file) ≡ None }
+    ensures nothing { IsTrue result → (file : List ℕ)
+        → viewed_at view.now (path_at level dir.now file) ≡ None }
 {
     let mut entries = view.entries_in(level, dir);
     match entries.next_entry() {

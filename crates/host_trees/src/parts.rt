@@ -110,7 +110,8 @@ fn is_conf(name: &[u8]) -> bool
 
 // Returns whether a content counts under a unit's own name.
 fn counts_for(alloc: Global, own: &UnitName, content: &Content) -> Result<bool, AllocError>
-    ensures counts { IfOk result (λ it. (place : PlaceParts) → it ≡ is_some (content_says own.now own.now place content.now)) }
+    ensures counts { IfOk result (λ it. (place : PlaceParts)
+        → it ≡ is_some (content_says own.now own.now place content.now)) }
 {
     match content {
         Content::Gone => Ok(false),

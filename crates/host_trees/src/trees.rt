@@ -48,7 +48,8 @@ fn own_scope(host: Option<&HostName>) -> Result<Option<Scope>, AllocError>
 /// A pair that comes in path order moves nothing. Paths and contents are shared. Fails only if memory runs out.
 pub fn tree_store(alloc: Global, tree: &[(Path, Content)]) -> Result<Store, AllocError>
     ensures sum { IfOk result (λ store. store ≡ sum_of (map edit_at_fleet tree.now)) }
-    ensures tree { IfOk result (λ store. (s : EntryMap) (host : Option (List ℕ)) → IsTree s host tree.now → ShowsTree store s host) }
+    ensures tree { IfOk result (λ store. (s : EntryMap) (host : Option (List ℕ))
+        → IsTree s host tree.now → ShowsTree store s host) }
 {
     let edits = edits_at_fleet(alloc, tree)?;
     Store::from_edits(alloc, edits.as_slice())

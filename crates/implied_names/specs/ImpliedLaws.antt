@@ -63,7 +63,8 @@ kinds_among (k ∷ kinds) dep name (inl e) = inl (ap (λ d. let p : DepKind × N
 kinds_among (k ∷ kinds) dep name (inr h) = inr (kinds_among kinds dep name h)
 
 module _ (f : Facts) where
-  entry_gives : (r : Role) (way : Ways) (s : Source) (dep : DepKind) (name : Name) → has_role f r ≡ true → IsAmong dep (kinds_of way) → IsAmong name (names_from f s)
+  entry_gives : (r : Role) (way : Ways) (s : Source) (dep : DepKind) (name : Name) → has_role f r ≡ true
+      → IsAmong dep (kinds_of way) → IsAmong name (names_from f s)
       → IsAmong {X = DepKind × Name} (dep, name) (given_by f (r, way, s))
   entry_gives r way s dep name has dep_there name_there =
       subst (λ b. IsAmong {X = DepKind × Name} (dep, name) (cond b (flat_map (by_kinds (kinds_of way)) (names_from f s)) [])) (sym has)

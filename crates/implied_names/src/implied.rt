@@ -38,9 +38,13 @@ impl Implied {
     /// Asks for some ten values, each by one pass over the rows, and makes as many names as it returns.
     #[tactic(auto, unfolding(crate::specs::Implied::mounts_of))]
     pub fn of(alloc: Global, unit: &UnitName, rows: &[Row]) -> Result<Implied, AllocError>
-        ensures names { IfOk result (λ it. it.names ≡ implied_names (record { unit = unit.now; rows = rows.now })) }
-        ensures defaults { IfOk result (λ it. it.has_defaults ≡ has_defaults_by (record { unit = unit.now; rows = rows.now })) }
-        ensures mounts { IfOk result (λ it. it.mounts ≡ mounts_of (record { unit = unit.now; rows = rows.now })) }
+        ensures names { IfOk result
+            (λ it. it.names ≡ implied_names (record { unit = unit.now; rows = rows.now })) }
+        ensures defaults { IfOk result
+            (λ it. it.has_defaults
+            ≡ has_defaults_by (record { unit = unit.now; rows = rows.now })) }
+        ensures mounts { IfOk result
+            (λ it. it.mounts ≡ mounts_of (record { unit = unit.now; rows = rows.now })) }
     {
         let facts = Facts::of(alloc, unit, rows)?;
         let has_defaults = facts.has_defaults();
@@ -86,7 +90,8 @@ fn add_table(
     table: &[(Role, Ways, Source)],
     names: &mut Vec<(DepKind, UnitName)>,
 ) -> Result<(), AllocError>
-    ensures added { OnOk result (names.new.items ≡ names.old.items ++ flat_map (given_by facts.now) table.now) }
+    ensures added { OnOk result
+        (names.new.items ≡ names.old.items ++ flat_map (given_by facts.now) table.now) }
 {
     for (role, ways, source) in table {
         if facts.has_role(alloc, *role)? {
@@ -104,7 +109,9 @@ fn add_names(
     source: Source,
     names: &mut Vec<(DepKind, UnitName)>,
 ) -> Result<(), AllocError>
-    ensures added { OnOk result (names.new.items ≡ names.old.items ++ flat_map (by_kinds (kinds_of ways)) (names_from facts.now source)) }
+    ensures added { OnOk result
+        (names.new.items
+        ≡ names.old.items ++ flat_map (by_kinds (kinds_of ways)) (names_from facts.now source)) }
 {
     match source.fixed_name() {
         Some(text) => add_text(alloc, facts.unit(), ways.kinds(), text, names),
@@ -120,7 +127,9 @@ fn add_texts(
     source: Source,
     names: &mut Vec<(DepKind, UnitName)>,
 ) -> Result<(), AllocError>
-    ensures added { OnOk result (names.new.items ≡ names.old.items ++ flat_map (by_kinds kinds.now) (filter_map (named facts.now.unit) (found_by facts.now source))) }
+    ensures added { OnOk result
+        (names.new.items ≡ names.old.items ++ flat_map (by_kinds kinds.now)
+        (filter_map (named facts.now.unit) (found_by facts.now source))) }
 {
     for text in facts.found(alloc, source)? {
         add_text(alloc, facts.unit(), kinds, &text, names)?;
@@ -136,7 +145,9 @@ fn add_text(
     text: &[u8],
     names: &mut Vec<(DepKind, UnitName)>,
 ) -> Result<(), AllocError>
-    ensures added { OnOk result (names.new.items ≡ names.old.items ++ flat_map (by_kinds kinds.now) (filter_map (named unit.now) (text.now ∷ []))) }
+    ensures added { OnOk result
+        (names.new.items ≡ names.old.items ++ flat_map (by_kinds kinds.now)
+        (filter_map (named unit.now) (text.now ∷ []))) }
 {
     match named(alloc, unit, text)? {
         Some(name) => add_by(kinds, &name, names),

@@ -205,7 +205,8 @@ fn is_early(place: Option<&[u8]>) -> bool
 
 // Returns the last of the options nofail and fail.
 fn last_failing<'s>(options: &[&'s [u8]]) -> Option<&'s [u8]>
-    ensures last { option_copied result ≡ last_of (filter says_failing (map (λ option. option.now) options.now)) }
+    ensures last { option_copied result
+        ≡ last_of (filter says_failing (map (λ option. option.now) options.now)) }
 {
     let mut last = None;
     for option in options {

@@ -14,7 +14,9 @@ pub(crate) fn options_of<'a>(
     alloc: Global,
     text: Option<&'a [u8]>,
 ) -> Result<Vec<&'a [u8]>, AllocError>
-    ensures options { IfOk result (λ options. map (λ option. option.now) options.items ≡ options_in (option_copied text.entry)) }
+    ensures options { IfOk result
+        (λ options. map (λ option. option.now) options.items
+        ≡ options_in (option_copied text.entry)) }
 {
     match text {
         Some(text) => option_heads(alloc, text),
@@ -24,7 +26,8 @@ pub(crate) fn options_of<'a>(
 
 // Returns the parts between commas, each up to its equals sign.
 fn option_heads(alloc: Global, text: &[u8]) -> Result<Vec<&[u8]>, AllocError>
-    ensures options { IfOk result (λ options. map (λ option. option.now) options.items ≡ options_in (Some text.now)) }
+    ensures options { IfOk result
+        (λ options. map (λ option. option.now) options.items ≡ options_in (Some text.now)) }
 {
     let mut options = Vec::new(alloc);
     for part in comma_parts(alloc, text)? {
@@ -34,7 +37,8 @@ fn option_heads(alloc: Global, text: &[u8]) -> Result<Vec<&[u8]>, AllocError>
 }
 
 fn comma_parts(alloc: Global, text: &[u8]) -> Result<Vec<&[u8]>, AllocError>
-    ensures parts { IfOk result (λ parts. map (λ part. part.now) parts.items ≡ slice_split is_comma text.now) }
+    ensures parts { IfOk result
+        (λ parts. map (λ part. part.now) parts.items ≡ slice_split is_comma text.now) }
 {
     text.split(|b| is_comma(*b)).collect(alloc)
 }
@@ -71,7 +75,9 @@ pub(crate) fn what_of(
     rows: &[Row],
 ) -> Result<Option<Vec<u8>>, AllocError>
     requires own { kind unit.now ≡ Some own }
-    ensures what { IfOk result (λ path. option_map (λ bytes. bytes.items) path ≡ what (record { unit = unit.now; rows = rows.now })) }
+    ensures what { IfOk result
+        (λ path. option_map (λ bytes. bytes.items) path
+        ≡ what (record { unit = unit.now; rows = rows.now })) }
 {
     match own {
         Kind::Mount => said_path(alloc, last_in(alloc, rows, b"Mount", b"What")?),
@@ -85,7 +91,9 @@ pub(crate) fn what_of(
 
 // Returns the path that a text writes, if there is a text.
 fn said_path(alloc: Global, text: Option<&[u8]>) -> Result<Option<Vec<u8>>, AllocError>
-    ensures path { IfOk result (λ path. option_map (λ path. path.items) path ≡ option_and_then path_of (option_copied text.entry)) }
+    ensures path { IfOk result
+        (λ path. option_map (λ path. path.items) path
+        ≡ option_and_then path_of (option_copied text.entry)) }
 {
     match text {
         Some(text) => path_of(alloc, text),

@@ -59,7 +59,8 @@ impl NeededPaths {
 
     // Adds the paths that texts write.
     fn add_texts(&mut self, texts: &[&[u8]]) -> Result<(), AllocError>
-        ensures added { OnOk result (self.new ≡ self.old ++ paths_in (map (λ text. text.now) texts.now)) }
+        ensures added { OnOk result
+            (self.new ≡ self.old ++ paths_in (map (λ text. text.now) texts.now)) }
     {
         for text in texts {
             self.add_text(text)?;
@@ -82,7 +83,8 @@ impl NeededPaths {
 
     // Adds the paths that the values of a key write.
     fn add_values(&mut self, facts: &Facts, key: &[u8]) -> Result<(), AllocError>
-        ensures added { OnOk result (self.new ≡ self.old ++ paths_in (values_of facts.now key.now)) }
+        ensures added { OnOk result
+            (self.new ≡ self.old ++ paths_in (values_of facts.now key.now)) }
     {
         self.add_texts(&facts.values(self.alloc, key)?)
     }
@@ -153,7 +155,8 @@ impl NeededPaths {
 
     // Adds the directory that a word names.
     fn add_directory(&mut self, top: &[u8], word: &[u8]) -> Result<(), AllocError>
-        ensures added { OnOk result (self.new ≡ self.old ++ filter_map (directory_in top.now) (word.now ∷ [])) }
+        ensures added { OnOk result
+            (self.new ≡ self.old ++ filter_map (directory_in top.now) (word.now ∷ [])) }
     {
         match directory_in(self.alloc, top, word)? {
             Some(path) => {
@@ -166,7 +169,8 @@ impl NeededPaths {
 
     // Adds the paths that units of its type have.
     fn add_type(&mut self, facts: &Facts) -> Result<(), AllocError>
-        ensures added { OnOk result (self.new ≡ self.old ++ type_paths (kind facts.now.unit) facts.now) }
+        ensures added { OnOk result
+            (self.new ≡ self.old ++ type_paths (kind facts.now.unit) facts.now) }
     {
         match facts.kind() {
             Kind::Socket => self.add_addresses(facts),
@@ -289,7 +293,8 @@ impl NeededPaths {
 
 // Returns the directory that a word names below one of the manager's own. What follows a colon is no part of it.
 fn directory_in(alloc: Global, top: &[u8], word: &[u8]) -> Result<Option<Vec<u8>>, AllocError>
-    ensures path { IfOk result (λ path. option_map (λ bytes. bytes.items) path ≡ directory_in top.now word.now) }
+    ensures path { IfOk result
+        (λ path. option_map (λ bytes. bytes.items) path ≡ directory_in top.now word.now) }
 {
     if word.starts_with(b"/") {
         return Ok(None);
@@ -303,7 +308,8 @@ fn directory_in(alloc: Global, top: &[u8], word: &[u8]) -> Result<Option<Vec<u8>
 
 // Returns a path, unless it is among the directories of dynamic users.
 fn unless_private(alloc: Global, top: &[u8], path: Vec<u8>) -> Result<Option<Vec<u8>>, AllocError>
-    ensures path { IfOk result (λ left. option_map (λ bytes. bytes.items) left ≡ unless_private top.now path.items) }
+    ensures path { IfOk result
+        (λ left. option_map (λ bytes. bytes.items) left ≡ unless_private top.now path.items) }
 {
     let private = between(alloc, top, b"/", b"private")?;
     if is_at_or_below(&path, &private) {

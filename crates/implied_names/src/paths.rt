@@ -24,7 +24,8 @@ pub(crate) fn path_of(alloc: Global, text: &[u8]) -> Result<Option<Vec<u8>>, All
 
 // Returns the components that count.
 fn components(alloc: Global, text: &[u8]) -> Result<Vec<&[u8]>, AllocError>
-    ensures components { IfOk result (λ parts. map (λ part. part.now) parts.items ≡ components text.now) }
+    ensures components { IfOk result
+        (λ parts. map (λ part. part.now) parts.items ≡ components text.now) }
 {
     text.split(|b| is_slash(*b))
         .filter(|part| counts(part))
@@ -112,7 +113,8 @@ pub(crate) fn unit_at(alloc: Global, suffix: &[u8], path: &[u8]) -> Result<Vec<u
 
 /// Returns the path that units with this stem are named after, if they are named after one.
 pub(crate) fn path_named(alloc: Global, stem: &[u8]) -> Result<Option<Vec<u8>>, AllocError>
-    ensures path { IfOk result (λ path. option_map (λ path. path.items) path ≡ path_named stem.now) }
+    ensures path { IfOk result
+        (λ path. option_map (λ path. path.items) path ≡ path_named stem.now) }
 {
     let Some(spelled) = unescape(alloc, stem)? else {
         return Ok(None);
@@ -129,7 +131,8 @@ pub(crate) fn path_named(alloc: Global, stem: &[u8]) -> Result<Option<Vec<u8>>, 
 
 // Returns the path that a text writes behind a slash.
 fn path_below_root(alloc: Global, text: &[u8]) -> Result<Option<Vec<u8>>, AllocError>
-    ensures path { IfOk result (λ path. option_map (λ path. path.items) path ≡ path_spelled text.now) }
+    ensures path { IfOk result
+        (λ path. option_map (λ path. path.items) path ≡ path_spelled text.now) }
 {
     let mut whole = Vec::from_slice(alloc, b"/")?;
     whole.extend_from_slice(text)?;
@@ -154,7 +157,9 @@ pub(crate) fn add_mounts(
 
 // Adds the name of the mount of a path, if it is a unit name.
 fn add_mount(alloc: Global, names: &mut Vec<UnitName>, path: &[u8]) -> Result<(), AllocError>
-    ensures added { OnOk result (names.new.items ≡ names.old.items ++ filter is_name (unit_at (codes "mount") path.now ∷ [])) }
+    ensures added { OnOk result
+        (names.new.items
+        ≡ names.old.items ++ filter is_name (unit_at (codes "mount") path.now ∷ [])) }
 {
     match UnitName::parse(alloc, &unit_at(alloc, b"mount", path)?) {
         Ok(name) => {

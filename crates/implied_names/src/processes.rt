@@ -73,7 +73,9 @@ impl<'a> Facts<'a> {
 
     // Returns whether it is a service that inherits its output, and its input isn't open.
     fn inherits_journal(&self, alloc: Global, said: &[u8]) -> Result<bool, AllocError>
-        ensures test { IfOk result (λ test. test ≡ inherits_journal (is_service (kind self.now.unit)) (last self.now (codes "StandardInput")) said.now) }
+        ensures test { IfOk result
+            (λ test. test ≡ inherits_journal (is_service (kind self.now.unit))
+            (last self.now (codes "StandardInput")) said.now) }
     {
         if self.kind() != Kind::Service {
             return Ok(false);

@@ -96,7 +96,8 @@ impl Source {
 impl<'a> Facts<'a> {
     /// Returns the texts that a source gives which depend on the unit. Fails only if memory runs out.
     pub fn found(&self, alloc: Global, source: Source) -> Result<Vec<Vec<u8>>, AllocError>
-        ensures texts { IfOk result (λ texts. map (λ text. text.items) texts.items ≡ found_by self.now source) }
+        ensures texts { IfOk result
+            (λ texts. map (λ text. text.items) texts.items ≡ found_by self.now source) }
     {
         match source {
             Source::Slice => self.slice(alloc),
@@ -114,7 +115,8 @@ impl<'a> Facts<'a> {
 
     // Returns the slice that the unit is in, if it is in one.
     fn slice(&self, alloc: Global) -> Result<Vec<Vec<u8>>, AllocError>
-        ensures texts { IfOk result (λ texts. map (λ text. text.items) texts.items ≡ slice_of self.now) }
+        ensures texts { IfOk result
+            (λ texts. map (λ text. text.items) texts.items ≡ slice_of self.now) }
     {
         if self.kind() == Kind::Slice {
             return outer_slice(alloc, self.unit());
@@ -148,7 +150,9 @@ impl<'a> Facts<'a> {
 
     // Returns the sockets that are set for a service.
     fn set_sockets(&self, alloc: Global) -> Result<Vec<Vec<u8>>, AllocError>
-        ensures texts { IfOk result (λ texts. map (λ text. text.items) texts.items ≡ filter is_socket_word (words self.now (codes "Sockets"))) }
+        ensures texts { IfOk result
+            (λ texts. map (λ text. text.items) texts.items
+            ≡ filter is_socket_word (words self.now (codes "Sockets"))) }
     {
         let mut texts = Vec::new(alloc);
         for word in self.words(alloc, b"Sockets")? {
@@ -197,7 +201,8 @@ fn one(alloc: Global, text: Vec<u8>) -> Result<Vec<Vec<u8>>, AllocError>
 
 // Returns the slice that a slice is in.
 fn outer_slice(alloc: Global, unit: &UnitName) -> Result<Vec<Vec<u8>>, AllocError>
-    ensures texts { IfOk result (λ texts. map (λ text. text.items) texts.items ≡ outer_slice unit.now) }
+    ensures texts { IfOk result
+        (λ texts. map (λ text. text.items) texts.items ≡ outer_slice unit.now) }
 {
     if unit.bytes() == b"-.slice".as_slice() {
         return Ok(Vec::new(alloc));
@@ -214,7 +219,8 @@ fn outer_slice(alloc: Global, unit: &UnitName) -> Result<Vec<Vec<u8>>, AllocErro
 
 // Returns the two sockets of a journal of its own.
 fn own_journal(alloc: Global, name: Option<&[u8]>) -> Result<Vec<Vec<u8>>, AllocError>
-    ensures texts { IfOk result (λ texts. map (λ text. text.items) texts.items ≡ own_journal (option_copied name.entry)) }
+    ensures texts { IfOk result
+        (λ texts. map (λ text. text.items) texts.items ≡ own_journal (option_copied name.entry)) }
 {
     let Some(name) = name else {
         return Ok(Vec::new(alloc));
@@ -229,7 +235,8 @@ fn own_journal(alloc: Global, name: Option<&[u8]>) -> Result<Vec<Vec<u8>>, Alloc
 
 // Returns the path of a network interface; the loopback interface waits for none.
 fn interface_path(alloc: Global, name: &[u8]) -> Result<Option<Vec<u8>>, AllocError>
-    ensures path { IfOk result (λ path. option_map (λ bytes. bytes.items) path ≡ interface_path name.now) }
+    ensures path { IfOk result
+        (λ path. option_map (λ bytes. bytes.items) path ≡ interface_path name.now) }
 {
     if name == b"lo".as_slice() {
         return Ok(None);
@@ -242,7 +249,8 @@ fn interface_path(alloc: Global, name: &[u8]) -> Result<Option<Vec<u8>>, AllocEr
 
 // Returns the device of a network interface.
 fn interfaces(alloc: Global, name: Option<&[u8]>) -> Result<Vec<Vec<u8>>, AllocError>
-    ensures texts { IfOk result (λ texts. map (λ text. text.items) texts.items ≡ interfaces (option_copied name.entry)) }
+    ensures texts { IfOk result
+        (λ texts. map (λ text. text.items) texts.items ≡ interfaces (option_copied name.entry)) }
 {
     let Some(name) = name else {
         return Ok(Vec::new(alloc));
@@ -255,7 +263,8 @@ fn interfaces(alloc: Global, name: Option<&[u8]>) -> Result<Vec<Vec<u8>>, AllocE
 
 // Returns the device of a path.
 fn devices(alloc: Global, path: Option<&[u8]>) -> Result<Vec<Vec<u8>>, AllocError>
-    ensures texts { IfOk result (λ texts. map (λ text. text.items) texts.items ≡ devices (option_copied path.entry)) }
+    ensures texts { IfOk result
+        (λ texts. map (λ text. text.items) texts.items ≡ devices (option_copied path.entry)) }
 {
     match path {
         Some(path) => one(alloc, unit_at(alloc, b"device", path)?),
@@ -265,7 +274,8 @@ fn devices(alloc: Global, path: Option<&[u8]>) -> Result<Vec<Vec<u8>>, AllocErro
 
 // Returns the target after which a device below /dev is open.
 fn block_devices(alloc: Global, path: Option<&[u8]>) -> Result<Vec<Vec<u8>>, AllocError>
-    ensures texts { IfOk result (λ texts. map (λ text. text.items) texts.items ≡ block_devices (option_copied path.entry)) }
+    ensures texts { IfOk result
+        (λ texts. map (λ text. text.items) texts.items ≡ block_devices (option_copied path.entry)) }
 {
     match path {
         Some(path) if is_below(path, b"/dev") => one(

@@ -44,9 +44,11 @@ impl<'a> Model for Facts<'a> {
     ghost view = { λ f. record { unit = f.unit.now; rows = f.rows.now } };
 
     ghost invariant = { λ f. (kind_of f.unit.now ≡ Some f.kind)
-        × (map (λ option. option.now) f.options.items ≡ options_said (record { unit = f.unit.now; rows = f.rows.now }))
+        × (map (λ option. option.now) f.options.items
+        ≡ options_said (record { unit = f.unit.now; rows = f.rows.now }))
         × (option_map (λ path. path.items) f.place ≡ place_named f.unit.now)
-        × (option_map (λ path. path.items) f.what ≡ what_said (record { unit = f.unit.now; rows = f.rows.now }))
+        × (option_map (λ path. path.items) f.what
+        ≡ what_said (record { unit = f.unit.now; rows = f.rows.now }))
         × (f.is_private ≡ private_said (record { unit = f.unit.now; rows = f.rows.now }))
         × (f.has_defaults ≡ defaults_said (record { unit = f.unit.now; rows = f.rows.now })) };
 }
@@ -111,7 +113,8 @@ impl<'a> Facts<'a> {
 
     /// Returns the values of a key.
     pub fn values(&self, alloc: Global, key: &[u8]) -> Result<Vec<&'a [u8]>, AllocError>
-        ensures values { IfOk result (λ values. map (λ value. value.now) values.items ≡ values_of self.now key.now) }
+        ensures values { IfOk result
+            (λ values. map (λ value. value.now) values.items ≡ values_of self.now key.now) }
     {
         values_in(alloc, self.rows, section_of(self.kind), key)
     }
@@ -132,14 +135,17 @@ impl<'a> Facts<'a> {
 
     /// Returns the words of the values of a key.
     pub fn words(&self, alloc: Global, key: &[u8]) -> Result<Vec<&'a [u8]>, AllocError>
-        ensures words { IfOk result (λ found. map (λ word. word.now) found.items ≡ words self.now key.now) }
+        ensures words { IfOk result
+            (λ found. map (λ word. word.now) found.items ≡ words self.now key.now) }
     {
         words_in(alloc, self.rows, section_of(self.kind), key)
     }
 
     /// Returns the words that say which paths the unit needs.
     pub fn required(&self, alloc: Global) -> Result<Vec<&'a [u8]>, AllocError>
-        ensures words { IfOk result (λ found. map (λ word. word.now) found.items ≡ words_in self.now.rows (codes "Unit") (codes "RequiresMountsFor")) }
+        ensures words { IfOk result
+            (λ found. map (λ word. word.now) found.items
+            ≡ words_in self.now.rows (codes "Unit") (codes "RequiresMountsFor")) }
     {
         words_in(alloc, self.rows, b"Unit", b"RequiresMountsFor")
     }
@@ -175,7 +181,9 @@ impl<'a> Facts<'a> {
 
 // Returns whether a unit of a type has temporary directories of its own.
 fn is_private(alloc: Global, kind: Kind, rows: &[Row]) -> Result<bool, AllocError>
-    ensures test { IfOk result (λ test. test ≡ (yes_in rows.now (section_word kind) (codes "PrivateTmp")
+    ensures test { IfOk result
+        (λ test. test
+        ≡ (yes_in rows.now (section_word kind) (codes "PrivateTmp")
         || yes_in rows.now (section_word kind) (codes "DynamicUser"))) }
 {
     let section = section_of(kind);

@@ -20,7 +20,8 @@ neighbors-below n adjacency u v below h = All-among (λ w. w < n) (neighbors adj
 -- ---- how often
 
 -- a count of the nodes that pass a test, with one more node
-pub count-push : (count : List ℕ → ℕ) (passes : ℕ → Bool) → ((x : ℕ) (xs : List ℕ) → count (x ∷ xs) ≡ cond (passes x) (suc (count xs)) (count xs))
+pub count-push : (count : List ℕ → ℕ) (passes : ℕ → Bool)
+    → ((x : ℕ) (xs : List ℕ) → count (x ∷ xs) ≡ cond (passes x) (suc (count xs)) (count xs))
     → (xs : List ℕ) (x : ℕ) → count (xs ++ x ∷ []) ≡ count xs + cond (passes x) 1 0
 count-push count passes counts [] x = counts x [] ∙ by (passes x) (count [])
   where
@@ -77,7 +78,8 @@ times_room (x ∷ xs) zero lt = let a = times-cons_same x xs x refl in omega (ar
 times_room (x ∷ xs) (suc i) lt = lt_at (eqb x (get_or xs i 0)) _ _ (times_room xs i (omega arith))
 
 -- adjacency lists whose members are below n, said list by list
-pub AllBelow-adjacency : (n : ℕ) (adjacency : List (List ℕ)) → ((u v : ℕ) → IsAmong v (neighbors adjacency u) → v < n) → AllBelow n adjacency
+pub AllBelow-adjacency : (n : ℕ) (adjacency : List (List ℕ)) → ((u v : ℕ) → IsAmong v (neighbors adjacency u) → v < n)
+    → AllBelow n adjacency
 AllBelow-adjacency n [] h k d lt = absurd (omega arith)
 AllBelow-adjacency n (r ∷ rs) h zero d lt = λ i e l. h zero (get_or r i e) (among_from_contains _ r (Contains-get_or r i e l))
 AllBelow-adjacency n (r ∷ rs) h (suc k) d lt = AllBelow-adjacency n rs (λ u. h (suc u)) k d (omega arith)

@@ -23,7 +23,8 @@ three_ways (suc i) (suc j) = elim (three_ways i j) [
   | inr r ↦ elim r [ inl l ↦ inr (inl (omega arith)) | inr e ↦ inr (inr (ap suc e)) ]
 ]
 
-module _ {N : Type 0} (count : ℕ) (name : ℕ → N) (order : N → N → Ordering) (total : IsTotalOrder order) (n : IsIndexing count name order) where
+module _ {N : Type 0} (count : ℕ) (name : ℕ → N) (order : N → N → Ordering) (total : IsTotalOrder order)
+    (n : IsIndexing count name order) where
   -- names compare as their indices do
   pub names_compare : (i j : ℕ) → i < count → j < count → order (name i) (name j) ≡ nat_cmp i j
   names_compare i j a b = elim (three_ways i j) [
@@ -48,13 +49,15 @@ module _ {N : Type 0} (count : ℕ) (name : ℕ → N) (order : N → N → Orde
   below_named i [] l within a = tt
   below_named i (j ∷ js) l within a = (names_compare i j l (within j (inl refl)) ∙ a.0, below_named i js l (λ k h. within k (inr h)) a.1)
 
-  pub ascending_named : (is : List ℕ) → ((i : ℕ) → IsAmong i is → i < count) → IsStrictlySortedBy nat_cmp is → IsStrictlySortedBy order (map name is)
+  pub ascending_named : (is : List ℕ) → ((i : ℕ) → IsAmong i is → i < count) → IsStrictlySortedBy nat_cmp is
+      → IsStrictlySortedBy order (map name is)
   unfolding IsStrictlySortedBy
   ascending_named [] within s = tt
   ascending_named (i ∷ is) within s = (below_named i is (within i (inl refl)) (λ j h. within j (inr h)) s.0, ascending_named is (λ j h. within j (inr h)) s.1)
 
 -- the members of a list of indices below the count, and those of the list of their names
-pub listed_names : {N : Type 0} (count : ℕ) (name : ℕ → N) (is : List ℕ) → ((i : ℕ) → IsAmong i is → i < count) → AreNames count name (Listed is) (Listed (map name is))
+pub listed_names : {N : Type 0} (count : ℕ) (name : ℕ → N) (is : List ℕ) → ((i : ℕ) → IsAmong i is → i < count)
+    → AreNames count name (Listed is) (Listed (map name is))
 listed_names count name is within = record {
   within = within;
   named = λ i h. among_mapped name i is h;
@@ -91,15 +94,18 @@ module _ {N : Type 0} (count : ℕ) (name : ℕ → N) (S : ℕ → Type 0) (S' 
   }
 
 -- the ascending list of a set of indices, and that of the set of their names
-module _ {N : Type 0} (count : ℕ) (name : ℕ → N) (order : N → N → Ordering) (total : IsTotalOrder order) (n : IsIndexing count name order) where
+module _ {N : Type 0} (count : ℕ) (name : ℕ → N) (order : N → N → Ordering) (total : IsTotalOrder order)
+    (n : IsIndexing count name order) where
   -- the names of a list's members are those of the set
-  pub members_named : (P : ℕ → Type 0) (Q : N → Type 0) → AreNames count name P Q → (is : List ℕ) → ((i : ℕ) → IsAmong i is ↔ P i) → (u : N) → IsAmong u (map name is) ↔ Q u
+  pub members_named : (P : ℕ → Type 0) (Q : N → Type 0) → AreNames count name P Q → (is : List ℕ)
+      → ((i : ℕ) → IsAmong i is ↔ P i) → (u : N) → IsAmong u (map name is) ↔ Q u
   members_named P Q a is members u = (
     λ h. (let r = mapped_from name u is h in subst Q r.1.1 (a.named r.0 ((members r.0).0 r.1.0))),
     λ q. (let r = a.indexed u q in let R : N → Type 0 = λ v. IsAmong v (map name is) in subst R r.1.1 (among_mapped name r.0 is ((members r.0).1 r.1.0))),
   )
 
-  module _ (S : ℕ → Type 0) (S' : N → Type 0) (E : ℕ → ℕ → Type 0) (E' : N → N → Type 0) (sources : AreNames count name S S') (successors : AreNamedSuccessors count name E E') where
+  module _ (S : ℕ → Type 0) (S' : N → Type 0) (E : ℕ → ℕ → Type 0) (E' : N → N → Type 0)
+      (sources : AreNames count name S S') (successors : AreNamedSuccessors count name E E') where
     reach : AreNames count name (IsReached S E) (IsReached S' E')
     reach = reached_named count name S S' E E' sources successors
 

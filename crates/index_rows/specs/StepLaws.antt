@@ -17,7 +17,8 @@ pub one_kind : (adjacency : List (List ℕ)) (u v : ℕ) → IsAmong v (successo
 one_kind adjacency u v = let P : List ℕ → Type 0 = λ l. IsAmong v l ↔ IsAmong v (neighbors adjacency u) in subst P (sym (append-nil (neighbors adjacency u))) (λ h. h, λ h. h)
 
 -- the edges of some kinds and of others
-pub more_kinds : (kinds others : List (List (List ℕ))) (u v : ℕ) → IsAmong v (successors_from (kinds ++ others) u) ↔ (IsAmong v (successors_from kinds u) ⊎ IsAmong v (successors_from others u))
+pub more_kinds : (kinds others : List (List (List ℕ))) (u v : ℕ) → IsAmong v (successors_from (kinds ++ others) u)
+    ↔ (IsAmong v (successors_from kinds u) ⊎ IsAmong v (successors_from others u))
 more_kinds kinds others u v =
     let P : List ℕ → Type 0 = λ l. IsAmong v l ↔ (IsAmong v (successors_from kinds u) ⊎ IsAmong v (successors_from others u)) in
     subst P (sym (flat_map-append (λ adjacency. neighbors adjacency u) kinds others)) (
@@ -29,18 +30,21 @@ more_kinds kinds others u v =
     )
 
 -- one more kind
-pub successors-push : (kinds : List (List (List ℕ))) (adjacency : List (List ℕ)) (u : ℕ) → successors_from (kinds ++ adjacency ∷ []) u ≡ successors_from kinds u ++ neighbors adjacency u
+pub successors-push : (kinds : List (List (List ℕ))) (adjacency : List (List ℕ)) (u : ℕ)
+    → successors_from (kinds ++ adjacency ∷ []) u ≡ successors_from kinds u ++ neighbors adjacency u
 successors-push kinds adjacency u = flat_map-append (λ r. neighbors r u) kinds (adjacency ∷ []) ∙ ap (λ l. successors_from kinds u ++ l) (append-nil (neighbors adjacency u))
 
 pub within-one : (n : ℕ) (adjacency : List (List ℕ)) → AreAdjacencyOf n adjacency → AreSuccessorsOf n (adjacency ∷ [])
 within-one n adjacency a zero d lt = a
 within-one n adjacency a (suc k) d lt = absurd (omega arith)
 
-pub within-both : (n : ℕ) (kinds others : List (List (List ℕ))) → AreSuccessorsOf n kinds → AreSuccessorsOf n others → AreSuccessorsOf n (kinds ++ others)
+pub within-both : (n : ℕ) (kinds others : List (List (List ℕ))) → AreSuccessorsOf n kinds → AreSuccessorsOf n others
+    → AreSuccessorsOf n (kinds ++ others)
 within-both n kinds others a b = All-append (AreAdjacencyOf n) kinds others a b
 
 -- an edge leads to one of the n nodes
-pub successors-below : (n : ℕ) (kinds : List (List (List ℕ))) (u v : ℕ) → AreSuccessorsOf n kinds → IsAmong v (successors_from kinds u) → v < n
+pub successors-below : (n : ℕ) (kinds : List (List (List ℕ))) (u v : ℕ) → AreSuccessorsOf n kinds
+    → IsAmong v (successors_from kinds u) → v < n
 successors-below n [] u v a h = absurd h
 successors-below n (adjacency ∷ kinds) u v a h = elim (IsAmong-append_cases v (neighbors adjacency u) (successors_from kinds u) h) [
   | inl k ↦ neighbors-below n adjacency u v (All-head (AreAdjacencyOf n) adjacency kinds a).within k
@@ -48,7 +52,8 @@ successors-below n (adjacency ∷ kinds) u v a h = elim (IsAmong-append_cases v 
 ]
 
 -- and from one of them
-pub successors-start : (n : ℕ) (kinds : List (List (List ℕ))) (u v : ℕ) → AreSuccessorsOf n kinds → IsAmong v (successors_from kinds u) → u < n
+pub successors-start : (n : ℕ) (kinds : List (List (List ℕ))) (u v : ℕ) → AreSuccessorsOf n kinds
+    → IsAmong v (successors_from kinds u) → u < n
 successors-start n [] u v a h = absurd h
 successors-start n (adjacency ∷ kinds) u v a h = elim (IsAmong-append_cases v (neighbors adjacency u) (successors_from kinds u) h) [
   | inl k ↦ neighbors-start n adjacency u v (All-head (AreAdjacencyOf n) adjacency kinds a) k
@@ -82,7 +87,9 @@ times_once v (x ∷ xs) s (inr h) =
     times-cons_other v xs x (λ e. (let l : x < v = above_all x v xs s.0 h in omega (arith, l, e))) ∙ times_once v xs s.1 h
 
 -- ascending adjacency lists are transposed where their edges lead back
-pub transposed_from : (adjacency others : List (List ℕ)) → ((u : ℕ) → IsStrictlySortedBy nat_cmp (neighbors adjacency u)) → ((u : ℕ) → IsStrictlySortedBy nat_cmp (neighbors others u))
+pub transposed_from : (adjacency others : List (List ℕ))
+    → ((u : ℕ) → IsStrictlySortedBy nat_cmp (neighbors adjacency u))
+    → ((u : ℕ) → IsStrictlySortedBy nat_cmp (neighbors others u))
     → ((u v : ℕ) → IsAmong v (neighbors others u) ↔ IsAmong u (neighbors adjacency v)) → AreTransposed adjacency others
 transposed_from adjacency others s t h u v = elim (times_cases v (neighbors others u)) [
   | inl z ↦ z ∙ sym (times_none u (neighbors adjacency v) (λ a. (let b = times-in v (neighbors others u) ((h u v).1 a) in omega (arith, b, z))))
@@ -94,12 +101,15 @@ filter_all : (n : ℕ) (xs : List ℕ) → All (λ v. v < n) xs → filter (is_m
 filter_all n [] a = refl
 filter_all n (x ∷ xs) a = keep (is_member (replicate n true) x) (IsMember-all n x (All-head (λ v. v < n) x xs a)) ∙ ap (λ ys. x ∷ ys) (filter_all n xs (All-tail (λ v. v < n) x xs a))
   where
-    keep : (b : Bool) → b ≡ true → cond b (x ∷ filter (is_member (replicate n true)) xs) (filter (is_member (replicate n true)) xs) ≡ x ∷ filter (is_member (replicate n true)) xs
+    keep : (b : Bool) → b ≡ true
+        → cond b (x ∷ filter (is_member (replicate n true)) xs) (filter (is_member (replicate n true)) xs)
+        ≡ x ∷ filter (is_member (replicate n true)) xs
     keep true e = refl
     keep false e = cc
 
 -- and all edges lead to members
-pub inside_all : (n : ℕ) (kinds : List (List (List ℕ))) (u : ℕ) → AreSuccessorsOf n kinds → successors_inside (replicate n true) kinds u ≡ successors_from kinds u
+pub inside_all : (n : ℕ) (kinds : List (List (List ℕ))) (u : ℕ) → AreSuccessorsOf n kinds
+    → successors_inside (replicate n true) kinds u ≡ successors_from kinds u
 inside_all n [] u a = refl
 inside_all n (adjacency ∷ kinds) u a =
     ap (λ l. l ++ successors_inside (replicate n true) kinds u) (filter_all n (neighbors adjacency u) (All-neighbors n adjacency u (All-head (AreAdjacencyOf n) adjacency kinds a).within))
@@ -177,7 +187,8 @@ filtered inside (x ∷ xs) v = (
   ],
 )
 
-module _ (inside : List Bool) (adjacency : List (List ℕ)) (kinds : List (List (List ℕ))) (u v : ℕ) (rest : IsAmong v (successors_inside inside kinds u) ↔ LeadsInside inside kinds u v) where
+module _ (inside : List Bool) (adjacency : List (List ℕ)) (kinds : List (List (List ℕ))) (u v : ℕ)
+    (rest : IsAmong v (successors_inside inside kinds u) ↔ LeadsInside inside kinds u v) where
   abbrev first : List ℕ
   first = filter (is_member inside) (neighbors adjacency u)
 
@@ -193,6 +204,7 @@ module _ (inside : List Bool) (adjacency : List (List ℕ)) (kinds : List (List 
     | inr a ↦ IsAmong-append_right v first (successors_inside inside kinds u) (rest.1 (record { step = a; member = l.member }))
   ]
 
-pub inside_is : (inside : List Bool) (kinds : List (List (List ℕ))) (u v : ℕ) → IsAmong v (successors_inside inside kinds u) ↔ LeadsInside inside kinds u v
+pub inside_is : (inside : List Bool) (kinds : List (List (List ℕ))) (u v : ℕ)
+    → IsAmong v (successors_inside inside kinds u) ↔ LeadsInside inside kinds u v
 inside_is inside [] u v = (λ h. absurd h, λ l. absurd l.step)
 inside_is inside (adjacency ∷ kinds) u v = let rest = inside_is inside kinds u v in (inside_there inside adjacency kinds u v rest, inside_back inside adjacency kinds u v rest)

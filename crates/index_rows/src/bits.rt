@@ -52,7 +52,8 @@ pub fn non_members(alloc: Global, bits: &[bool]) -> Result<Vec<bool>, AllocError
 pub fn without(alloc: Global, bits: &[bool], others: &[bool]) -> Result<Vec<bool>, AllocError>
     requires { length others.now ≡ length bits.now }
     ensures units { IfOk result (λ left. length left.items ≡ length bits.now) }
-    ensures left { IfOk result (λ left. (v : ℕ) → IsMember left.items v ↔ (IsMember bits.now v × ¬ IsMember others.now v)) }
+    ensures left { IfOk result (λ left. (v : ℕ) → IsMember left.items v
+        ↔ (IsMember bits.now v × ¬ IsMember others.now v)) }
 {
     let mut left = Vec::new(alloc);
     for (node, is_member) in bits.iter().enumerate() {
@@ -63,7 +64,8 @@ pub fn without(alloc: Global, bits: &[bool], others: &[bool]) -> Result<Vec<bool
 
 /// Returns the least member of the set. O(n).
 pub fn first_member(bits: &[bool]) -> Option<usize>
-    ensures { MatchOption result ((v : ℕ) → ¬ IsMember bits.now v) (IsLeast nat_cmp (IsMember bits.now)) }
+    ensures { MatchOption result ((v : ℕ) → ¬ IsMember bits.now v)
+        (IsLeast nat_cmp (IsMember bits.now)) }
 {
     bits.iter().position(|is_member| *is_member)
 }
@@ -105,7 +107,8 @@ pub(crate) fn spread(
     nodes: &[usize],
 ) -> Result<(), AllocError>
     requires { All (λ v. v < length seen.old.items) nodes.now }
-    ensures { OnOk result (IsSpread seen.old.items seen.new.items noted.old.items noted.new.items nodes.now) }
+    ensures { OnOk result
+        (IsSpread seen.old.items seen.new.items noted.old.items noted.new.items nodes.now) }
 {
     for node in nodes {
         add_member(seen, noted, *node)?;
@@ -136,7 +139,8 @@ pub(crate) fn spread_inside(
 // Adds a node to `seen`, and appends it to `noted` if it wasn't in it.
 fn add_member(seen: &mut Vec<bool>, noted: &mut Vec<usize>, node: usize) -> Result<(), AllocError>
     requires { node < length seen.old.items }
-    ensures { OnOk result (IsSpread seen.old.items seen.new.items noted.old.items noted.new.items (node ∷ [])) }
+    ensures { OnOk result
+        (IsSpread seen.old.items seen.new.items noted.old.items noted.new.items (node ∷ [])) }
 {
     if !seen[node] {
         seen[node] = true;

@@ -88,7 +88,9 @@ pub fn closure(
 ) -> Result<Vec<usize>, AllocError>
     requires successors { AreSuccessorsOf count successors.now }
     requires sources { All (λ v. v < count) sources.now }
-    ensures { IfOk result (λ nodes. IsClosure (Listed sources.now) (Named (successors_from successors.now)) nat_cmp nodes.items) }
+    ensures { IfOk result
+        (λ nodes. IsClosure (Listed sources.now)
+        (Named (successors_from successors.now)) nat_cmp nodes.items) }
 {
     let bits = reached(alloc, count, successors, sources)?;
     members_of(alloc, &bits)

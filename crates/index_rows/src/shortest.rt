@@ -36,7 +36,8 @@ fn push_level(
     distance: usize,
     level: &[usize],
 ) -> Result<(), AllocError>
-    ensures { OnOk result (pairs.new.items ≡ pairs.old.items ++ map (λ v. (distance, v)) level.now) }
+    ensures { OnOk result
+        (pairs.new.items ≡ pairs.old.items ++ map (λ v. (distance, v)) level.now) }
 {
     for node in level {
         pairs.push((distance, *node))?;
@@ -54,7 +55,9 @@ pub fn distances(
 ) -> Result<Vec<(usize, usize)>, AllocError>
     requires successors { AreSuccessorsOf count successors.now }
     requires sources { All (λ v. v < count) sources.now }
-    ensures { IfOk result (λ pairs. IsDistances (Listed sources.now) (Named (successors_from successors.now)) nat_cmp pairs.items) }
+    ensures { IfOk result
+        (λ pairs. IsDistances (Listed sources.now)
+        (Named (successors_from successors.now)) nat_cmp pairs.items) }
 {
     let all = full_bits(alloc, count)?;
     let mut seen = empty_bits(alloc, count)?;

@@ -63,8 +63,10 @@ impl<'a> Successors<'a> {
     pub fn least_member(&self, node: usize, bits: &[bool]) -> Option<usize>
         requires successors { AreSuccessorsOf (length bits.now) self.now }
         requires node { node < length bits.now }
-        ensures least { MatchOption result ((v : ℕ) → IsAmong v (successors_from self.now node) → ¬ IsMember bits.now v)
-            (IsLeast nat_cmp (λ v. IsAmong v (successors_from self.now node) × IsMember bits.now v)) }
+        ensures least { MatchOption result
+            ((v : ℕ) → IsAmong v (successors_from self.now node) → ¬ IsMember bits.now v)
+            (IsLeast nat_cmp
+            (λ v. IsAmong v (successors_from self.now node) × IsMember bits.now v)) }
     {
         let mut least = None;
         for adjacency in &self.kinds {
@@ -84,7 +86,8 @@ impl<'a> Successors<'a> {
         requires successors { AreSuccessorsOf (length seen.old.items) self.now }
         requires inside { length inside.now ≡ length seen.old.items }
         requires node { node < length seen.old.items }
-        ensures spread { OnOk result (IsSpread seen.old.items seen.new.items noted.old.items noted.new.items
+        ensures spread { OnOk result
+            (IsSpread seen.old.items seen.new.items noted.old.items noted.new.items
             (successors_inside inside.now self.now node)) }
     {
         for adjacency in &self.kinds {

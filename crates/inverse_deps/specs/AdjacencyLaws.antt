@@ -7,15 +7,18 @@ use Rattle.inverse_deps.specs.{Dependencies.{NamesUnit}, Edges.{DependsOn, IsEdg
 
 -- ---- the dependencies of a name
 
-module _ (load : LoadMap) (sorted : IsTrue (is_sorted name_cmp load.names)) (dep : DepKind) (index : ℕ) (p : Name × NameLoad) (below : index < count_of load) where
+module _ (load : LoadMap) (sorted : IsTrue (is_sorted name_cmp load.names)) (dep : DepKind) (index : ℕ)
+    (p : Name × NameLoad) (below : index < count_of load) where
   part : unit_in load (name_at load index) ≡ unit_part (get_or load.names index p).1
   part = unit_at load sorted index p below
 
-  there : (one : NameLoad) → (get_or load.names index p).1 ≡ one → (v : Name) → IsListed (lists_in one) dep v → IsUnitIn load v → NamesUnit load.names dep (name_at load index) v
+  there : (one : NameLoad) → (get_or load.names index p).1 ≡ one → (v : Name) → IsListed (lists_in one) dep v
+      → IsUnitIn load v → NamesUnit load.names dep (name_at load index) v
   there (OfUnit u) e v l w = record { unit = u; unit_is = part ∙ ap unit_part e; listed = l; other = w }
   there (OfAlias m) e v l w = none_there l.list l.there
 
-  back : (one : NameLoad) → (get_or load.names index p).1 ≡ one → (v : Name) → NamesUnit load.names dep (name_at load index) v → IsListed (lists_in one) dep v
+  back : (one : NameLoad) → (get_or load.names index p).1 ≡ one → (v : Name)
+      → NamesUnit load.names dep (name_at load index) v → IsListed (lists_in one) dep v
   back (OfUnit u) e v d =
       let f : Some d.unit ≡ Some u = sym d.unit_is ∙ part ∙ ap unit_part e in
       let same : d.unit ≡ u = cc (f) in
@@ -53,12 +56,14 @@ same_at (x ∷ xs) zero d e l = refl
 same_at (x ∷ xs) (suc i) d e l = same_at xs i d e (omega arith)
 
 -- the same for the adjacency lists of a load
-pub adjacency_named : (load : LoadMap) → IsTrue (is_sorted name_cmp load.names) → (dep : DepKind) (adjacency : List (List Dependency)) → AreDependencyAdjacency load.names adjacency
+pub adjacency_named : (load : LoadMap) → IsTrue (is_sorted name_cmp load.names)
+    → (dep : DepKind) (adjacency : List (List Dependency)) → AreDependencyAdjacency load.names adjacency
     → AreNamedSuccessors (count_of load) (name_at load) (λ i j. HasKind (get_or adjacency i []) dep j) (NamesUnit load.names dep)
 adjacency_named load sorted dep adjacency a index l = let p : Name × NameLoad = ([], OfAlias []) in kinds_named load sorted dep index p l (get_or adjacency index []) (a.rows index p l)
 
 -- the rows of a load are what its units name
-pub own_rows : (load : LoadMap) → IsTrue (is_sorted name_cmp load.names) → (rows : List (List Dependency)) → AreDependencyAdjacency load.names rows → AreRowsBy load (NamesUnit load.names) rows
+pub own_rows : (load : LoadMap) → IsTrue (is_sorted name_cmp load.names) → (rows : List (List Dependency))
+    → AreDependencyAdjacency load.names rows → AreRowsBy load (NamesUnit load.names) rows
 own_rows load sorted rows a = record { sorted = sorted; one_each = a.one_each; named = λ dep. adjacency_named load sorted dep rows a }
 
 -- ---- edges
@@ -97,5 +102,6 @@ transposed_round a b same = record {
 }
 
 -- of loads by files
-pub edges_alike : (a b : LoadMap) → HaveSameAdjacency a b → a.viewer.profile ≡ Files → b.viewer.profile ≡ Files → (dep : DepKind) (u v : Name) → IsEdge a dep u v ↔ IsEdge b dep u v
+pub edges_alike : (a b : LoadMap) → HaveSameAdjacency a b → a.viewer.profile ≡ Files → b.viewer.profile ≡ Files
+    → (dep : DepKind) (u v : Name) → IsEdge a dep u v ↔ IsEdge b dep u v
 edges_alike a b same f g dep u v = (edge a b same f g dep u v, edge b a (transposed_round a b same) g f dep u v)

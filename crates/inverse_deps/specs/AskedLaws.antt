@@ -7,7 +7,8 @@ abbrev pub AskingMakesNoEdges : Type 0
 AskingMakesNoEdges = (load : LoadMap) (extra : List Name) → HaveSameEdges load (asked_for extra load)
 
 -- the same edges, by definition
-pub same_edges : (load : LoadMap) (extra : List Name) (dep : DepKind) (u v : Name) → IsEdge load dep u v ↔ IsEdge (asked_for extra load) dep u v
+pub same_edges : (load : LoadMap) (extra : List Name) (dep : DepKind) (u v : Name) → IsEdge load dep u v
+    ↔ IsEdge (asked_for extra load) dep u v
 same_edges load extra dep u v = (λ e. e, λ e. e)
 
 pub asking_makes_no_edges : AskingMakesNoEdges

@@ -45,7 +45,8 @@ pub edges_join_units : EdgesJoinUnits
 edges_join_units load dep u v (inl d) = dependents_are_units load.viewer.profile load.names dep u v d
 edges_join_units load dep u v (inr d) = let ends = dependents_are_units load.viewer.profile load.names (inverse dep) v u d in (ends.1, ends.0)
 
-one_list_from : (load : LoadMap) (dep : DepKind) (u : Name) (a b : List Name) → AreEdgesFrom load dep u a → AreEdgesFrom load dep u b → a ≡ b
+one_list_from : (load : LoadMap) (dep : DepKind) (u : Name) (a b : List Name) → AreEdgesFrom load dep u a
+    → AreEdgesFrom load dep u b → a ≡ b
 one_list_from load dep u a b p q =
     one_ascending_list name_cmp nat_list_cmp_total a b p.ascending q.ascending
     (λ v. (λ h. (q.exact v).1 ((p.exact v).0 h), λ h. (p.exact v).1 ((q.exact v).0 h)))
@@ -115,7 +116,9 @@ edges_come_from_names s extra load dep u v l = (
 
 -- ---- loads with the same edges
 
-goes_over : (a b : LoadMap) → keys_of a.names ≡ keys_of b.names → ((dep : DepKind) (u v : Name) → IsEdge a dep u v ↔ IsEdge b dep u v) → (edges : EdgeMap) → AreEdges a edges → AreEdges b edges
+goes_over : (a b : LoadMap) → keys_of a.names ≡ keys_of b.names
+    → ((dep : DepKind) (u v : Name) → IsEdge a dep u v ↔ IsEdge b dep u v) → (edges : EdgeMap) → AreEdges a edges
+    → AreEdges b edges
 goes_over a b names same edges e = record {
   names = e.names ∙ names;
   in_order = e.in_order;
@@ -127,5 +130,6 @@ goes_over a b names same edges e = record {
 
 -- if two loads have the same names and each edge of one is an edge of the other, all edges of one are all edges of the
 -- other
-pub edges_go_over : (a b : LoadMap) → keys_of a.names ≡ keys_of b.names → ((dep : DepKind) (u v : Name) → IsEdge a dep u v ↔ IsEdge b dep u v) → HaveSameEdges a b
+pub edges_go_over : (a b : LoadMap) → keys_of a.names ≡ keys_of b.names
+    → ((dep : DepKind) (u v : Name) → IsEdge a dep u v ↔ IsEdge b dep u v) → HaveSameEdges a b
 edges_go_over a b names same edges = (goes_over a b names same edges, goes_over b a (sym names) (λ dep u v. ((same dep u v).1, (same dep u v).0)) edges)

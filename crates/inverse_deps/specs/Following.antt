@@ -45,14 +45,17 @@ pub record HasPulled (names : List (Name × NameLoad)) (before : List ℕ) (deps
   pub pulled : IsPulled names before one
 
 -- The unit of a name, with these dependencies, may come after the unit with an index.
-pub record MayBeAfter (names : List (Name × NameLoad)) (entry : Name × NameLoad) (before : List ℕ) (deps : List Dependency) (index : ℕ) : Type 0 where
+pub record MayBeAfter (names : List (Name × NameLoad)) (entry : Name × NameLoad) (before : List ℕ)
+    (deps : List Dependency) (index : ℕ) : Type 0 where
   pub leading : IsLeading entry
   pub pulled : HasPulled names before deps index
 
 -- these are the units that the unit with an index may come after, in ascending order
-pub record IsMayList (names : List (Name × NameLoad)) (before : List (List ℕ)) (rows : List (List Dependency)) (index : ℕ) (indices : List ℕ) : Type 0 where
+pub record IsMayList (names : List (Name × NameLoad)) (before : List (List ℕ)) (rows : List (List Dependency))
+    (index : ℕ) (indices : List ℕ) : Type 0 where
   pub ascending : IsStrictlySortedBy nat_cmp indices
-  pub exact : (j : ℕ) → IsAmong j indices ↔ MayBeAfter names (entry_at names index) (neighbors before index) (slice_index_or rows index []) j
+  pub exact : (j : ℕ) → IsAmong j indices
+      ↔ MayBeAfter names (entry_at names index) (neighbors before index) (slice_index_or rows index []) j
 
 -- ---- what follows
 

@@ -26,6 +26,7 @@ module _ (a b : LoadMap) (names : keys_of a.names ≡ keys_of b.names) where
 pub unit_index : (load : LoadMap) (u : Name) → IsUnitIn load u → (i : ℕ) × ((i < count_of load) × (name_at load i ≡ u))
 unit_index load u h = by (load_at load u) refl h.1
   where
-    by : (o : Option NameLoad) → load_at load u ≡ o → option_and_then unit_part o ≡ Some h.0 → (i : ℕ) × ((i < count_of load) × (name_at load i ≡ u))
+    by : (o : Option NameLoad) → load_at load u ≡ o → option_and_then unit_part o ≡ Some h.0
+        → (i : ℕ) × ((i < count_of load) × (name_at load i ≡ u))
     by None e f = absurd (none-some _ f)
     by (Some v) e f = place_of_found name_cmp name_cmp-IsAntisymmetric u load.names v [] e

@@ -18,9 +18,11 @@ pub record IsTransposed (deps : List Dependency) (from index : ℕ) (one : Depen
 
 -- each list has what it had, and the reverse of those dependencies of the unit with the index `from` that are on its
 -- index
-pub record AreTransposedIn (old : List (List Dependency)) (deps : List Dependency) (from : ℕ) (adjacency : List (List Dependency)) : Type 0 where
+pub record AreTransposedIn (old : List (List Dependency)) (deps : List Dependency) (from : ℕ)
+    (adjacency : List (List Dependency)) : Type 0 where
   pub units : length adjacency ≡ length old
-  pub just : (index : ℕ) (one : Dependency) → IsAmong one (slice_index_or adjacency index []) ↔ (IsAmong one (slice_index_or old index []) ⊎ IsTransposed deps from index one)
+  pub just : (index : ℕ) (one : Dependency) → IsAmong one (slice_index_or adjacency index [])
+      ↔ (IsAmong one (slice_index_or old index []) ⊎ IsTransposed deps from index one)
 
 -- a dependency in one of the first `count` rows is on the index, and this is its reverse
 pub record IsFound (rows : List (List Dependency)) (count index : ℕ) (one : Dependency) : Type 0 where

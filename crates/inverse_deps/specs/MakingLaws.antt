@@ -30,7 +30,8 @@ module _ {X : Type 0} (P : ℕ → X → Type 0) where
       })
 
 -- adjacency lists that lead from n nodes to n nodes
-pub adjacency_of_successors : (n : ℕ) (adjacency : List (List ℕ)) → length adjacency ≡ n → ((u : ℕ) → u < n → (v : ℕ) → IsAmong v (neighbors adjacency u) → v < n) → AreAdjacencyOf n adjacency
+pub adjacency_of_successors : (n : ℕ) (adjacency : List (List ℕ)) → length adjacency ≡ n
+    → ((u : ℕ) → u < n → (v : ℕ) → IsAmong v (neighbors adjacency u) → v < n) → AreAdjacencyOf n adjacency
 adjacency_of_successors n adjacency e h = record { one_each = e; within = AllBelow-adjacency n adjacency (λ u v a. step u v a (cases_lt u n)) }
   where
     step : (u v : ℕ) → IsAmong v (neighbors adjacency u) → (u < n) ⊎ (n ≤ u) → v < n

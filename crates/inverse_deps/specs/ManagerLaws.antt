@@ -28,7 +28,8 @@ UnitsRequireMounts = (load : LoadMap) (u v : Name) (unit mount : LoadedUnit) →
 -- no given order says that it comes before it.
 abbrev pub TargetsComeAfterWanted : Type 0
 TargetsComeAfterWanted =
-    (load : LoadMap) (t u : Name) → load.viewer.profile ≡ Manager → kind t ≡ Some Target → ¬ (kind u ≡ Some Target) → NamesUnit load.names Wants t u → HasDefaults load.names t → HasDefaults load.names u
+    (load : LoadMap) (t u : Name) → load.viewer.profile ≡ Manager → kind t ≡ Some Target → ¬ (kind u ≡ Some Target)
+    → NamesUnit load.names Wants t u → HasDefaults load.names t → HasDefaults load.names u
     → ¬ IsGivenBefore load.viewer.profile load.names t u → IsEdge load After t u
 
 -- No unit comes after one that a given order has after it, unless a given order says that too.
@@ -39,12 +40,14 @@ GivenOrdersStand = (load : LoadMap) (t u : Name) → IsGivenBefore load.viewer.p
 -- order says so.
 abbrev pub DefaultsAloneAreOrdered : Type 0
 DefaultsAloneAreOrdered =
-    (load : LoadMap) (t u : Name) → IsEdge load After t u → IsGivenBefore load.viewer.profile load.names u t ⊎ ((kind t ≡ Some Target) × HasDefaults load.names t × HasDefaults load.names u)
+    (load : LoadMap) (t u : Name) → IsEdge load After t u → IsGivenBefore load.viewer.profile load.names u t
+    ⊎ ((kind t ≡ Some Target) × HasDefaults load.names t × HasDefaults load.names u)
 
 -- Of two targets that may each come after the other neither does.
 abbrev pub TargetsFollowOneWay : Type 0
 TargetsFollowOneWay =
-    (load : LoadMap) (t u : Name) → MayFollow load.viewer.profile load.names t u → MayFollow load.viewer.profile load.names u t → ¬ IsEdge load After t u × ¬ IsEdge load After u t
+    (load : LoadMap) (t u : Name) → MayFollow load.viewer.profile load.names t u
+    → MayFollow load.viewer.profile load.names u t → ¬ IsEdge load After t u × ¬ IsEdge load After u t
 
 -- ---- proofs
 
@@ -95,7 +98,8 @@ targets_come_after_wanted load t u by_manager is_target other pulls target pulle
     }))
 
 -- an order is given, or a target follows
-given_or_follows : (load : LoadMap) (t u : Name) → IsEdge load After t u → IsGivenBefore load.viewer.profile load.names u t ⊎ Follows load.viewer.profile load.names t u
+given_or_follows : (load : LoadMap) (t u : Name) → IsEdge load After t u
+    → IsGivenBefore load.viewer.profile load.names u t ⊎ Follows load.viewer.profile load.names t u
 given_or_follows load t u (inl (inl g)) = inl (inr g)
 given_or_follows load t u (inl (inr f)) = inr f
 given_or_follows load t u (inr (inl g)) = inl (inl g)
@@ -107,7 +111,8 @@ given_orders_stand load t u before e = elim (given_or_follows load t u e) [ inl 
 pub defaults_alone_are_ordered : DefaultsAloneAreOrdered
 defaults_alone_are_ordered load t u e = elim (given_or_follows load t u e) [ inl g ↦ inl g | inr f ↦ inr (f.may.is_target, f.may.target, f.may.pulled) ]
 
-one_way : (load : LoadMap) (t u : Name) → MayFollow load.viewer.profile load.names t u → MayFollow load.viewer.profile load.names u t → ¬ IsEdge load After t u
+one_way : (load : LoadMap) (t u : Name) → MayFollow load.viewer.profile load.names t u
+    → MayFollow load.viewer.profile load.names u t → ¬ IsEdge load After t u
 one_way load t u there back e = elim (given_or_follows load t u e) [ inl g ↦ back.free g | inr f ↦ f.one_way back ]
 
 pub targets_follow_one_way : TargetsFollowOneWay

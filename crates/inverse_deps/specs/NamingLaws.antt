@@ -42,7 +42,8 @@ module _ {N : Type 0} (count : ℕ) (name : ℕ → N) where
       indexed u (inr h) = let r = b.indexed u h in (r.0, (inr r.1.0, r.1.1))
 
   -- two lists, one after the other
-  pub listed_either : (is js ks : List ℕ) (Q Q' : N → Type 0) → AreNames count name (Listed is) Q → AreNames count name (Listed js) Q' → ks ≡ is ++ js
+  pub listed_either : (is js ks : List ℕ) (Q Q' : N → Type 0) → AreNames count name (Listed is) Q
+      → AreNames count name (Listed js) Q' → ks ≡ is ++ js
       → AreNames count name (Listed ks) (λ u. Q u ⊎ Q' u)
   listed_either is js ks Q Q' a b e =
       names_along (λ i. Listed is i ⊎ Listed js i) (Listed ks) (λ u. Q u ⊎ Q' u) (λ u. Q u ⊎ Q' u) (names_either (Listed is) (Listed js) Q Q' a b)
@@ -55,7 +56,8 @@ module _ {N : Type 0} (count : ℕ) (name : ℕ → N) where
       both i (inr h) = IsAmong-append_right i is js h
 
   -- Reversed edges between indices are reversed edges between their names.
-  pub transposed_named : (order : N → N → Ordering) → IsTotalOrder order → IsIndexing count name order → (E F : ℕ → ℕ → Type 0) (L : N → N → Type 0)
+  pub transposed_named : (order : N → N → Ordering) → IsTotalOrder order → IsIndexing count name order
+      → (E F : ℕ → ℕ → Type 0) (L : N → N → Type 0)
       → AreNamedSuccessors count name E L → ((i j : ℕ) → F i j ↔ E j i) → ((i j : ℕ) → F i j → j < count)
       → ((u v : N) → L u v → (i : ℕ) × ((i < count) × (name i ≡ u))) → AreNamedSuccessors count name F (λ u v. L v u)
   transposed_named order total n E F L successors transposed within indices i l = record {

@@ -9,7 +9,8 @@ use Rattle.inverse_deps.specs.{Indices.{count_of, name_at}, Tables.{HasKind}}
 pub record AreRowsBy (load : LoadMap) (leads : DepKind → Name → Name → Type 0) (rows : List (List Dependency)) : Type 0 where
   pub sorted : IsTrue (is_sorted name_cmp load.names)
   pub one_each : length rows ≡ count_of load
-  pub named : (dep : DepKind) → AreNamedSuccessors (count_of load) (name_at load) (λ i j. HasKind (slice_index_or rows i []) dep j) (leads dep)
+  pub named : (dep : DepKind)
+      → AreNamedSuccessors (count_of load) (name_at load) (λ i j. HasKind (slice_index_or rows i []) dep j) (leads dep)
 
 -- all dependencies in the rows are on indices below this number
 pub record AreWithin (count : ℕ) (rows : List (List Dependency)) : Type 0 where

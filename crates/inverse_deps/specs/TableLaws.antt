@@ -46,7 +46,8 @@ stands_at InSlice = record { there = refl; below = omega arith }
 stands_at SliceOf = record { there = refl; below = omega arith }
 
 -- the element at a position of a mapped list
-pub get_mapped : {X Y : Type 0} (f : X → Y) (xs : List X) (k : ℕ) (x : X) (y : Y) → k < length xs → get_or (map f xs) k y ≡ f (get_or xs k x)
+pub get_mapped : {X Y : Type 0} (f : X → Y) (xs : List X) (k : ℕ) (x : X) (y : Y) → k < length xs
+    → get_or (map f xs) k y ≡ f (get_or xs k x)
 get_mapped f [] k x y l = absurd (omega arith)
 get_mapped f (z ∷ zs) zero x y l = refl
 get_mapped f (z ∷ zs) (suc k) x y l = get_mapped f zs k x y (omega arith)
@@ -54,7 +55,8 @@ get_mapped f (z ∷ zs) (suc k) x y l = get_mapped f zs k x y (omega arith)
 -- ---- one list
 
 -- the names of an ascending adjacency list are the edges that it has
-edges_of_neighbors : (load : LoadMap) → IsTrue (is_sorted name_cmp load.names) → (dep : DepKind) (u : Name) (is : List ℕ) → IsStrictlySortedBy nat_cmp is
+edges_of_neighbors : (load : LoadMap) → IsTrue (is_sorted name_cmp load.names)
+    → (dep : DepKind) (u : Name) (is : List ℕ) → IsStrictlySortedBy nat_cmp is
     → AreNames (count_of load) (name_at load) (Listed is) (IsEdge load dep u) → AreEdgesFrom load dep u (map (name_at load) is)
 edges_of_neighbors load ordered dep u is ascend a = record {
   ascending = ascending_named (count_of load) (name_at load) name_cmp nat_list_cmp_total (load_indexing load ordered) is a.within ascend;
@@ -63,15 +65,18 @@ edges_of_neighbors load ordered dep u is ascend a = record {
 
 -- ---- the edges by name
 
-edges_length : (names : List Name) (tables : List (List (List ℕ))) (index : ℕ) (others : List Name) → length (edges_from names tables index others) ≡ length others
+edges_length : (names : List Name) (tables : List (List (List ℕ))) (index : ℕ) (others : List Name)
+    → length (edges_from names tables index others) ≡ length others
 edges_length names tables index [] = refl
 edges_length names tables index (name ∷ others) = ap suc (edges_length names tables (suc index) others)
 
-edges_keys : (names : List Name) (tables : List (List (List ℕ))) (index : ℕ) (others : List Name) → keys_of (edges_from names tables index others) ≡ others
+edges_keys : (names : List Name) (tables : List (List (List ℕ))) (index : ℕ) (others : List Name)
+    → keys_of (edges_from names tables index others) ≡ others
 edges_keys names tables index [] = refl
 edges_keys names tables index (name ∷ others) = ap (λ (ks : List Name). name ∷ ks) (edges_keys names tables (suc index) others)
 
-edges_each : (names : List Name) (tables : List (List (List ℕ))) (index : ℕ) (others : List Name) (k at : ℕ) (d : Name × List (List Name)) → k < length others → index + k ≡ at
+edges_each : (names : List Name) (tables : List (List (List ℕ))) (index : ℕ) (others : List Name) (k at : ℕ)
+    (d : Name × List (List Name)) → k < length others → index + k ≡ at
     → (get_or (edges_from names tables index others) k d).1 ≡ lists_from names tables at
 edges_each names tables index [] k at d l e = absurd (omega arith)
 edges_each names tables index (name ∷ others) zero at d l e = ap (lists_from names tables) (omega (arith, e))
@@ -112,7 +117,8 @@ module _ (load : LoadMap) (tables : List (List (List ℕ))) (are : IsEdgeTable l
   name_is : (i : ℕ) → get_or (keys_of edges) i [] ≡ name_at load i
   name_is i = ap (λ ks. get_or ks i []) keys
 
-  kind_names : (dep : DepKind) (i : ℕ) → get_or (lists_from (keys_of load.names) tables i) (place dep) [] ≡ map (name_at load) (neighbors (adjacency_at tables dep) i)
+  kind_names : (dep : DepKind) (i : ℕ) → get_or (lists_from (keys_of load.names) tables i) (place dep) []
+      ≡ map (name_at load) (neighbors (adjacency_at tables dep) i)
   kind_names dep i =
       let at = stands_at dep in
       get_mapped (list_from (keys_of load.names) tables i) kinds (place dep) Before [] at.below
@@ -123,7 +129,8 @@ module _ (load : LoadMap) (tables : List (List (List ℕ))) (are : IsEdgeTable l
       let P : List Name → Type 0 = λ ns. AreEdgesFrom load dep (name_at load k) ns in
       subst P (sym (ap (λ ls. get_or ls (place dep) []) (each k d l) ∙ kind_names dep k)) (table_list load tables are dep k (omega (arith, l, count)))
 
-  found_edges : (dep : DepKind) (u : Name) (lists : List (List Name)) → find name_cmp u edges ≡ Some lists → AreEdgesFrom load dep u (get_or lists (place dep) [])
+  found_edges : (dep : DepKind) (u : Name) (lists : List (List Name)) → find name_cmp u edges ≡ Some lists
+      → AreEdgesFrom load dep u (get_or lists (place dep) [])
   found_edges dep u lists f =
       let r = place_of_found name_cmp name_cmp-IsAntisymmetric u edges lists [] f in
       let d : Name × List (List Name) = (u, lists) in
@@ -141,7 +148,8 @@ module _ (load : LoadMap) (tables : List (List (List ℕ))) (are : IsEdgeTable l
       let below : r.0 < length edges = omega (arith, r.1.0, count) in
       none-some _ (sym f ∙ ap (λ k. find name_cmp k edges) (sym (name_is r.0 ∙ r.1.1)) ∙ find_place name_cmp nat_list_cmp_total edges r.0 [] d sorted below)
 
-  edges_there : (dep : DepKind) (u : Name) (o : Option (List (List Name))) → find name_cmp u edges ≡ o → AreEdgesFrom load dep u (list_at dep o)
+  edges_there : (dep : DepKind) (u : Name) (o : Option (List (List Name))) → find name_cmp u edges ≡ o
+      → AreEdgesFrom load dep u (list_at dep o)
   edges_there dep u None f = no_edges load dep u (no_unit u f)
   edges_there dep u (Some lists) f = found_edges dep u lists f
 
@@ -149,7 +157,8 @@ module _ (load : LoadMap) (tables : List (List (List ℕ))) (are : IsEdgeTable l
   pub all_edges : AreEdges load edges
   all_edges = record { names = keys; in_order = sorted; lists = λ dep u. edges_there dep u (find name_cmp u edges) refl }
 
-  adjacency_there : (dep : DepKind) (i : ℕ) → i < length edges → map (listed_name edges) (neighbors (adjacency_at tables dep) i) ≡ names_in edges dep (listed_name edges i)
+  adjacency_there : (dep : DepKind) (i : ℕ) → i < length edges
+      → map (listed_name edges) (neighbors (adjacency_at tables dep) i) ≡ names_in edges dep (listed_name edges i)
   adjacency_there dep i l =
       let d : Name × List (List Name) = ([], []) in
       ap (λ ks. map (λ n. get_or ks n []) (neighbors (adjacency_at tables dep) i)) keys
@@ -170,7 +179,8 @@ module _ (load : LoadMap) (tables : List (List (List ℕ))) (are : IsEdgeTable l
   }
 
 -- edges and the same by index are a table
-pub table_of_edges : (load : LoadMap) (edges : EdgeMap) (tables : List (List (List ℕ))) → AreEdges load edges → AreAdjacencyByKinds edges tables → IsEdgeTable load tables
+pub table_of_edges : (load : LoadMap) (edges : EdgeMap) (tables : List (List (List ℕ))) → AreEdges load edges
+    → AreAdjacencyByKinds edges tables → IsEdgeTable load tables
 table_of_edges load edges tables are by = record {
   sorted = subst (λ b. IsTrue b) (sorted_by_keys name_cmp edges load.names are.names) are.in_order;
   all = by.all;
@@ -187,12 +197,15 @@ table_of_edges load edges tables are by = record {
     within : (dep : DepKind) → AreAdjacencyOf (count_of load) (adjacency_at tables dep)
     within dep = subst (λ n. AreAdjacencyOf n (adjacency_at tables dep)) counts (by.each dep).within
 
-    exact : (dep : DepKind) (i : ℕ) → i < count_of load → map (name_at load) (neighbors (adjacency_at tables dep) i) ≡ names_in edges dep (name_at load i)
+    exact : (dep : DepKind) (i : ℕ) → i < count_of load
+        → map (name_at load) (neighbors (adjacency_at tables dep) i) ≡ names_in edges dep (name_at load i)
     exact dep i l =
         ap (λ ks. map (λ n. get_or ks n []) (neighbors (adjacency_at tables dep) i)) (sym are.names) ∙ (by.each dep).exact i (omega (arith, l, counts))
         ∙ ap (λ ks. names_in edges dep (get_or ks i [])) are.names
 
-    successors : (dep : DepKind) (i : ℕ) → i < count_of load → AreNames (count_of load) (name_at load) (Listed (neighbors (adjacency_at tables dep) i)) (IsEdge load dep (name_at load i))
+    successors : (dep : DepKind) (i : ℕ) → i < count_of load
+        → AreNames (count_of load) (name_at load) (Listed (neighbors (adjacency_at tables dep) i))
+        (IsEdge load dep (name_at load i))
     successors dep i l =
         let lists = are.lists dep (name_at load i) in
         let next = neighbors (adjacency_at tables dep) i in
@@ -204,8 +217,10 @@ table_of_edges load edges tables are by = record {
 
 -- ---- loads with the same table
 
-module _ (a b : LoadMap) (names : keys_of a.names ≡ keys_of b.names) (same : (dep : DepKind) (u v : Name) → IsEdge a dep u v ↔ IsEdge b dep u v) where
-  names_over : (P : ℕ → Type 0) (Q Q' : Name → Type 0) → ((v : Name) → Q v ↔ Q' v) → AreNames (count_of a) (name_at a) P Q → AreNames (count_of b) (name_at b) P Q'
+module _ (a b : LoadMap) (names : keys_of a.names ≡ keys_of b.names)
+    (same : (dep : DepKind) (u v : Name) → IsEdge a dep u v ↔ IsEdge b dep u v) where
+  names_over : (P : ℕ → Type 0) (Q Q' : Name → Type 0) → ((v : Name) → Q v ↔ Q' v)
+      → AreNames (count_of a) (name_at a) P Q → AreNames (count_of b) (name_at b) P Q'
   names_over P Q Q' q n = record {
     within = λ i h. subst (λ c. i < c) (counts_alike a b names) (n.within i h);
     named = λ i h. subst Q' (named_alike a b names i) ((q (name_at a i)).0 (n.named i h));

@@ -6,12 +6,14 @@ use Rattle.inverse_deps.specs.Dependencies.{Follows, IsByPath, IsByTarget, IsDep
 -- ---- the ways in which two units make a dependency
 
 module _ (profile : Profile) (names : List (Name × NameLoad)) (u v : Name) where
-  pub path_parts : (dep : DepKind) → IsByPath profile names dep u v → ((dep ≡ After) × IsMountFor profile names u v) ⊎ ((dep ≡ Requires) × NeedsMount profile names u v)
+  pub path_parts : (dep : DepKind) → IsByPath profile names dep u v
+      → ((dep ≡ After) × IsMountFor profile names u v) ⊎ ((dep ≡ Requires) × NeedsMount profile names u v)
   path_parts After h = inl (refl, h)
   path_parts Requires h = inr (refl, h)
   path_parts other h = absurd h
 
-  pub path_of : (dep : DepKind) → ((dep ≡ After) × IsMountFor profile names u v) ⊎ ((dep ≡ Requires) × NeedsMount profile names u v) → IsByPath profile names dep u v
+  pub path_of : (dep : DepKind) → ((dep ≡ After) × IsMountFor profile names u v)
+      ⊎ ((dep ≡ Requires) × NeedsMount profile names u v) → IsByPath profile names dep u v
   path_of dep (inl h) = subst (λ (k : DepKind). IsByPath profile names k u v) (sym h.0) h.1
   path_of dep (inr h) = subst (λ (k : DepKind). IsByPath profile names k u v) (sym h.0) h.1
 
@@ -31,7 +33,8 @@ module _ (profile : Profile) (names : List (Name × NameLoad)) (dep : DepKind) (
   mount_units : IsMountFor profile names u v → IsUnitOf names u × IsUnitOf names v
   mount_units m = ((m.unit, m.unit_is), (m.mount, m.mount_is))
 
-  path_units : ((dep ≡ After) × IsMountFor profile names u v) ⊎ ((dep ≡ Requires) × NeedsMount profile names u v) → IsUnitOf names u × IsUnitOf names v
+  path_units : ((dep ≡ After) × IsMountFor profile names u v) ⊎ ((dep ≡ Requires) × NeedsMount profile names u v)
+      → IsUnitOf names u × IsUnitOf names v
   path_units (inl h) = mount_units h.1
   path_units (inr h) = mount_units h.1.mount_for
 

@@ -49,7 +49,8 @@ fn lists_at(
 ) -> Result<Items<Items<UnitName>>, AllocError>
     requires table { IsEdgeTable loaded.now table.now }
     requires index { index < count_of loaded.now }
-    ensures lists { IfOk result (λ lists. lists ≡ lists_from (keys_of loaded.now.names) table.now index) }
+    ensures lists { IfOk result
+        (λ lists. lists ≡ lists_from (keys_of loaded.now.names) table.now index) }
 {
     let kinds = DepKind::all();
     let mut lists = Vec::with_capacity(alloc, kinds.len())?;

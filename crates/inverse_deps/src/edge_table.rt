@@ -65,7 +65,8 @@ pub(crate) fn adjacency_by(
     links: &[Vec<Dependency>],
     kind: DepKind,
 ) -> Result<AdjacencyLists, AllocError>
-    ensures lists { IfOk result (AreMade (IsKindList (links_in links.now) kind) (length links.now)) }
+    ensures lists { IfOk result
+        (AreMade (IsKindList (links_in links.now) kind) (length links.now)) }
 {
     let mut adjacency = AdjacencyLists::with_capacity(alloc, links.len())?;
     let mut indices = Vec::new(alloc);

@@ -23,7 +23,8 @@ pub(crate) fn with_following(
     given: &[Shared<Items<Dependency>>],
 ) -> Result<Vec<Shared<Items<Dependency>>>, AllocError>
     requires given { AreRowsBy loaded.now (IsGiven Manager loaded.now.names) given.now }
-    ensures rows { IfOk result (λ rows. AreRowsBy loaded.now (IsDependent Manager loaded.now.names) rows.items) }
+    ensures rows { IfOk result
+        (λ rows. AreRowsBy loaded.now (IsDependent Manager loaded.now.names) rows.items) }
 {
     let before = before_of(alloc, given)?;
     let may = may_follow(alloc, loaded.names(), given, &before)?;
@@ -54,7 +55,8 @@ fn may_follow(
     requires one_each { length given.now ≡ length names.now }
     requires within { AreWithin (length names.now) given.now }
     requires before { AreMade (IsBeforeList given.now) (length given.now) before.now }
-    ensures may { IfOk result (AreMade (IsMayList names.now before.now given.now) (length given.now)) }
+    ensures may { IfOk result
+        (AreMade (IsMayList names.now before.now given.now) (length given.now)) }
 {
     let mut may = AdjacencyLists::with_capacity(alloc, given.len())?;
     let mut indices = Vec::new(alloc);
@@ -78,7 +80,8 @@ fn may_follow_of(
     requires index { index < length names.now }
     requires within { All (λ one. one.index < length names.now) deps.now }
     requires ascending { IsStrictlySortedBy nat_cmp before.now }
-    ensures may { OnOk result ((j : ℕ) → IsAmong j indices.new.items ↔ MayBeAfter names.now (entry_at names.now index) before.now deps.now j) }
+    ensures may { OnOk result ((j : ℕ) → IsAmong j indices.new.items
+        ↔ MayBeAfter names.now (entry_at names.now index) before.now deps.now j) }
 {
     indices.clear();
     if !is_leading(&names[index]) {
@@ -96,7 +99,8 @@ fn add_pulled(
 ) -> Result<(), AllocError>
     requires within { All (λ one. one.index < length names.now) deps.now }
     requires ascending { IsStrictlySortedBy nat_cmp before.now }
-    ensures added { OnOk result ((j : ℕ) → IsAmong j indices.new.items ↔ (IsAmong j indices.old.items ⊎ HasPulled names.now before.now deps.now j)) }
+    ensures added { OnOk result ((j : ℕ) → IsAmong j indices.new.items
+        ↔ (IsAmong j indices.old.items ⊎ HasPulled names.now before.now deps.now j)) }
 {
     for dep in deps {
         if is_pulled(names, *dep, before) {
@@ -164,7 +168,10 @@ fn followed_rows(
 ) -> Result<Vec<Shared<Items<Dependency>>>, AllocError>
     requires may { AreAdjacencyOf (length given.now) may.now }
     requires ascending { (u : ℕ) → IsStrictlySortedBy nat_cmp (neighbors may.now u) }
-    ensures rows { IfOk result (λ rows. AreMade (λ index row. HasAdded (slice_index_or given.now index []) (IsFollowing may.now index) row) (length given.now) rows.items) }
+    ensures rows { IfOk result
+        (λ rows. AreMade
+        (λ index row. HasAdded (slice_index_or given.now index []) (IsFollowing may.now index) row)
+        (length given.now) rows.items) }
 {
     let mut rows = Vec::with_capacity(alloc, given.len())?;
     for (index, deps) in given.iter().enumerate() {
@@ -203,7 +210,8 @@ fn add_following(
 ) -> Result<(), AllocError>
     requires others { All (λ other. other < length may.now) others.now }
     requires ascending { (u : ℕ) → IsStrictlySortedBy nat_cmp (neighbors may.now u) }
-    ensures row { OnOk result (HasAdded row.old.items (IsAfterOne may.now index others.now) row.new.items) }
+    ensures row { OnOk result
+        (HasAdded row.old.items (IsAfterOne may.now index others.now) row.new.items) }
 {
     for other in others {
         if !has(may.neighbors(*other), index) {

@@ -11,7 +11,8 @@ use unit_name::UnitName;
 /// Returns the index of the unit with this main name: its position among all names of the load. None for a name without
 /// a unit. O(log n); allocates nothing.
 pub fn index_of(loaded: &Loaded, name: &UnitName) -> Option<usize>
-    ensures index { MatchOption result (¬ IsUnitIn loaded.now name.now) (IsIndexOf loaded.now name.now) }
+    ensures index { MatchOption result (¬ IsUnitIn loaded.now name.now)
+        (IsIndexOf loaded.now name.now) }
 {
     let names = loaded.names();
     match seek(names, name) {
@@ -26,7 +27,8 @@ pub fn index_of(loaded: &Loaded, name: &UnitName) -> Option<usize>
 /// Returns the index of a name's main name: the position of that name among all names. It is the name of a unit. None for
 /// a name outside the universe. One search: O(log n). Allocates nothing.
 pub fn main_index(loaded: &Loaded, name: &UnitName) -> Option<usize>
-    ensures index { MatchOption result (main_in loaded.now name.now ≡ None) (IsIndexOfMain loaded.now name.now) }
+    ensures index { MatchOption result (main_in loaded.now name.now ≡ None)
+        (IsIndexOfMain loaded.now name.now) }
 {
     let names = loaded.names();
     match seek(names, name) {

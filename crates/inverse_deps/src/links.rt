@@ -13,7 +13,8 @@ pub(crate) fn links_of(
     rows: &[Shared<Items<Dependency>>],
 ) -> Result<Vec<Vec<Dependency>>, AllocError>
     requires within { AreWithin (length rows.now) rows.now }
-    ensures links { IfOk result (λ links. AreFoundIn rows.now (length rows.now) (links_in links.items)) }
+    ensures links { IfOk result
+        (λ links. AreFoundIn rows.now (length rows.now) (links_in links.items)) }
 {
     let mut links = own_links(alloc, rows)?;
     for (from, deps) in rows.iter().enumerate() {
@@ -79,7 +80,8 @@ fn add_transposed(
     from: usize,
 ) -> Result<(), AllocError>
     requires within { All (λ dep. dep.index < length links.old.items) deps.now }
-    ensures added { OnOk result (AreTransposedIn (links_in links.old.items) deps.now from (links_in links.new.items)) }
+    ensures added { OnOk result
+        (AreTransposedIn (links_in links.old.items) deps.now from (links_in links.new.items)) }
 {
     for dep in deps {
         links[dep.index].push(Dependency {

@@ -16,7 +16,8 @@ pub(crate) fn given_rows(
     alloc: Global,
     loaded: &Loaded,
 ) -> Result<Vec<Shared<Items<Dependency>>>, AllocError>
-    ensures rows { IfOk result (λ rows. AreRowsBy loaded.now (IsGiven Manager loaded.now.names) rows.items) }
+    ensures rows { IfOk result
+        (λ rows. AreRowsBy loaded.now (IsGiven Manager loaded.now.names) rows.items) }
 {
     let names = loaded.names();
     let own = loaded.dependencies();
@@ -36,7 +37,8 @@ fn given_row(
     own: &Shared<Items<Dependency>>,
 ) -> Result<Shared<Items<Dependency>>, AllocError>
     requires index { index < count_of loaded.now }
-    ensures row { IfOk result (HasAdded own.now (IsByMounts loaded.now index (mounts_in load.now))) }
+    ensures row { IfOk result
+        (HasAdded own.now (IsByMounts loaded.now index (mounts_in load.now))) }
 {
     match load {
         NameLoad::Unit(unit) => with_mounts(
@@ -79,7 +81,8 @@ fn add_mount(
     mount: &UnitName,
 ) -> Result<(), AllocError>
     requires index { index < count_of loaded.now }
-    ensures row { OnOk result (HasAdded row.old.items (IsByMount loaded.now index mount.now) row.new.items) }
+    ensures row { OnOk result
+        (HasAdded row.old.items (IsByMount loaded.now index mount.now) row.new.items) }
 {
     let names = loaded.names();
     match index_of(loaded, mount) {

@@ -28,7 +28,8 @@ pub(crate) fn rows_of(
 
 // What each unit names.
 fn own_rows(alloc: Global, loaded: &Loaded) -> Result<Vec<Shared<Items<Dependency>>>, AllocError>
-    ensures rows { IfOk result (λ rows. AreRowsBy loaded.now (NamesUnit loaded.now.names) rows.items) }
+    ensures rows { IfOk result
+        (λ rows. AreRowsBy loaded.now (NamesUnit loaded.now.names) rows.items) }
 {
     let mut rows = Vec::with_capacity(alloc, loaded.names().len())?;
     append_copies(&mut rows, loaded.dependencies())?;

@@ -2,7 +2,8 @@
 use Rattle.std.proofs.Common.{◌++◌, ◌↔◌, ◌∷◌, ◌≡◌}
 use Rattle.join_law.specs.{MapLaws.{below_at_key, between_at_key, bounds_at_key, entry_least, entry_not_least, is_map-put, join_at_key, map_itself, option_bounds, option_join, option_new, OptionBounds, OptionJoin}, Maps.{AllHeld, IsMap, MapBelow, OptionBelow}, Order.{IsBetween, IsJoin, IsLeast, IsPartialJoin}, Prelude.{[], ap, arith, Bool, cond, drop, find, find_at, find_gap, get_or, insert, insert_is_put, is_eq, IsAt, IsGap, IsTotalOrder, IsTrue, length, List, None, Option, Ordering, put, refl, set, set_is_put, Some, subst, suc, sym, take, tied_itself, zero, ℕ, ◌∙◌}}
 
-at_itself : {K V : Type 0} (R : K → K → Ordering) (o : IsTotalOrder R) (below : V → V → Type 0) (k : K) (v : V) (es : List (K × V)) → MapBelow R below ((k, v) ∷ []) es → OptionBelow below (Some v) (find R k es)
+at_itself : {K V : Type 0} (R : K → K → Ordering) (o : IsTotalOrder R) (below : V → V → Type 0) (k : K) (v : V)
+    (es : List (K × V)) → MapBelow R below ((k, v) ∷ []) es → OptionBelow below (Some v) (find R k es)
 at_itself R o below k v es h = subst (λ r. OptionBelow below (cond (is_eq r) (Some v) None) (find R k es)) (tied_itself o k) (h.at k)
 
 -- writing the old element changes nothing
@@ -12,7 +13,8 @@ set_same (f ∷ fs) zero e h = ap (λ x. x ∷ fs) h
 set_same (f ∷ fs) (suc i) e h = ap (λ xs. f ∷ xs) (set_same fs i e h)
 
 -- what was borrowed as a slice, and came back as it was
-pub written_same : {A : Type 0} (items new : List A) (n : ℕ) → n ≡ length items → new ≡ items → take n (new ++ drop (length new) items) ≡ items
+pub written_same : {A : Type 0} (items new : List A) (n : ℕ) → n ≡ length items → new ≡ items
+    → take n (new ++ drop (length new) items) ≡ items
 written_same items new n len same = ap (λ l. take n (l ++ drop (length l) items)) same ∙ back items n len
   where
     back : {A : Type 0} (xs : List A) (n : ℕ) → n ≡ length xs → take n (xs ++ drop (length xs) xs) ≡ xs
@@ -22,14 +24,18 @@ written_same items new n len same = ap (λ l. take n (l ++ drop (length l) items
     back (x ∷ xs) (suc n) len = ap (λ l. x ∷ l) (back xs n (omega (arith, len)))
 
 -- a pair adds a key exactly if its value does
-pub added_with : {K V : Type 0} (R : K → K → Ordering) (o : IsTotalOrder R) (below : V → V → Type 0) (k : K) (v : V) (added new : Bool) → IsTrue added ↔ (IsTrue new × ¬ IsLeast below v) → IsTrue added ↔ (IsTrue new × ¬ IsLeast (MapBelow R below) ((k, v) ∷ []))
+pub added_with : {K V : Type 0} (R : K → K → Ordering) (o : IsTotalOrder R) (below : V → V → Type 0) (k : K) (v : V)
+    (added new : Bool) → IsTrue added ↔ (IsTrue new × ¬ IsLeast below v) → IsTrue added
+    ↔ (IsTrue new × ¬ IsLeast (MapBelow R below) ((k, v) ∷ []))
 added_with R o below k v added new h = (
   λ t. let both = h.0 t in (both.0, entry_not_least R below o k v both.1),
   λ both. h.1 (both.0, λ least. both.1 (entry_least R below o k v least)),
 )
 
-module _ {K V : Type 0} (R : K → K → Ordering) (o : IsTotalOrder R) (valid : V → Type 0) (below : V → V → Type 0) (itself : (x : V) → below x x) (chain : (x y z : V) → below x y → below y z → below x z) where
-  none_least_at : (k : K) (es : List (K × V)) (i : ℕ) (d : K × V) → IsAt R k es i → AllHeld below valid es → ¬ IsLeast below (get_or es i d).1
+module _ {K V : Type 0} (R : K → K → Ordering) (o : IsTotalOrder R) (valid : V → Type 0) (below : V → V → Type 0)
+    (itself : (x : V) → below x x) (chain : (x y z : V) → below x y → below y z → below x z) where
+  none_least_at : (k : K) (es : List (K × V)) (i : ℕ) (d : K × V) → IsAt R k es i → AllHeld below valid es
+      → ¬ IsLeast below (get_or es i d).1
   none_least_at k [] i d a n = absurd a
   none_least_at k (e ∷ es) zero d a n = n.0.not_least
   none_least_at k (e ∷ es) (suc i) d a n = none_least_at k es i d a.1 n.1
@@ -54,7 +60,8 @@ module _ {K V : Type 0} (R : K → K → Ordering) (o : IsTotalOrder R) (valid :
       pub partly_is_map : (v new rest : V) → valid new → IsPartialJoin below e.1 v new rest → IsMap R below valid (set es i (e.0, new))
       partly_is_map v new rest ok j = subst (IsMap R below valid) (sym (written new)) (is_map-put R below o k valid es new (record { not_least = λ least. not_least_here (λ z. chain e.1 new z j.kept (least z)); well_formed = ok }) m)
 
-      pub partly_is_join : (v new rest : V) → IsPartialJoin below e.1 v new rest → IsPartialJoin (MapBelow R below) es ((k, v) ∷ []) (set es i (e.0, new)) ((k, rest) ∷ [])
+      pub partly_is_join : (v new rest : V) → IsPartialJoin below e.1 v new rest
+          → IsPartialJoin (MapBelow R below) es ((k, v) ∷ []) (set es i (e.0, new)) ((k, rest) ∷ [])
       partly_is_join v new rest j = subst (λ x. IsPartialJoin (MapBelow R below) es ((k, v) ∷ []) x ((k, rest) ∷ [])) (sym (written new)) (record {
         kept = below_at_key R below o k itself es new (subst (λ x. OptionBelow below x (Some new)) (sym found) j.kept);
         bounds = bounds_at_key R below o k es v new rest (subst (λ x. OptionBounds below x (Some v) (Some new) (Some rest)) (sym found) (option_bounds below e.1 v new rest j.bounds));

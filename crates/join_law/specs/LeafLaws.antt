@@ -36,16 +36,22 @@ module _ {C : Type 0} (S : C → C → Ordering) where
         below_antisym S total exact (written_at c) (larger S x y) at_most
         (larger-least S total x y (written_at c) (up_from a _ above.0) (up_from b _ above.1))
 
-    pub written_between : (a b v : Option (Versioned C)) → ((w : Option (Versioned C)) → OptionBelow (IsUpTo S) a w → OptionBelow (IsUpTo S) b w → OptionBelow (IsUpTo S) v w) → IsBelow S (written_at v) (larger S (written_at a) (written_at b))
+    pub written_between : (a b v : Option (Versioned C))
+        → ((w : Option (Versioned C)) → OptionBelow (IsUpTo S) a w → OptionBelow (IsUpTo S) b w
+        → OptionBelow (IsUpTo S) v w) → IsBelow S (written_at v) (larger S (written_at a) (written_at b))
     written_between a b v h =
         let m = larger S (written_at a) (written_at b) in
         up_from v m (h (Some (versioned m)) (up_to a m (larger-left S total (written_at a) (written_at b))) (up_to b m (larger-right S total (written_at a) (written_at b))))
 
-    pub written_bounds : (a b v r : Option (Versioned C)) → OptionBounds (IsUpTo S) a b v r → larger S (written_at v) (written_at r) ≡ larger S (written_at a) (written_at b)
+    pub written_bounds : (a b v r : Option (Versioned C)) → OptionBounds (IsUpTo S) a b v r
+        → larger S (written_at v) (written_at r) ≡ larger S (written_at a) (written_at b)
     written_bounds a b v r h =
         below_antisym S total exact _ _ (least v r a b (λ w. (h w).1)) (least a b v r (λ w. (h w).0))
       where
-        least : (x y p q : Option (Versioned C)) → ((w : Option (Versioned C)) → (OptionBelow (IsUpTo S) p w × OptionBelow (IsUpTo S) q w) → (OptionBelow (IsUpTo S) x w × OptionBelow (IsUpTo S) y w)) → IsBelow S (larger S (written_at x) (written_at y)) (larger S (written_at p) (written_at q))
+        least : (x y p q : Option (Versioned C))
+            → ((w : Option (Versioned C)) → (OptionBelow (IsUpTo S) p w × OptionBelow (IsUpTo S) q w)
+            → (OptionBelow (IsUpTo S) x w × OptionBelow (IsUpTo S) y w))
+            → IsBelow S (larger S (written_at x) (written_at y)) (larger S (written_at p) (written_at q))
         least x y p q within =
             let m = larger S (written_at p) (written_at q) in
             let both = within (Some (versioned m)) (up_to p m (larger-left S total (written_at p) (written_at q)), up_to q m (larger-right S total (written_at p) (written_at q))) in
@@ -62,17 +68,24 @@ module _ {C : Type 0} (S : C → C → Ordering) where
       upper = upper_of (MapBelow R (IsUpTo S)) (map_itself (IsUpTo S) leaf_itself leaf_chain R) (map_union R (versioned_max S)) (union_joins R o (IsUpTo S) (versioned_max S) (max_joins S total))
 
       -- a map below another has entries that aren't greater
-      pub leaf_below : (a b : List (K × Versioned C)) → MapBelow R (IsUpTo S) a b → IsBelow S (written_at (find R k a)) (written_at (find R k b))
+      pub leaf_below : (a b : List (K × Versioned C)) → MapBelow R (IsUpTo S) a b
+          → IsBelow S (written_at (find R k a)) (written_at (find R k b))
       leaf_below a b h = written_below (find R k a) (find R k b) (h.at k)
 
       -- a join has the greater entry at each key
-      pub leaf_join : (a b c : List (K × Versioned C)) → IsJoin (MapBelow R (IsUpTo S)) a b c → written_at (find R k c) ≡ larger S (written_at (find R k a)) (written_at (find R k b))
+      pub leaf_join : (a b c : List (K × Versioned C)) → IsJoin (MapBelow R (IsUpTo S)) a b c
+          → written_at (find R k c) ≡ larger S (written_at (find R k a)) (written_at (find R k b))
       leaf_join a b c j = written_join (find R k a) (find R k b) (find R k c) (join_at R o (IsUpTo S) leaf_itself leaf_chain k a b c j)
 
       -- a value between has no greater entry than the two maps have
-      pub leaf_between : (a b v : List (K × Versioned C)) → IsBetween (MapBelow R (IsUpTo S)) a b v → IsBelow S (written_at (find R k v)) (larger S (written_at (find R k a)) (written_at (find R k b)))
+      pub leaf_between : (a b v : List (K × Versioned C)) → IsBetween (MapBelow R (IsUpTo S)) a b v
+          → IsBelow S (written_at (find R k v)) (larger S (written_at (find R k a)) (written_at (find R k b)))
       leaf_between a b v j = written_between (find R k a) (find R k b) (find R k v) (between_at R o (IsUpTo S) leaf_itself leaf_chain k upper a b v j)
 
       -- together with the rest it has the greater entry
-      pub leaf_bounds : (a b v r : List (K × Versioned C)) → ((z : List (K × Versioned C)) → (MapBelow R (IsUpTo S) v z × MapBelow R (IsUpTo S) r z) ↔ (MapBelow R (IsUpTo S) a z × MapBelow R (IsUpTo S) b z)) → larger S (written_at (find R k v)) (written_at (find R k r)) ≡ larger S (written_at (find R k a)) (written_at (find R k b))
+      pub leaf_bounds : (a b v r : List (K × Versioned C))
+          → ((z : List (K × Versioned C)) → (MapBelow R (IsUpTo S) v z × MapBelow R (IsUpTo S) r z)
+          ↔ (MapBelow R (IsUpTo S) a z × MapBelow R (IsUpTo S) b z))
+          → larger S (written_at (find R k v)) (written_at (find R k r))
+          ≡ larger S (written_at (find R k a)) (written_at (find R k b))
       leaf_bounds a b v r h = written_bounds (find R k a) (find R k b) (find R k v) (find R k r) (bounds_at R o (IsUpTo S) leaf_itself leaf_chain k upper a b v r h)

@@ -3,7 +3,8 @@ use Rattle.std.{proofs.Common.{◌↔◌, ◌∷◌, ◌≡◌}, specs.FinMap.{f
 use Rattle.join_law.specs.Prelude.{[], by_order, cond, eq_by_cmp, Equal, false, find-put, find_tied, from_T, Greater, is_eq, is_equal, is_sorted-put, IsTotalOrder, Less, List, None, Option, Ordering, put, refl, Some, subst, sym, tied_itself, to_T, true}
 use Rattle.join_law.specs.{Maps.{AllHeld, IsHeld, IsMap, MapBelow, OptionBelow}, Order.{IsJoin, IsLeast}}
 
-module _ {V : Type 0} (below : V → V → Type 0) (itself : (x : V) → below x x) (chain : (x y z : V) → below x y → below y z → below x z) where
+module _ {V : Type 0} (below : V → V → Type 0) (itself : (x : V) → below x x)
+    (chain : (x y z : V) → below x y → below y z → below x z) where
   pub option_itself : (x : Option V) → OptionBelow below x x
   option_itself None = tt
   option_itself (Some v) = itself v
@@ -35,7 +36,8 @@ module _ {V : Type 0} (below : V → V → Type 0) where
   option_join a b c h None = (λ l. (λ z. ((h.bounds z).0 (l z)).0, λ z. ((h.bounds z).0 (l z)).1), λ p z. (h.bounds z).1 (p.0 z, p.1 z))
   option_join a b c h (Some w) = h.bounds w
 
-  pub option_bounds : (a b v r : V) → ((z : V) → (below v z × below r z) ↔ (below a z × below b z)) → OptionBounds (Some a) (Some b) (Some v) (Some r)
+  pub option_bounds : (a b v r : V) → ((z : V) → (below v z × below r z) ↔ (below a z × below b z))
+      → OptionBounds (Some a) (Some b) (Some v) (Some r)
   option_bounds a b v r h None = (λ l. (λ z. ((h z).0 (l.0 z, l.1 z)).0, λ z. ((h z).0 (l.0 z, l.1 z)).1), λ p. (λ z. ((h z).1 (p.0 z, p.1 z)).0, λ z. ((h z).1 (p.0 z, p.1 z)).1))
   option_bounds a b v r h (Some w) = h w
 
@@ -47,7 +49,8 @@ module _ {V : Type 0} (below : V → V → Type 0) where
 
 module _ {K V : Type 0} (R : K → K → Ordering) (below : V → V → Type 0) where
   -- maps whose values are joined at each key are joined
-  pub map_join : (m n r : List (K × V)) → ((q : K) → OptionJoin below (find R q m) (find R q n) (find R q r)) → IsJoin (MapBelow R below) m n r
+  pub map_join : (m n r : List (K × V)) → ((q : K) → OptionJoin below (find R q m) (find R q n) (find R q r))
+      → IsJoin (MapBelow R below) m n r
   map_join m n r h = record {
     bounds = λ z. (
       λ b. (record { at = λ q. ((h q (find R q z)).0 (b.at q)).0 }, record { at = λ q. ((h q (find R q z)).0 (b.at q)).1 }),
@@ -55,7 +58,9 @@ module _ {K V : Type 0} (R : K → K → Ordering) (below : V → V → Type 0) 
     );
   }
 
-  pub map_bounds : (m n r s : List (K × V)) → ((q : K) → OptionBounds below (find R q m) (find R q n) (find R q r) (find R q s)) → (z : List (K × V)) → (MapBelow R below r z × MapBelow R below s z) ↔ (MapBelow R below m z × MapBelow R below n z)
+  pub map_bounds : (m n r s : List (K × V))
+      → ((q : K) → OptionBounds below (find R q m) (find R q n) (find R q r) (find R q s)) → (z : List (K × V))
+      → (MapBelow R below r z × MapBelow R below s z) ↔ (MapBelow R below m z × MapBelow R below n z)
   map_bounds m n r s h z = (
     λ b. (record { at = λ q. ((h q (find R q z)).0 (b.0.at q, b.1.at q)).0 }, record { at = λ q. ((h q (find R q z)).0 (b.0.at q, b.1.at q)).1 }),
     λ p. (record { at = λ q. ((h q (find R q z)).1 (p.0.at q, p.1.at q)).0 }, record { at = λ q. ((h q (find R q z)).1 (p.0.at q, p.1.at q)).1 }),
@@ -63,7 +68,8 @@ module _ {K V : Type 0} (R : K → K → Ordering) (below : V → V → Type 0) 
 
   module _ (o : IsTotalOrder R) (k : K) where
     -- the map after its value at k was joined with v
-    pub join_at_key : (es : List (K × V)) (v new : V) → OptionJoin below (find R k es) (Some v) (Some new) → IsJoin (MapBelow R below) es ((k, v) ∷ []) (put R k new es)
+    pub join_at_key : (es : List (K × V)) (v new : V) → OptionJoin below (find R k es) (Some v) (Some new)
+        → IsJoin (MapBelow R below) es ((k, v) ∷ []) (put R k new es)
     join_at_key es v new h = map_join es ((k, v) ∷ []) (put R k new es) (λ q.
         subst (λ x. OptionJoin below (find R q es) (cond (eq_by_cmp R q k) (Some v) None) x) (sym (find-put R o q k new es))
         (elim (eq_by_cmp R q k) as (λ b. eq_by_cmp R q k ≡ b → OptionJoin below (find R q es) (cond b (Some v) None) (cond b (Some new) (find R q es))) [
@@ -72,7 +78,10 @@ module _ {K V : Type 0} (R : K → K → Ordering) (below : V → V → Type 0) 
         ] refl))
 
     -- the map after only part of v was joined at k
-    pub bounds_at_key : (es : List (K × V)) (v new rest : V) → OptionBounds below (find R k es) (Some v) (Some new) (Some rest) → (z : List (K × V)) → (MapBelow R below (put R k new es) z × MapBelow R below ((k, rest) ∷ []) z) ↔ (MapBelow R below es z × MapBelow R below ((k, v) ∷ []) z)
+    pub bounds_at_key : (es : List (K × V)) (v new rest : V)
+        → OptionBounds below (find R k es) (Some v) (Some new) (Some rest) → (z : List (K × V))
+        → (MapBelow R below (put R k new es) z × MapBelow R below ((k, rest) ∷ []) z)
+        ↔ (MapBelow R below es z × MapBelow R below ((k, v) ∷ []) z)
     bounds_at_key es v new rest h = map_bounds es ((k, v) ∷ []) (put R k new es) ((k, rest) ∷ []) (λ q.
         subst (λ x. OptionBounds below (find R q es) (cond (eq_by_cmp R q k) (Some v) None) x (cond (eq_by_cmp R q k) (Some rest) None)) (sym (find-put R o q k new es))
         (elim (eq_by_cmp R q k) as (λ b. eq_by_cmp R q k ≡ b → OptionBounds below (find R q es) (cond b (Some v) None) (cond b (Some new) (find R q es)) (cond b (Some rest) None)) [
@@ -81,7 +90,8 @@ module _ {K V : Type 0} (R : K → K → Ordering) (below : V → V → Type 0) 
         ] refl))
 
     -- a map with a greater value at k is greater
-    pub below_at_key : ((x : V) → below x x) → (es : List (K × V)) (new : V) → OptionBelow below (find R k es) (Some new) → MapBelow R below es (put R k new es)
+    pub below_at_key : ((x : V) → below x x) → (es : List (K × V)) (new : V)
+        → OptionBelow below (find R k es) (Some new) → MapBelow R below es (put R k new es)
     below_at_key itself es new h = record {
       at = λ q. subst (λ x. OptionBelow below (find R q es) x) (sym (find-put R o q k new es))
           (elim (eq_by_cmp R q k) as (λ b. eq_by_cmp R q k ≡ b → OptionBelow below (find R q es) (cond b (Some new) (find R q es))) [
@@ -95,7 +105,10 @@ module _ {K V : Type 0} (R : K → K → Ordering) (below : V → V → Type 0) 
         option_refl (Some v) = itself v
 
     -- a map whose value at k lies between lies between
-    pub between_at_key : (es : List (K × V)) (v new : V) → ((w : Option V) → OptionBelow below (find R k es) w → OptionBelow below (Some v) w → OptionBelow below (Some new) w) → (z : List (K × V)) → MapBelow R below es z → MapBelow R below ((k, v) ∷ []) z → MapBelow R below (put R k new es) z
+    pub between_at_key : (es : List (K × V)) (v new : V)
+        → ((w : Option V) → OptionBelow below (find R k es) w → OptionBelow below (Some v) w
+        → OptionBelow below (Some new) w) → (z : List (K × V)) → MapBelow R below es z
+        → MapBelow R below ((k, v) ∷ []) z → MapBelow R below (put R k new es) z
     between_at_key es v new h z p s = record {
       at = λ q. subst (λ x. OptionBelow below x (find R q z)) (sym (find-put R o q k new es))
           (elim (eq_by_cmp R q k) as (λ b. eq_by_cmp R q k ≡ b → OptionBelow below (cond b (Some v) None) (find R q z) → OptionBelow below (cond b (Some new) (find R q es)) (find R q z)) [
@@ -104,7 +117,8 @@ module _ {K V : Type 0} (R : K → K → Ordering) (below : V → V → Type 0) 
           ] refl (s.at q));
     }
 
-    held-put : (valid : V → Type 0) (es : List (K × V)) (new : V) → IsHeld below valid new → AllHeld below valid es → AllHeld below valid (put R k new es)
+    held-put : (valid : V → Type 0) (es : List (K × V)) (new : V) → IsHeld below valid new → AllHeld below valid es
+        → AllHeld below valid (put R k new es)
     held-put valid [] new n h = (n, tt)
     held-put valid (e ∷ es) new n h = elim (R k e.0) as (λ r. AllHeld below valid (by_order r ((k, new) ∷ e ∷ es) ((e.0, new) ∷ es) (e ∷ put R k new es))) [
       | Less ↦ (n, h)
@@ -112,7 +126,8 @@ module _ {K V : Type 0} (R : K → K → Ordering) (below : V → V → Type 0) 
       | Greater ↦ (h.0, held-put valid es new n h.1)
     ]
 
-    pub is_map-put : (valid : V → Type 0) (es : List (K × V)) (new : V) → IsHeld below valid new → IsMap R below valid es → IsMap R below valid (put R k new es)
+    pub is_map-put : (valid : V → Type 0) (es : List (K × V)) (new : V) → IsHeld below valid new
+        → IsMap R below valid es → IsMap R below valid (put R k new es)
     is_map-put valid es new n h = record { sorted = from_T _ (is_sorted-put R o k new es (to_T _ h.sorted)); held = held-put valid es new n h.held }
 
     -- a map of one entry isn't bottom if its value isn't

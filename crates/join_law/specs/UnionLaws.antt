@@ -9,7 +9,8 @@ option_union join None y = y
 option_union join (Some x) None = Some x
 option_union join (Some x) (Some y) = Some (join x y)
 
-module _ {K V : Type 0} (R : K → K → Ordering) (o : IsTotalOrder R) (below : V → V → Type 0) (join : V → V → V) (joins : (x y : V) → IsJoin below x y (join x y)) where
+module _ {K V : Type 0} (R : K → K → Ordering) (o : IsTotalOrder R) (below : V → V → Type 0) (join : V → V → V)
+    (joins : (x y : V) → IsJoin below x y (join x y)) where
   some_joined : (x : Option V) (y : V) → Some (joined_value join x y) ≡ option_union join x (Some y)
   some_joined None y = refl
   some_joined (Some x) y = refl
@@ -34,7 +35,10 @@ module _ {K V : Type 0} (R : K → K → Ordering) (o : IsTotalOrder R) (below :
   pub union_joins : (m n : List (K × V)) → IsJoin (MapBelow R below) m n (map_union R join m n)
   union_joins m n = map_join R below m n (map_union R join m n) (λ q. subst (OptionJoin below (find R q m) (find R q n)) (sym (find-union m n q)) (option_union_joins (find R q m) (find R q n)))
 
-module _ {K V : Type 0} (R : K → K → Ordering) (o : IsTotalOrder R) (below : V → V → Type 0) (valid : V → Type 0) (join : V → V → V) (joins : (x y : V) → IsJoin below x y (join x y)) (chain : (x y z : V) → below x y → below y z → below x z) (itself : (x : V) → below x x) (keeps : (x y : V) → valid x → valid y → valid (join x y)) where
+module _ {K V : Type 0} (R : K → K → Ordering) (o : IsTotalOrder R) (below : V → V → Type 0) (valid : V → Type 0)
+    (join : V → V → V) (joins : (x y : V) → IsJoin below x y (join x y))
+    (chain : (x y z : V) → below x y → below y z → below x z) (itself : (x : V) → below x x)
+    (keeps : (x y : V) → valid x → valid y → valid (join x y)) where
   held_at : (m : List (K × V)) → AllHeld below valid m → (q : K) (v : V) → find R q m ≡ Some v → IsHeld below valid v
   held_at [] h q v e = cc (e)
   held_at (f ∷ fs) h q v e =
@@ -43,7 +47,8 @@ module _ {K V : Type 0} (R : K → K → Ordering) (o : IsTotalOrder R) (below :
         | false ↦ λ t. held_at fs h.1 q v t
       ] e
 
-  held_joined : (x : Option V) (y : V) → ((v : V) → x ≡ Some v → IsHeld below valid v) → IsHeld below valid y → IsHeld below valid (joined_value join x y)
+  held_joined : (x : Option V) (y : V) → ((v : V) → x ≡ Some v → IsHeld below valid v) → IsHeld below valid y
+      → IsHeld below valid (joined_value join x y)
   held_joined None y h n = n
   held_joined (Some x) y h n = record {
     not_least = λ least. n.not_least (λ z. (((joins x y).bounds z).0 (least z)).1);

@@ -13,7 +13,8 @@ tied_parts Equal b h = (refl, h)
 tied_parts Greater b h = cc (h)
 
 -- if two orders are exact, so is their lexicographic product
-pub both_exact : {A B : Type 0} (R : A → A → Ordering) (S : B → B → Ordering) → ((x y : A) → R x y ≡ Equal → x ≡ y) → ((x y : B) → S x y ≡ Equal → x ≡ y)
+pub both_exact : {A B : Type 0} (R : A → A → Ordering) (S : B → B → Ordering) → ((x y : A) → R x y ≡ Equal → x ≡ y)
+    → ((x y : B) → S x y ≡ Equal → x ≡ y)
     → (a b : A) (c d : B) → ordering_then (R a b) (S c d) ≡ Equal → (a ≡ b) × (c ≡ d)
 both_exact R S first second a b c d h = let p = tied_parts (R a b) (S c d) h in (first a b p.0, second c d p.1)
 

@@ -61,7 +61,8 @@ pub fn join_value<K: Key, V: Join>(
     requires found { IsAt K.cmp key pairs.old at }
     requires within { at < length pairs.old }
     ensures map { IsMap K.cmp V.below V.is_valid pairs.new }
-    ensures ok { OnOk result (IsJoin (MapBelow K.cmp V.below) pairs.old ((key, value) ∷ []) pairs.new) }
+    ensures ok { OnOk result
+        (IsJoin (MapBelow K.cmp V.below) pairs.old ((key, value) ∷ []) pairs.new) }
     ensures added { IfOk result (λ added. added ≡ false) }
     ensures key { IfErr result (λ fault. fault.rest.0 ≡ key) }
     ensures refused { IfErr result (λ fault. IsPartialJoin (MapBelow K.cmp V.below) pairs.old

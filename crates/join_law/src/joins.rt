@@ -42,7 +42,8 @@ pub trait Join: Drop {
     /// later completes the join; if `other` is single, this value is unchanged.
     fn join_from(&mut self, other: Self) -> Result<(), Rest<Self>>
         ensures ok { OnOk result (IsJoin below self.old other self.new) }
-        ensures refused { IfErr result (λ fault. IsPartialJoin below self.old other self.new fault.rest) }
+        ensures refused { IfErr result
+            (λ fault. IsPartialJoin below self.old other self.new fault.rest) }
         ensures single { IfErr result (λ _. is_single other → self.new ≡ self.old) }
         ensures in_place { joins_in_place → IsOk result }
         ensures valid { is_valid self.new }

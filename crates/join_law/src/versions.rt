@@ -122,8 +122,8 @@ impl<C: Key> Join for Versioned<C> {
         ensures never_refused { IsOk result }
         ensures greater { self.new ≡ versioned_max C.cmp self.old other }
         ensures ok { OnOk result (IsJoin (IsUpTo C.cmp) self.old other self.new) }
-        ensures refused { IfErr result (λ fault. IsPartialJoin (IsUpTo C.cmp) self.old other self.new
-            fault.rest) }
+        ensures refused { IfErr result
+            (λ fault. IsPartialJoin (IsUpTo C.cmp) self.old other self.new fault.rest) }
         ensures single { IfErr result (λ _. Unit {0} → self.new ≡ self.old) }
         ensures in_place { Unit {0} → IsOk result }
         ensures valid { Unit {0} }

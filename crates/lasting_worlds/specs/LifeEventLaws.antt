@@ -8,7 +8,8 @@ use Rattle.world_law.specs.declared.events.Event.TheVariants as event
 
 -- ---- nodes of a list
 
-changed_itself : (i : ℕ) (f : Node → Node) (ns : List Node) (n : Node) → slice_get ns i ≡ Some n → slice_get (changed_at i f ns) i ≡ Some (f n)
+changed_itself : (i : ℕ) (f : Node → Node) (ns : List Node) (n : Node) → slice_get ns i ≡ Some n
+    → slice_get (changed_at i f ns) i ≡ Some (f n)
 changed_itself i f [] n h = cc
 changed_itself zero f (m ∷ ns) n h = let same : m ≡ n = cc in ap (λ (k : Node). Some (f k)) same
 changed_itself (suc i) f (m ∷ ns) n h = changed_itself i f ns n h
@@ -48,14 +49,16 @@ abbrev AreBlank : EventWorld → ℕ → ℕ → Type 0
 AreBlank w from to = (j : ℕ) → from ≤ j → j < to → Holds w j []
 
 -- what comes after some puts at a node
-after_puts : (w : EventWorld) (i j : ℕ) (es : List Edit) (fs : List Event) (x : Option Node) → slice_get (after fs (after (puts_at i es) w)).nodes j ≡ x
+after_puts : (w : EventWorld) (i j : ℕ) (es : List Edit) (fs : List Event) (x : Option Node)
+    → slice_get (after fs (after (puts_at i es) w)).nodes j ≡ x
     → slice_get (after (puts_at i es ++ fs) w).nodes j ≡ x
 after_puts w i j es fs x h = ap (λ (v : EventWorld). slice_get v.nodes j) (after-append (puts_at i es) fs w) ∙ h
 
 still_blank : (w : EventWorld) (i from to : ℕ) (es : List Edit) → i < from → AreBlank w from to → AreBlank (after (puts_at i es) w) from to
 still_blank w i from to es below blanks j low high = puts_leave w i j es (λ same. absurd (omega (arith, same, below, low))) ∙ blanks j low high
 
-pub life_there : (w : EventWorld) (i writer : ℕ) (s : Lived) (hs : List Happening) → Holds w i (all_of s) → AreBlank w (suc i) (suc (i + restarts hs))
+pub life_there : (w : EventWorld) (i writer : ℕ) (s : Lived) (hs : List Happening) → Holds w i (all_of s)
+    → AreBlank w (suc i) (suc (i + restarts hs))
     → Holds (after (life_events i writer s hs) w) (i + restarts hs) (all_of (lived_after writer s hs))
 life_there w i writer s [] h blanks = let same : i ≡ i + 0 = omega arith in subst (λ k. Holds w k (all_of s)) same h
 life_there w i writer s (Put place content ∷ hs) h blanks =
@@ -124,19 +127,22 @@ split w i life fs =
     after-append (puts_at i life.logged) (life_events i life.writer (start_of life) life.happenings ++ fs) w
     ∙ after-append (life_events i life.writer (start_of life) life.happenings) fs (after (puts_at i life.logged) w)
 
-life_outside : (w : EventWorld) (i : ℕ) (life : Life) (j : ℕ) → IsOutside i (i + restarts life.happenings) j → slice_get (after_life w i life).nodes j ≡ slice_get w.nodes j
+life_outside : (w : EventWorld) (i : ℕ) (life : Life) (j : ℕ) → IsOutside i (i + restarts life.happenings) j
+    → slice_get (after_life w i life).nodes j ≡ slice_get w.nodes j
 life_outside w i life j out =
     life_leaves (after (puts_at i life.logged) w) i life.writer (start_of life) life.happenings j out
     ∙ puts_leave w i j life.logged (not_there i (i + restarts life.happenings) j i out (omega arith) (omega arith))
 
-before_stay : (w : EventWorld) (i : ℕ) (lives : List Life) (j : ℕ) → j < i → slice_get (after (events_of i lives) w).nodes j ≡ slice_get w.nodes j
+before_stay : (w : EventWorld) (i : ℕ) (lives : List Life) (j : ℕ) → j < i
+    → slice_get (after (events_of i lives) w).nodes j ≡ slice_get w.nodes j
 before_stay w i [] j h = refl
 before_stay w i (life ∷ lives) j h =
     let next = i + suc (restarts life.happenings) in
     ap (λ (v : EventWorld). slice_get v.nodes j) (split w i life (events_of next lives))
     ∙ before_stay (after_life w i life) next lives j (omega (arith, h)) ∙ life_outside w i life j (inl h)
 
-pub all_there : (w : EventWorld) (i : ℕ) (lives : List Life) → AreBlank w i (i + nodes_of lives) → AreThere i lives (after (events_of i lives) w)
+pub all_there : (w : EventWorld) (i : ℕ) (lives : List Life) → AreBlank w i (i + nodes_of lives)
+    → AreThere i lives (after (events_of i lives) w)
 all_there w i [] blanks = tt
 all_there w i (life ∷ lives) blanks =
     let next = i + suc (restarts life.happenings) in
@@ -174,24 +180,28 @@ puts_are : (n i : ℕ) (es : List Edit) (e : Edit) → IsAmong e (puts_of n (put
 puts_are n i [] e h = h
 puts_are n i (x ∷ es) e h = by (nat_lt i n) (puts_are n i es e) h
   where
-    by : (b : Bool) → (IsAmong e (puts_of n (puts_at i es)) → IsAmong e es) → IsAmong e (cond b (x ∷ puts_of n (puts_at i es)) (puts_of n (puts_at i es)))
+    by : (b : Bool) → (IsAmong e (puts_of n (puts_at i es)) → IsAmong e es)
+        → IsAmong e (cond b (x ∷ puts_of n (puts_at i es)) (puts_of n (puts_at i es)))
         → IsAmong e (x ∷ es)
     by true rest (inl same) = inl same
     by true rest (inr m) = inr (rest m)
     by false rest m = inr (rest m)
 
-puts_then : (n i : ℕ) (es : List Edit) (fs : List Event) (e : Edit) → IsAmong e (puts_of n (puts_at i es ++ fs)) → IsAmong e es ⊎ IsAmong e (puts_of n fs)
+puts_then : (n i : ℕ) (es : List Edit) (fs : List Event) (e : Edit) → IsAmong e (puts_of n (puts_at i es ++ fs))
+    → IsAmong e es ⊎ IsAmong e (puts_of n fs)
 puts_then n i es fs e h =
     ⊎_elim (λ m. inl (puts_are n i es e m)) (λ m. inr m)
     (IsAmong-append_cases e (puts_of n (puts_at i es)) (puts_of n fs) (subst (IsAmong e) (puts_of-append n (puts_at i es) fs) h))
 
 -- one happening, and then others
-one_then : (writer : ℕ) (s : Lived) (h : Happening) (hs : List Happening) (e : Edit) → IsAmong e (all_of (after_one writer s h)) ⊎ IsAskedFor writer e hs
+one_then : (writer : ℕ) (s : Lived) (h : Happening) (hs : List Happening) (e : Edit)
+    → IsAmong e (all_of (after_one writer s h)) ⊎ IsAskedFor writer e hs
     → IsAmong e (all_of s) ⊎ IsAskedFor writer e (h ∷ hs)
 one_then writer s h hs e (inl m) = ⊎_elim (λ old. inl old) (λ new. ⊎_elim (λ asks. inr (inl asks)) (λ none. absurd none) new) (asked writer s (h ∷ []) e m)
 one_then writer s h hs e (inr later) = inr (inr later)
 
-life_puts : (n i writer : ℕ) (s : Lived) (hs : List Happening) (e : Edit) → IsAmong e (puts_of n (life_events i writer s hs)) → IsAmong e (all_of s) ⊎ IsAskedFor writer e hs
+life_puts : (n i writer : ℕ) (s : Lived) (hs : List Happening) (e : Edit)
+    → IsAmong e (puts_of n (life_events i writer s hs)) → IsAmong e (all_of s) ⊎ IsAskedFor writer e hs
 life_puts n i writer s [] e m = absurd m
 life_puts n i writer s (Put place content ∷ hs) e m =
     one_then writer s (Put place content) hs e

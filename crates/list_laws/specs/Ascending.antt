@@ -18,7 +18,8 @@ module _ {X K : Type 0} (key : X → K) (cmp : K → K → Ordering) (total : Is
   not_below k h = absurd (true≢false (ap is_lt (sym h ∙ tied_itself total k)))
 
   -- two ascending lists with the same members have the same first element and the same members after it
-  module _ (x y : X) (xs ys : List X) (a : Ascends (x ∷ xs)) (b : Ascends (y ∷ ys)) (same : (z : X) → IsAmong z (x ∷ xs) ↔ IsAmong z (y ∷ ys)) where
+  module _ (x y : X) (xs ys : List X) (a : Ascends (x ∷ xs)) (b : Ascends (y ∷ ys))
+      (same : (z : X) → IsAmong z (x ∷ xs) ↔ IsAmong z (y ∷ ys)) where
     above_first : (z : X) → IsAmong z xs → cmp (key x) (key z) ≡ Less
     above_first z h = above_all (key x) xs z (sorted_head cmp (key x) (map key xs) a) h
 
@@ -60,5 +61,6 @@ map_itself [] = refl
 map_itself (x ∷ xs) = ap (λ ys. x ∷ ys) (map_itself xs)
 
 -- the same for lists ordered by the members themselves
-pub one_ascending_list : {X : Type 0} (cmp : X → X → Ordering) (total : IsTotalOrder cmp) (xs ys : List X) → IsStrictlySortedBy cmp xs → IsStrictlySortedBy cmp ys → ((z : X) → IsAmong z xs ↔ IsAmong z ys) → xs ≡ ys
+pub one_ascending_list : {X : Type 0} (cmp : X → X → Ordering) (total : IsTotalOrder cmp) (xs ys : List X)
+    → IsStrictlySortedBy cmp xs → IsStrictlySortedBy cmp ys → ((z : X) → IsAmong z xs ↔ IsAmong z ys) → xs ≡ ys
 one_ascending_list cmp total xs ys a b same = one_ascending (λ x. x) cmp total xs ys (subst (IsStrictlySortedBy cmp) (sym (map_itself xs)) a) (subst (IsStrictlySortedBy cmp) (sym (map_itself ys)) b) same

@@ -36,7 +36,8 @@ module _ {A B : Type 0} where
           before zero l = e
           before (suc i) l = m.before i (omega arith)
 
-      step : (o : Option B) → g x ≡ o → (first_said g xs ≡ Some v → IsFirst g xs d v) → option_or o (first_said g xs) ≡ Some v → IsFirst g (x ∷ xs) d v
+      step : (o : Option B) → g x ≡ o → (first_said g xs ≡ Some v → IsFirst g xs d v)
+          → option_or o (first_said g xs) ≡ Some v → IsFirst g (x ∷ xs) d v
       step None e more t = later e (more t)
       step (Some w) e more t = record { place = 0; within = omega arith; says = e ∙ t; before = λ i l. absurd (omega arith) }
 
@@ -45,7 +46,8 @@ module _ {A B : Type 0} where
   none_says g [] d h i l = absurd (omega arith)
   none_says g (x ∷ xs) d h i l = step (g x) refl (none_says g xs d) h i l
     where
-      step : (o : Option B) → g x ≡ o → (first_said g xs ≡ None → (j : ℕ) → j < length xs → g (get_or xs j d) ≡ None) → option_or o (first_said g xs) ≡ None → (j : ℕ) → j < length (x ∷ xs) → g (get_or (x ∷ xs) j d) ≡ None
+      step : (o : Option B) → g x ≡ o → (first_said g xs ≡ None → (j : ℕ) → j < length xs → g (get_or xs j d) ≡ None)
+          → option_or o (first_said g xs) ≡ None → (j : ℕ) → j < length (x ∷ xs) → g (get_or (x ∷ xs) j d) ≡ None
       step None e more t zero m = e
       step None e more t (suc j) m = more t j (omega arith)
       step (Some w) e more t j m = absurd (none-some _ (sym t))
@@ -60,7 +62,9 @@ module _ {A B : Type 0} where
   said_push g (y ∷ ys) x = ap (option_or (g y)) (said_push g ys x) ∙ sym (or_assoc (g y) (first_said g ys) (g x))
 
   -- one more element: its answer counts only if there was none before it
-  pub said_more : (g : A → Option B) (xs : List A) (i : ℕ) (x : A) → i < length xs → x ≡ get_or xs i x → (new cur init : Option B) → new ≡ option_or cur (g x) → cur ≡ option_or init (first_said g (take i xs)) → new ≡ option_or init (first_said g (take (i + 1) xs))
+  pub said_more : (g : A → Option B) (xs : List A) (i : ℕ) (x : A) → i < length xs → x ≡ get_or xs i x
+      → (new cur init : Option B) → new ≡ option_or cur (g x) → cur ≡ option_or init (first_said g (take i xs))
+      → new ≡ option_or init (first_said g (take (i + 1) xs))
   said_more g xs i x h e new cur init n c =
       n ∙ ap (λ o. option_or o (g x)) c ∙ or_assoc init (first_said g (take i xs)) (g x)
       ∙ ap (option_or init) (sym (said_push g (take i xs) x) ∙ ap (λ y. first_said g (take i xs ++ y ∷ [])) e ∙ ap (first_said g) (sym (take_more xs i x h)))

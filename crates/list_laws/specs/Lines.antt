@@ -18,7 +18,8 @@ EndsInReturn line = (prefix : List ℕ) × (line ≡ prefix ++ 13 ∷ [])
 abbrev pub IsPlainLine : List ℕ → Type 0
 IsPlainLine line = HasNoLineFeed line × ¬ (EndsInReturn line)
 
-line_then_parts : (line : List ℕ) (parts : List (List ℕ)) → 0 < length parts → lines_of_parts (line ∷ parts) ≡ strip_carriage_return line ∷ lines_of_parts parts
+line_then_parts : (line : List ℕ) (parts : List (List ℕ)) → 0 < length parts
+    → lines_of_parts (line ∷ parts) ≡ strip_carriage_return line ∷ lines_of_parts parts
 line_then_parts line [] some = absurd (omega arith)
 line_then_parts line (next ∷ parts) some = refl
 
@@ -46,12 +47,14 @@ strip_carriage_return-plain (b ∷ rest) plain =
     (ne_eqb (get_or line (length line - 1) 0) 13
     (λ is. plain (take (length line - 1) line, end_from_reads 0 line (13 ∷ []) (omega arith) (at_last is))))
   where
-    at_last : get_or (b ∷ rest) (length (b ∷ rest) - 1) 0 ≡ 13 → (i : ℕ) → i < 1 → get_or (b ∷ rest) (length (b ∷ rest) - 1 + i) 0 ≡ get_or (13 ∷ []) i 0
+    at_last : get_or (b ∷ rest) (length (b ∷ rest) - 1) 0 ≡ 13 → (i : ℕ) → i < 1
+        → get_or (b ∷ rest) (length (b ∷ rest) - 1 + i) 0 ≡ get_or (13 ∷ []) i 0
     at_last is zero lt = rw add-zero is
     at_last is (suc i) lt = absurd (omega arith)
 
 -- Lines that are each followed by a line feed are the first lines of the text.
-pub lines-line_feeds : (texts : List (List ℕ)) (rest : List ℕ) → AllByRecursion IsPlainLine texts → lines (flat_map (λ line. line ++ 10 ∷ []) texts ++ rest) ≡ texts ++ lines rest
+pub lines-line_feeds : (texts : List (List ℕ)) (rest : List ℕ) → AllByRecursion IsPlainLine texts
+    → lines (flat_map (λ line. line ++ 10 ∷ []) texts ++ rest) ≡ texts ++ lines rest
 lines-line_feeds [] rest plain = refl
 lines-line_feeds (line ∷ texts) rest plain =
     let later = flat_map (λ line. line ++ 10 ∷ []) texts ++ rest in
@@ -69,7 +72,8 @@ strip_carriage_return-return line =
     ∙ ap (λ k. take k (line ++ 13 ∷ [])) long ∙ take_at line (13 ∷ []) (length line) refl
 
 -- Lines that are each followed by a carriage return and a line feed are the first lines of the text.
-pub lines-returns : (texts : List (List ℕ)) (rest : List ℕ) → AllByRecursion HasNoLineFeed texts → lines (flat_map (λ line. line ++ 13 ∷ 10 ∷ []) texts ++ rest) ≡ texts ++ lines rest
+pub lines-returns : (texts : List (List ℕ)) (rest : List ℕ) → AllByRecursion HasNoLineFeed texts
+    → lines (flat_map (λ line. line ++ 13 ∷ 10 ∷ []) texts ++ rest) ≡ texts ++ lines rest
 lines-returns [] rest none = refl
 lines-returns (line ∷ texts) rest none =
     let later = flat_map (λ line. line ++ 13 ∷ 10 ∷ []) texts ++ rest in
@@ -80,7 +84,8 @@ lines-returns (line ∷ texts) rest none =
     ∙ ap (λ v. line ∷ v) (lines-returns texts rest none.1)
 
 -- if a search finds no line feed, the text is one line
-pub lines-cut_nowhere : (bytes : List ℕ) → 0 < length bytes → ((k : ℕ) → k < length bytes → get_or bytes k 0 ≢ 10) → lines bytes ≡ bytes ∷ lines []
+pub lines-cut_nowhere : (bytes : List ℕ) → 0 < length bytes → ((k : ℕ) → k < length bytes → get_or bytes k 0 ≢ 10)
+    → lines bytes ≡ bytes ∷ lines []
 lines-cut_nowhere bytes some none = lines-last bytes some (All-from_get_or (λ b. b ≢ 10) bytes 0 none)
 
 -- a text split at the first line feed that a search finds

@@ -5,7 +5,8 @@ use Rattle.list_laws.specs.Prelude.{[], and_parts, ap, arith, below_all, Equal, 
 use Rattle.list_laws.specs.Orderings.{is_less, turned}
 
 -- a key below all pairs is below each of them
-pub below_at : {K V : Type 0} (R : K → K → Ordering) (x : K) (es : List (K × V)) (j : ℕ) (d : K × V) → IsTrue (below_all R x es) → j < length es → R x (get_or es j d).0 ≡ Less
+pub below_at : {K V : Type 0} (R : K → K → Ordering) (x : K) (es : List (K × V)) (j : ℕ) (d : K × V)
+    → IsTrue (below_all R x es) → j < length es → R x (get_or es j d).0 ≡ Less
 below_at R x [] j d h lt = absurd (omega arith)
 below_at R x (e ∷ es) zero d h lt = is_less _ (and_parts _ _ h).0
 below_at R x (e ∷ es) (suc j) d h lt = below_at R x es j d (and_parts _ _ h).1 (omega arith)
@@ -28,7 +29,8 @@ module _ {K : Type 0} (R : K → K → Ordering) (o : IsTotalOrder R) (k : K) wh
       index_small Greater = omega arith
 
 -- along sorted pairs, the results of comparing with one key never decrease
-pub comparisons_ascend : {K V : Type 0} (R : K → K → Ordering) (o : IsTotalOrder R) (k : K) (es : List (K × V)) → IsTrue (is_sorted R es) → IsNonDecreasingBy (λ (e : K × V). ordering_index (R e.0 k)) es
+pub comparisons_ascend : {K V : Type 0} (R : K → K → Ordering) (o : IsTotalOrder R) (k : K) (es : List (K × V))
+    → IsTrue (is_sorted R es) → IsNonDecreasingBy (λ (e : K × V). ordering_index (R e.0 k)) es
 comparisons_ascend R o k [] s i j d le lt = absurd (omega arith)
 comparisons_ascend R o k (e ∷ es) s zero zero d le lt = omega arith
 comparisons_ascend R o k (e ∷ es) s zero (suc j) d le lt =

@@ -44,7 +44,8 @@ located_from-at (suc (suc zero)) text lt = refl
 located_from-at (suc (suc (suc zero))) text lt = refl
 located_from-at (suc (suc (suc (suc rank)))) text lt = absurd (omega arith)
 
-pub located_here : (rank : ℕ) (text below : List ℕ) → rank < 4 → below_directory (directory_of rank) text ≡ Some below → located_from rank (drop rank directories) text ≡ Some (rank, below)
+pub located_here : (rank : ℕ) (text below : List ℕ) → rank < 4 → below_directory (directory_of rank) text ≡ Some below
+    → located_from rank (drop rank directories) text ≡ Some (rank, below)
 located_here rank text below lt e =
     located_from-at rank text lt
     ∙ ap (λ o. option_map_or (λ b. Some (rank, b)) o (located_from (rank + 1) (drop (rank + 1) directories) text)) e
@@ -64,8 +65,10 @@ located_at (suc (suc zero)) rest lt = refl
 located_at (suc (suc (suc zero))) rest lt = refl
 located_at (suc (suc (suc (suc rank)))) rest lt = absurd (omega arith)
 
-found_first : (from : ℕ) (rest : List (List ℕ)) (directory text : List ℕ) (rank : ℕ) (below : List ℕ) (o : Option (List ℕ)) → below_directory directory text ≡ o
-    → (located_from (from + 1) rest text ≡ Some (rank, below) → (i : ℕ) × (i < length rest) × (rank ≡ from + 1 + i) × (text ≡ unwrap_or (slice_get rest i) [] ++ 47 ∷ below))
+found_first : (from : ℕ) (rest : List (List ℕ)) (directory text : List ℕ) (rank : ℕ) (below : List ℕ)
+    (o : Option (List ℕ)) → below_directory directory text ≡ o
+    → (located_from (from + 1) rest text ≡ Some (rank, below)
+    → (i : ℕ) × (i < length rest) × (rank ≡ from + 1 + i) × (text ≡ unwrap_or (slice_get rest i) [] ++ 47 ∷ below))
     → option_map_or (λ b. Some (from, b)) o (located_from (from + 1) rest text) ≡ Some (rank, below)
     → (i : ℕ) × (i < length (directory ∷ rest)) × (rank ≡ from + i) × (text ≡ unwrap_or (slice_get (directory ∷ rest) i) [] ++ 47 ∷ below)
 found_first from rest directory text rank below None at later e =
@@ -83,7 +86,8 @@ found_in from (directory ∷ rest) text rank below e =
     found_first from rest directory text rank below (below_directory directory text) refl (λ h. found_in (from + 1) rest text rank below h) e
 
 -- the located directory and the text below it are the whole text
-pub located_sound : (text : List ℕ) (rank : ℕ) (below : List ℕ) → located text ≡ Some (rank, below) → (rank < 4) × (text ≡ directory_of rank ++ 47 ∷ below)
+pub located_sound : (text : List ℕ) (rank : ℕ) (below : List ℕ) → located text ≡ Some (rank, below)
+    → (rank < 4) × (text ≡ directory_of rank ++ 47 ∷ below)
 unfolding located
 located_sound text rank below e =
     let found = found_in 0 directories text rank below e in
@@ -100,7 +104,8 @@ whole (b ∷ bytes) h =
     let parts = and_parts _ _ h in
     slice_split-cons_no is_slash b bytes (clean_byte b parts.0) ∙ ap (onto_first b) (whole bytes parts.1)
 
-cut_once : (folder rest : List ℕ) → list_all is_component_byte folder ≡ true → slice_split is_slash (folder ++ 47 ∷ rest) ≡ folder ∷ slice_split is_slash rest
+cut_once : (folder rest : List ℕ) → list_all is_component_byte folder ≡ true
+    → slice_split is_slash (folder ++ 47 ∷ rest) ≡ folder ∷ slice_split is_slash rest
 cut_once [] rest h = refl
 cut_once (b ∷ folder) rest h =
     let parts = and_parts _ _ h in
@@ -132,7 +137,8 @@ read_back path h = ap path_within (located_at path.rank (below_of path.folder pa
 abbrev IsWritten : ℕ → List ℕ → PathParts → Type 0
 IsWritten rank below path = (below_of path.folder path.name ≡ below) × (path.rank ≡ rank) × (rank < 4 → IsPath path)
 
-written_one : (rank : ℕ) (below name : List ℕ) (path : PathParts) → name ≡ below → path_below rank (name ∷ []) ≡ Ok path → IsWritten rank below path
+written_one : (rank : ℕ) (below name : List ℕ) (path : PathParts) → name ≡ below → path_below rank (name ∷ []) ≡ Ok path
+    → IsWritten rank below path
 written_one rank below name path e h = ⊎_elim
     (λ good.
     let same : ◌≡◌ {A = PathParts} (record { rank = rank; folder = []; name = name }) path = let ok = sym (cond-true _ _ _ good) ∙ h in cc in
@@ -140,7 +146,8 @@ written_one rank below name path e h = ⊎_elim
     (λ bad. let fault = sym (cond-false _ _ _ bad) ∙ h in cc)
     (cases_Bool (is_component name))
 
-written_two : (rank : ℕ) (below folder name : List ℕ) (path : PathParts) → folder ++ 47 ∷ name ≡ below → path_below rank (folder ∷ name ∷ []) ≡ Ok path → IsWritten rank below path
+written_two : (rank : ℕ) (below folder name : List ℕ) (path : PathParts) → folder ++ 47 ∷ name ≡ below
+    → path_below rank (folder ∷ name ∷ []) ≡ Ok path → IsWritten rank below path
 written_two rank below folder name path e h = ⊎_elim
     (λ good.
     let same : ◌≡◌ {A = PathParts} (record { rank = rank; folder = folder; name = name }) path = let ok = sym (cond-true _ _ _ good) ∙ h in cc in
@@ -154,13 +161,15 @@ written_two rank below folder name path e h = ⊎_elim
     (λ bad. let fault = sym (cond-false _ _ _ bad) ∙ h in cc)
     (cases_Bool (is_component folder && is_component name))
 
-written_below : (rank : ℕ) (below : List ℕ) (parts : List (List ℕ)) (path : PathParts) → join_with_byte 47 parts ≡ below → path_below rank parts ≡ Ok path → IsWritten rank below path
+written_below : (rank : ℕ) (below : List ℕ) (parts : List (List ℕ)) (path : PathParts) → join_with_byte 47 parts ≡ below
+    → path_below rank parts ≡ Ok path → IsWritten rank below path
 written_below rank below [] path e h = cc (h)
 written_below rank below (name ∷ []) path e h = written_one rank below name path e h
 written_below rank below (folder ∷ name ∷ []) path e h = written_two rank below folder name path e h
 written_below rank below (first ∷ second ∷ third ∷ rest) path e h = cc (h)
 
-written_within : (text : List ℕ) (path : PathParts) (o : Option (ℕ × List ℕ)) → located text ≡ o → path_within o ≡ Ok path → (text_of path ≡ text) × IsPath path
+written_within : (text : List ℕ) (path : PathParts) (o : Option (ℕ × List ℕ)) → located text ≡ o
+    → path_within o ≡ Ok path → (text_of path ≡ text) × IsPath path
 unfolding text_of
 written_within text path None at h = cc (h)
 written_within text path (Some (rank, below)) at h =

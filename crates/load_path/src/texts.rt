@@ -21,7 +21,8 @@ impl<'a> Model for Parts<'a> {
 
     ghost view = { λ p. record { rank = p.rank; folder = p.folder.now; name = p.name.now } };
 
-    ghost invariant = { λ p. IsPath (record { rank = p.rank; folder = p.folder.now; name = p.name.now }) };
+    ghost invariant = { λ p. IsPath
+        (record { rank = p.rank; folder = p.folder.now; name = p.name.now }) };
 }
 
 impl<'a> Parts<'a> {

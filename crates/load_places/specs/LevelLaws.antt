@@ -50,7 +50,8 @@ level_is (suc (suc (suc (suc (suc (suc (suc zero))))))) other h = refl
 level_is (suc (suc (suc (suc (suc (suc (suc (suc l)))))))) other h = absurd (omega arith)
 
 -- from a level on: this one, then the greater ones
-pub next_level : {B : Type 0} (f : ℕ → Option B) (l : ℕ) → IsLevel l → first_said f (drop l levels) ≡ option_or (f l) (first_said f (drop (suc l) levels))
+pub next_level : {B : Type 0} (f : ℕ → Option B) (l : ℕ) → IsLevel l
+    → first_said f (drop l levels) ≡ option_or (f l) (first_said f (drop (suc l) levels))
 next_level f l h = said_from f levels l 0 h ∙ ap (λ k. option_or (f k) (first_said f (drop (suc l) levels))) (level_is l 0 h)
 
 -- none answers just where each level has no answer
@@ -67,7 +68,8 @@ undefined_everywhere B f = (none_said f, all_none f)
 pub said_by : {B : Type 0} (f : ℕ → Option B) (c : B) → first_level f ≡ Some c → (l : ℕ) × IsLevel l × (f l ≡ Some c)
 said_by f c h = let first = first_is f levels 0 c h in (first.place, first.within, ap f (sym (level_is first.place 0 first.within)) ∙ first.says)
 
-pub first_at : {B : Type 0} (f : ℕ → Option B) (r : ℕ) (c : B) → IsLevel r → f r ≡ Some c → ((k : ℕ) → k < r → f k ≡ None) → first_level f ≡ Some c
+pub first_at : {B : Type 0} (f : ℕ → Option B) (r : ℕ) (c : B) → IsLevel r → f r ≡ Some c
+    → ((k : ℕ) → k < r → f k ≡ None) → first_level f ≡ Some c
 first_at f r c h e none = place_decides f levels 0 r c h (ap f (level_is r 0 h) ∙ e) (λ k l. ap f (level_is k 0 (omega (arith, l, h))) ∙ none k l)
 
 pub least_level_decides : (B : Type 0) → LeastLevelDecides B
@@ -76,11 +78,13 @@ least_level_decides B = first_at
 -- ---- level by level
 
 -- a level that says something says what is found from it on
-pub said_there : {B : Type 0} (f : ℕ → Option B) (l : ℕ) (x : B) (w : Option B) → IsLevel l → f l ≡ Some x → first_said f (drop l levels) ≡ w → Some x ≡ w
+pub said_there : {B : Type 0} (f : ℕ → Option B) (l : ℕ) (x : B) (w : Option B) → IsLevel l → f l ≡ Some x
+    → first_said f (drop l levels) ≡ w → Some x ≡ w
 said_there f l x w h e i = sym (next_level f l h ∙ ap (λ o. option_or o (first_said f (drop (suc l) levels))) e) ∙ i
 
 -- where a level says nothing, what is found is found from the next one on
-pub passed_over : {B : Type 0} (f : ℕ → Option B) (l m : ℕ) (w : Option B) → IsLevel l → m ≡ suc l → f l ≡ None → first_said f (drop l levels) ≡ w → first_said f (drop m levels) ≡ w
+pub passed_over : {B : Type 0} (f : ℕ → Option B) (l m : ℕ) (w : Option B) → IsLevel l → m ≡ suc l → f l ≡ None
+    → first_said f (drop l levels) ≡ w → first_said f (drop m levels) ≡ w
 passed_over f l m w h t e i = ap (λ k. first_said f (drop k levels)) t ∙ sym (next_level f l h ∙ ap (λ o. option_or o (first_said f (drop (suc l) levels))) e) ∙ i
 
 -- ---- places
@@ -94,7 +98,8 @@ own_level looks name rank a = by (bytes_eq name looks) refl
     by false t e = cc (e)
 
 -- a level is twice the rank, or one more
-near_rank : (host : Option (List ℕ)) (scope : Scope) (rank a : ℕ) → level_in host scope rank ≡ Some a → (rank + rank ≤ a) × (a ≤ rank + rank + 1)
+near_rank : (host : Option (List ℕ)) (scope : Scope) (rank a : ℕ) → level_in host scope rank ≡ Some a
+    → (rank + rank ≤ a) × (a ≤ rank + rank + 1)
 near_rank host Fleet rank a e = let is = same_Some _ _ e in (omega (arith, is), omega (arith, is))
 near_rank None (Host name) rank a e = cc (e)
 near_rank (Some looks) (Host name) rank a e = let is = (own_level looks name rank a e).1 in (omega (arith, is), omega (arith, is))

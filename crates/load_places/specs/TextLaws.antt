@@ -75,7 +75,8 @@ read_back place scope path = by place.scope scope
         ∙ ap (in_scope_of (Host h)) (are_their_texts.read_back place.path path)
 
 -- what is found at a colon
-cut_there : (i : ℕ) (text : List ℕ) (at : ℕ) → position_from is_colon i text ≡ Some at → (k : ℕ) × (at ≡ i + k) × (take k text ++ 58 ∷ drop (suc k) text ≡ text)
+cut_there : (i : ℕ) (text : List ℕ) (at : ℕ) → position_from is_colon i text ≡ Some at
+    → (k : ℕ) × (at ≡ i + k) × (take k text ++ 58 ∷ drop (suc k) text ≡ text)
 cut_there i [] at e = cc (e)
 cut_there i (b ∷ text) at e = ⊎_elim
     (λ colon.
@@ -102,20 +103,24 @@ end_cuts (b ∷ text) at e = ⊎_elim
     (cases_Bool (b == 47))
 
 -- what was read in a scope is written so
-written_in : (scope : Scope) (text : List ℕ) (place : PlaceParts) → in_scope_of scope (path_of text) ≡ Ok place → (place.scope ≡ scope) × (text_of place.path ≡ text) × IsPath place.path
+written_in : (scope : Scope) (text : List ℕ) (place : PlaceParts) → in_scope_of scope (path_of text) ≡ Ok place
+    → (place.scope ≡ scope) × (text_of place.path ≡ text) × IsPath place.path
 written_in scope text place e = by (path_of text) refl e
   where
-    by : (r : Result PathParts PathFault) → path_of text ≡ r → in_scope_of scope r ≡ Ok place → (place.scope ≡ scope) × (text_of place.path ≡ text) × IsPath place.path
+    by : (r : Result PathParts PathFault) → path_of text ≡ r → in_scope_of scope r ≡ Ok place
+        → (place.scope ≡ scope) × (text_of place.path ≡ text) × IsPath place.path
     by (Ok path) at h =
         let same : record { scope = scope; path = path } ≡ place = cc (h) in
         let written = are_their_texts.written_back text path at in
         subst (λ (p : PlaceParts). (p.scope ≡ scope) × (text_of p.path ≡ text) × IsPath p.path) same (refl, written.0, written.1)
     by (Err fault) at h = cc (h)
 
-written_back : (text : List ℕ) (place : PlaceParts) → place_of text ≡ Ok place → (place_text place ≡ text) × IsScope place.scope × IsPath place.path
+written_back : (text : List ℕ) (place : PlaceParts) → place_of text ≡ Ok place
+    → (place_text place ≡ text) × IsScope place.scope × IsPath place.path
 written_back text place e = by (host_end text) refl e
   where
-    by : (o : Option ℕ) → host_end text ≡ o → place_cut o text ≡ Ok place → (place_text place ≡ text) × IsScope place.scope × IsPath place.path
+    by : (o : Option ℕ) → host_end text ≡ o → place_cut o text ≡ Ok place
+        → (place_text place ≡ text) × IsScope place.scope × IsPath place.path
     by None at h =
         let written = written_in Fleet text place h in (
           ap (λ (s : Scope). place_text (record { scope = s; path = place.path })) written.0 ∙ written.1,

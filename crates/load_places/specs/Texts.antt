@@ -59,4 +59,5 @@ IsScope (Host h) = IsTrue (is_host h)
 -- The text of each place is read back as the place, and a text that is read as a place is the text of this place.
 pub record AreTheirTexts : Type 0 where
   pub read_back : (place : PlaceParts) → IsScope place.scope → IsPath place.path → place_of (place_text place) ≡ Ok place
-  pub written_back : (text : List ℕ) (place : PlaceParts) → place_of text ≡ Ok place → (place_text place ≡ text) × IsScope place.scope × IsPath place.path
+  pub written_back : (text : List ℕ) (place : PlaceParts) → place_of text ≡ Ok place
+      → (place_text place ≡ text) × IsScope place.scope × IsPath place.path

@@ -25,9 +25,13 @@ pub enum Refreshed {
 /// path of one component comes, goes or changes its target, or the first or last file of a name comes or goes.
 pub fn refresh(loaded: &Loaded, store: &Store, touched: &[Place]) -> Result<Loaded, LoadFault>
     requires before { IsBefore loaded.now store.now touched.now }
-    ensures load { IfOk result (IsLoad (host_view_of store.now loaded.now.viewer) loaded.now.extra) }
-    ensures over { IfErr result (λ fault. OnTooMany fault (IsTooLarge (host_view_of store.now loaded.now.viewer) loaded.now.extra)) }
-    ensures not_over { IfOk result (λ _. ¬ IsTooLarge (host_view_of store.now loaded.now.viewer) loaded.now.extra) }
+    ensures load { IfOk result
+        (IsLoad (host_view_of store.now loaded.now.viewer) loaded.now.extra) }
+    ensures over { IfErr result
+        (λ fault. OnTooMany fault
+        (IsTooLarge (host_view_of store.now loaded.now.viewer) loaded.now.extra)) }
+    ensures not_over { IfOk result
+        (λ _. ¬ IsTooLarge (host_view_of store.now loaded.now.viewer) loaded.now.extra) }
     ensures no_workers { IfErr result (λ fault. OnWorkers fault ⊥) }
 {
     match patches_for(loaded, store, touched)? {
@@ -45,8 +49,11 @@ pub fn refresh_in_place(
 ) -> Result<Refreshed, LoadFault>
     requires before { IsBefore loaded store.now touched.now }
     ensures load { IfOk result (IsRefreshed (host_view_of store.now loaded.viewer) loaded) }
-    ensures over { IfErr result (λ fault. OnTooMany fault (IsTooLarge (host_view_of store.now loaded.viewer) loaded.extra)) }
-    ensures not_over { IfOk result (λ _. ¬ IsTooLarge (host_view_of store.now loaded.viewer) loaded.extra) }
+    ensures over { IfErr result
+        (λ fault. OnTooMany fault
+        (IsTooLarge (host_view_of store.now loaded.viewer) loaded.extra)) }
+    ensures not_over { IfOk result
+        (λ _. ¬ IsTooLarge (host_view_of store.now loaded.viewer) loaded.extra) }
     ensures no_workers { IfErr result (λ fault. OnWorkers fault ⊥) }
 {
     match patches_for(&loaded, store, touched)? {

@@ -29,8 +29,10 @@ impl Additions {
         rows: &[Row],
         lists: &mut Items<DependencyList>,
     ) -> Result<Additions, AllocError>
-        ensures lists { IfOk result (λ _. lists.new ≡ with_implied profile unit.now rows.now lists.old) }
-        ensures defaults { IfOk result (λ it. it.has_defaults ≡ has_defaults_by profile unit.now rows.now) }
+        ensures lists { IfOk result
+            (λ _. lists.new ≡ with_implied profile unit.now rows.now lists.old) }
+        ensures defaults { IfOk result
+            (λ it. it.has_defaults ≡ has_defaults_by profile unit.now rows.now) }
         ensures mounts { IfOk result (λ it. it.mounts ≡ mounts_by profile unit.now rows.now) }
     {
         match profile {
@@ -49,8 +51,10 @@ impl Additions {
         rows: &[Row],
         lists: &mut Items<DependencyList>,
     ) -> Result<Additions, AllocError>
-        ensures lists { IfOk result (λ _. lists.new ≡ with_implied Manager unit.now rows.now lists.old) }
-        ensures defaults { IfOk result (λ it. it.has_defaults ≡ has_defaults_by Manager unit.now rows.now) }
+        ensures lists { IfOk result
+            (λ _. lists.new ≡ with_implied Manager unit.now rows.now lists.old) }
+        ensures defaults { IfOk result
+            (λ it. it.has_defaults ≡ has_defaults_by Manager unit.now rows.now) }
         ensures mounts { IfOk result (λ it. it.mounts ≡ mounts_by Manager unit.now rows.now) }
     {
         let implied = Implied::of(alloc, unit, rows)?;

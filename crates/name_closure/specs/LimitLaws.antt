@@ -25,7 +25,8 @@ module _ {N : Type 0} where
   among_without n m (y ∷ ys) (inr h) d (inl f) = inl f
   among_without n m (y ∷ ys) (inr h) d (inr a) = inr (among_without n m ys h d a)
 
-  below_member : (order : N → N → Ordering) (x n : N) (xs : List N) → AllByRecursion (λ y. order x y ≡ Less) xs → IsAmong n xs → order x n ≡ Less
+  below_member : (order : N → N → Ordering) (x n : N) (xs : List N) → AllByRecursion (λ y. order x y ≡ Less) xs
+      → IsAmong n xs → order x n ≡ Less
   below_member order x n [] a h = absurd h
   below_member order x n (y ∷ ys) a (inl e) = subst (λ z. order x z ≡ Less) e a.0
   below_member order x n (y ∷ ys) a (inr h) = below_member order x n ys a.1 h
@@ -59,6 +60,7 @@ module _ {N : Type 0} where
             omega arith
 
     -- if the closure's list is within the limit, no more nodes than the limit are reached
-    pub not_over : (starts : N → Type 0) (leads : N → N → Type 0) (nodes : List N) (limit : ℕ) → IsClosure starts leads order nodes → length nodes ≤ limit
+    pub not_over : (starts : N → Type 0) (leads : N → N → Type 0) (nodes : List N) (limit : ℕ)
+        → IsClosure starts leads order nodes → length nodes ≤ limit
         → ¬ HasOver starts leads order limit
     not_over starts leads nodes limit c room v = let long = (over-closure starts leads nodes limit c).0 v in absurd (omega arith)

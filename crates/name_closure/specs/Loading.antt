@@ -31,7 +31,8 @@ AreApart {N} own some = (n : N) → IsAmong n some → ¬ IsAmong n own
 
 -- what a round of these nodes loads: each node with what is loaded for it, and the other nodes that are named there,
 -- all of which can be loaded
-pub record IsRound {N U : Type 0} (is_node : N → Type 0) (is_loaded : N → U → Type 0) (named : U → List N) (nodes : List N) (pairs : List (N × U)) (names : List N) : Type 0 where
+pub record IsRound {N U : Type 0} (is_node : N → Type 0) (is_loaded : N → U → Type 0) (named : U → List N)
+    (nodes : List N) (pairs : List (N × U)) (names : List N) : Type 0 where
   pub loads : AreLoads is_loaded nodes pairs
   pub others : AreOthers nodes (flat_map (λ p. named p.1) pairs) names
   pub can_load : All is_node names

@@ -15,7 +15,8 @@ module _ {N U : Type 0} (is_loaded : N → U → Type 0) where
   }
 
   -- loads, one after the other
-  pub loads_append : (ms ns : List N) (xs ys : List (N × U)) → AreLoads is_loaded ms xs → AreLoads is_loaded ns ys → AreLoads is_loaded (ms ++ ns) (xs ++ ys)
+  pub loads_append : (ms ns : List N) (xs ys : List (N × U)) → AreLoads is_loaded ms xs → AreLoads is_loaded ns ys
+      → AreLoads is_loaded (ms ++ ns) (xs ++ ys)
   loads_append ms ns xs ys a b = record {
     in_order = map-append (λ (p : N × U). p.0) xs ys ∙ ap (λ v. v ++ keys_of ys) a.in_order ∙ ap (λ v. ms ++ v) b.in_order;
     loaded = All-append (λ (p : N × U). is_loaded p.0 p.1) xs ys a.loaded b.loaded;
@@ -23,7 +24,8 @@ module _ {N U : Type 0} (is_loaded : N → U → Type 0) where
 
   module _ (one : (n : N) (x y : U) → is_loaded n x → is_loaded n y → x ≡ y) where
     -- a node leads to exactly the nodes that are named in what is loaded for it
-    pub leads_by_one : (named : U → List N) (n : N) (x : U) → is_loaded n x → (m : N) → LeadsByLoad is_loaded named n m ↔ IsAmong m (named x)
+    pub leads_by_one : (named : U → List N) (n : N) (x : U) → is_loaded n x → (m : N) → LeadsByLoad is_loaded named n m
+        ↔ IsAmong m (named x)
     leads_by_one named n x h m =
         (λ l. subst (λ v. IsAmong m (named v)) (one n l.one x l.loaded h) l.names, λ a. record { one = x; loaded = h; names = a })
 
@@ -45,7 +47,8 @@ module _ {N : Type 0} (own : List N) where
   others_none = record { origin = λ n h. h; took = λ n h. inr h }
 
   -- lists of others, one after the other
-  pub others_append : (all some more others : List N) → AreOthers own all some → AreOthers own more others → AreOthers own (all ++ more) (some ++ others)
+  pub others_append : (all some more others : List N) → AreOthers own all some → AreOthers own more others
+      → AreOthers own (all ++ more) (some ++ others)
   others_append all some more others a b = record {
     origin = λ n h. elim (IsAmong-append_cases n some others h) [
       | inl c ↦ IsAmong-append_left n all more (a.origin n c)

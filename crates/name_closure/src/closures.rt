@@ -59,11 +59,12 @@ pub fn close_by_rounds<
     load_round: F,
 ) -> Result<BTreeMap<K, L::Loaded>, ClosureFault>
     requires sources { All (L.is_node loader.now) sources.now }
-    requires ready { (fresh : _) → IsStrictlySortedBy K.cmp fresh.items → All (L.is_node loader.now) fresh.items
-        → F.pre load_round fresh }
+    requires ready { (fresh : _) → IsStrictlySortedBy K.cmp fresh.items
+        → All (L.is_node loader.now) fresh.items → F.pre load_round fresh }
     requires loads { (fresh : _) (loads : _) → F.post load_round fresh loads
-        → IfOk loads (λ round. IsRound (L.is_node loader.now) (L.is_loaded loader.now) (L.named loader.now)
-        fresh.items round.pairs.items round.names.items) }
+        → IfOk loads
+        (λ round. IsRound (L.is_node loader.now) (L.is_loaded loader.now)
+        (L.named loader.now) fresh.items round.pairs.items round.names.items) }
     ensures closure { IfOk result (λ found. IsClosure (Listed sources.now)
         (LeadsByLoad (L.is_loaded loader.now) (L.named loader.now)) K.cmp (keys found)) }
     ensures loaded { IfOk result (λ found. AreLoaded (L.is_loaded loader.now) found.entries) }

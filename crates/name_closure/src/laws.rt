@@ -21,11 +21,12 @@ pub trait EdgeSet<N> {
 /// and no new edge leaves the reached nodes.
 pub fn closure_laws<N: Ord, S: NodeSet<N>, O: EdgeSet<N>, E: EdgeSet<N>, T: NodeSet<N>>()
     ensures closed { IsClosed S.holds E.leads (IsReached S.holds E.leads) }
-    ensures least { IsClosed S.holds E.leads T.holds → (n : N) → IsReached S.holds E.leads n → T.holds n }
-    ensures one { (xs ys : List N) → IsClosure S.holds E.leads N.cmp xs → IsClosure S.holds E.leads N.cmp ys
-        → xs ≡ ys }
+    ensures least { IsClosed S.holds E.leads T.holds → (n : N) → IsReached S.holds E.leads n
+        → T.holds n }
+    ensures one { (xs ys : List N) → IsClosure S.holds E.leads N.cmp xs
+        → IsClosure S.holds E.leads N.cmp ys → xs ≡ ys }
     ensures over { (nodes : List N) (limit : ℕ) → IsClosure S.holds E.leads N.cmp nodes
         → HasOver S.holds E.leads N.cmp limit ↔ (limit < length nodes) }
-    ensures stays { SuccessorsStayWithin S.holds O.leads E.leads → (nodes : List N) → IsClosure S.holds O.leads N.cmp nodes
-        → IsClosure S.holds E.leads N.cmp nodes }
+    ensures stays { SuccessorsStayWithin S.holds O.leads E.leads → (nodes : List N)
+        → IsClosure S.holds O.leads N.cmp nodes → IsClosure S.holds E.leads N.cmp nodes }
 {}

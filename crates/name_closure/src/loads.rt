@@ -47,8 +47,8 @@ pub trait Loads<K: Key> {
     /// Returns the nodes that are named in what was loaded for one node. They can be loaded too.
     fn names(&self, alloc: Global, one: &Self::Loaded) -> Result<Vec<K>, AllocError>
         ensures named { IfOk result (λ names. names.items ≡ named self.now one.now) }
-        ensures nodes { IfOk result (λ names. (node : K) → is_node self.now node → is_loaded self.now node one.now
-            → All (is_node self.now) names.items) };
+        ensures nodes { IfOk result (λ names. (node : K) → is_node self.now node
+            → is_loaded self.now node one.now → All (is_node self.now) names.items) };
 
     // At most one thing is loaded for a node.
     ghost one: { (loader : Self) (node : K) (x y : Self.Loaded) → is_loaded loader node x
@@ -72,7 +72,8 @@ pub fn load_each<K: Key, L: Loads<K>>(
     nodes: Vec<K>,
 ) -> Result<Vec<(K, L::Loaded)>, AllocError>
     requires nodes { All (L.is_node loader.now) nodes.items }
-    ensures pairs { IfOk result (λ pairs. AreLoads (L.is_loaded loader.now) nodes.items pairs.items) }
+    ensures pairs { IfOk result
+        (λ pairs. AreLoads (L.is_loaded loader.now) nodes.items pairs.items) }
 {
     let mut pairs = Vec::new(alloc);
     for node in nodes {

@@ -16,8 +16,9 @@ pub(crate) fn load_round<K: Key, L: Loads<K>>(
     fresh: Vec<K>,
 ) -> Result<Round<K, L::Loaded>, AllocError>
     requires nodes { All (L.is_node loader.now) fresh.items }
-    ensures round { IfOk result (λ round. IsRound (L.is_node loader.now) (L.is_loaded loader.now) (L.named loader.now)
-        fresh.items round.pairs.items round.names.items) }
+    ensures round { IfOk result
+        (λ round. IsRound (L.is_node loader.now) (L.is_loaded loader.now)
+        (L.named loader.now) fresh.items round.pairs.items round.names.items) }
 {
     let pairs = load_each(alloc, loader, fresh)?;
     let names = others_named(alloc, loader, &pairs, &pairs)?;
@@ -56,8 +57,10 @@ fn add_others<K: Key, U>(
     names: &mut Vec<K>,
     more: Vec<K>,
 ) -> Result<(), AllocError>
-    ensures added { OnOk result (AreOthers (keys_of pairs.now) (names.old.items ++ more.items) names.new.items) }
-    ensures apart { IsStrictlySortedBy K.cmp (keys_of pairs.now) → AreApart (keys_of pairs.now) names.old.items
+    ensures added { OnOk result
+        (AreOthers (keys_of pairs.now) (names.old.items ++ more.items) names.new.items) }
+    ensures apart { IsStrictlySortedBy K.cmp (keys_of pairs.now)
+        → AreApart (keys_of pairs.now) names.old.items
         → OnOk result (AreApart (keys_of pairs.now) names.new.items) }
 {
     for node in more {
@@ -71,8 +74,8 @@ fn add_others<K: Key, U>(
 // Whether a search finds the node among the round's own. It always finds one if these are in ascending order. O(log n).
 fn is_own<K: Key, U>(pairs: &[(K, U)], node: &K) -> bool
     ensures own { IsTrue result → IsAmong node.now (keys_of pairs.now) }
-    ensures seen { IsStrictlySortedBy K.cmp (keys_of pairs.now) → IsAmong node.now (keys_of pairs.now)
-        → IsTrue result }
+    ensures seen { IsStrictlySortedBy K.cmp (keys_of pairs.now)
+        → IsAmong node.now (keys_of pairs.now) → IsTrue result }
 {
     match pairs.binary_search_by(|pair| pair.0.cmp(node)) {
         Ok(at) => pairs[at].0 == *node,

@@ -32,7 +32,8 @@ pub(crate) fn add_loaded<K: Key, L: Loads<K>>(
     requires pairs { AreLoaded (L.is_loaded loader.now) pairs.items }
     ensures ascending { IsStrictlySortedBy K.cmp (keys found.new) }
     ensures entries { OnOk result (AreLoaded (L.is_loaded loader.now) found.new.entries) }
-    ensures joined { OnOk result (AreJoined (keys found.old) (keys_of pairs.items) (keys found.new)) }
+    ensures joined { OnOk result
+        (AreJoined (keys found.old) (keys_of pairs.items) (keys found.new)) }
 {
     let mut more: BTreeMap<K, L::Loaded> = pairs.into_iter().collect(alloc)?;
     found.append(&mut more)

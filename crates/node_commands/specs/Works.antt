@@ -25,7 +25,8 @@ pub record InLog : Type 0 where
 
 -- the work adds its answer to what was written: of a node that held one store and whose log held this, and that then holds the
 -- other store. A history is in the order of versions, by which edits of a place are compared, and a log in the order of places.
-abbrev pub Answers : (Logged → Logged → Ordering) → (LoggedAt → LoggedAt → Ordering) → Work → EntryMap → EntryMap → InLog → Option (List ℕ) → Option (List ℕ) → Type 0
+abbrev pub Answers : (Logged → Logged → Ordering) → (LoggedAt → LoggedAt → Ordering) → Work → EntryMap → EntryMap
+    → InLog → Option (List ℕ) → Option (List ℕ) → Type 0
 Answers cmp by_place Digest was is held from to = Appends from to (digest_spelling (digest_of was))
 Answers cmp by_place Store was is held from to = Appends from to (spelling_of 1 was)
 Answers cmp by_place Id was is held from to = Appends from to (id_line was)

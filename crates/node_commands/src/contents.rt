@@ -55,17 +55,23 @@ pub fn write_content<L: EditLog, K: Sink>(
     sink: &mut K,
 ) -> Result<(), CommandFault>
     ensures written { L.is_honest node.new.log → OnOk result ((logged : List Logged)
-        × IsPermutation (logged_at place.now (L.held node.old.log)) logged × IsSorted ⟦<Logged as Ord>⟧.cmp logged
-        × ((bytes : List ℕ) × (bytes_put version logged ≡ Some bytes) × Appends (K.contents sink.old) (K.contents sink.new) bytes)) }
+        × IsPermutation (logged_at place.now (L.held node.old.log)) logged
+        × IsSorted ⟦<Logged as Ord>⟧.cmp logged
+        × ((bytes : List ℕ) × (bytes_put version logged ≡ Some bytes)
+        × Appends (K.contents sink.old) (K.contents sink.new) bytes)) }
     ensures none { L.is_honest node.new.log → IsErrOf result NoEdit → (logged : List Logged)
-        × IsPermutation (logged_at place.now (L.held node.old.log)) logged × IsSorted ⟦<Logged as Ord>⟧.cmp logged
+        × IsPermutation (logged_at place.now (L.held node.old.log)) logged
+        × IsSorted ⟦<Logged as Ord>⟧.cmp logged
         × (bytes_put version logged ≡ None) }
     ensures kept { OnErr result ((IsErrOf result Write → ⊥) → sink.new ≡ sink.old) }
     ensures faults { IfErr result IsContentFault }
-    ensures refused { IsErrOf result Write → FailedSince (K.refusals sink.old) (K.refusals sink.new) }
-    ensures spent { (refused : NodeFault) → IsErrOf result (Node refused) → (node.new.is_spent ≡ true)
+    ensures refused { IsErrOf result Write
+        → FailedSince (K.refusals sink.old) (K.refusals sink.new) }
+    ensures spent { (refused : NodeFault) → IsErrOf result (Node refused)
+        → (node.new.is_spent ≡ true)
         ⊎ (L.is_honest node.new.log → L.held node.new.log ≡ L.held node.old.log) }
-    ensures crash { L.is_honest node.new.log → LeavesNothingNew (L.may_leave node.old.log) (L.may_leave node.new.log) }
+    ensures crash { L.is_honest node.new.log
+        → LeavesNothingNew (L.may_leave node.old.log) (L.may_leave node.new.log) }
     ensures replica { node.new.replica ≡ node.old.replica }
     ensures unsaved { node.new.unsaved ≡ node.old.unsaved }
     ensures head { L.head node.new.log ≡ L.head node.old.log }

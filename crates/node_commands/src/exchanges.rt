@@ -23,7 +23,8 @@ use store_bytes::piece_to_bytes;
 
 // The bytes of the piece that a digest's owner lacks.
 fn delta_bytes(alloc: Global, replica: &Replica, asked: &Digest) -> Result<Vec<u8>, AllocError>
-    ensures bytes { IfOk result (λ bytes. bytes.items ≡ spelling_of 2 (cut replica.now.store asked.now None)) }
+    ensures bytes { IfOk result
+        (λ bytes. bytes.items ≡ spelling_of 2 (cut replica.now.store asked.now None)) }
 {
     piece_to_bytes(&delta_for(alloc, replica, asked)?)
 }
@@ -42,7 +43,8 @@ pub fn write_delta<L: EditLog, K: Sink>(
     ensures prefix { OnErr result (AppendsPrefix (K.contents sink.old) (K.contents sink.new)
         (spelling_of 2 (cut node.now.replica.store asked.now None))) }
     ensures faults { IfErr result (λ fault. (fault ≡ Memory) ⊎ (fault ≡ Write)) }
-    ensures refused { IsErrOf result Write → FailedSince (K.refusals sink.old) (K.refusals sink.new) }
+    ensures refused { IsErrOf result Write
+        → FailedSince (K.refusals sink.old) (K.refusals sink.new) }
 {
     let made = delta_bytes(alloc, node.replica(), asked);
     write_made(sink, made)
@@ -54,12 +56,18 @@ fn commit_piece<L: EditLog>(
     piece: &Piece,
     time: u32,
 ) -> Result<u64, NodeFault>
-    ensures joined { OnOk result (node.new.replica ≡ record node.old.replica { store = join node.old.replica.store piece.now }) }
-    ensures changed { IfOk result (λ changed. changed ≡ changed_places node.old.replica.store node.new.replica.store) }
-    ensures sum { L.is_honest node.new.log → OnOk result (sum_of (edits_in (L.held node.new.log)) ≡ node.new.replica.store) }
-    ensures lasts { L.is_honest node.new.log → OnOk result (LeavesJust (L.held node.new.log) (L.may_leave node.new.log)) }
-    ensures crash { L.is_honest node.new.log → (added : List Edit) ×
-        LeavesAllOrNone (L.held node.old.log) (stamped time added) (L.may_leave node.old.log) (L.may_leave node.new.log) }
+    ensures joined { OnOk result
+        (node.new.replica
+        ≡ record node.old.replica { store = join node.old.replica.store piece.now }) }
+    ensures changed { IfOk result
+        (λ changed. changed ≡ changed_places node.old.replica.store node.new.replica.store) }
+    ensures sum { L.is_honest node.new.log
+        → OnOk result (sum_of (edits_in (L.held node.new.log)) ≡ node.new.replica.store) }
+    ensures lasts { L.is_honest node.new.log
+        → OnOk result (LeavesJust (L.held node.new.log) (L.may_leave node.new.log)) }
+    ensures crash { L.is_honest node.new.log
+        → (added : List Edit) × LeavesAllOrNone (L.held node.old.log) (stamped time added)
+        (L.may_leave node.old.log) (L.may_leave node.new.log) }
     ensures kept { OnErr result ((node.new.is_spent ≡ true) ⊎ (node.new ≡ node.old)) }
     ensures head { L.head node.new.log ≡ L.head node.old.log }
 {
@@ -81,17 +89,25 @@ pub fn take_piece<L: EditLog, K: Sink>(
     time: u32,
     sink: &mut K,
 ) -> Result<(), CommandFault>
-    ensures joined { OnOk result (node.new.replica ≡ record node.old.replica { store = join node.old.replica.store piece.now }) }
+    ensures joined { OnOk result
+        (node.new.replica
+        ≡ record node.old.replica { store = join node.old.replica.store piece.now }) }
     ensures answered { OnOk result (Appends (K.contents sink.old) (K.contents sink.new)
         (changed_line (changed_places node.old.replica.store node.new.replica.store))) }
-    ensures sum { L.is_honest node.new.log → OnOk result (sum_of (edits_in (L.held node.new.log)) ≡ node.new.replica.store) }
-    ensures lasts { L.is_honest node.new.log → OnOk result (LeavesJust (L.held node.new.log) (L.may_leave node.new.log)) }
-    ensures crash { L.is_honest node.new.log → (added : List Edit) ×
-        LeavesAllOrNone (L.held node.old.log) (stamped time added) (L.may_leave node.old.log) (L.may_leave node.new.log) }
-    ensures unwritten { (refused : NodeFault) → IsErrOf result (Node refused) → sink.new ≡ sink.old }
-    ensures kept { (refused : NodeFault) → IsErrOf result (Node refused) → (node.new.is_spent ≡ true) ⊎ (node.new ≡ node.old) }
+    ensures sum { L.is_honest node.new.log
+        → OnOk result (sum_of (edits_in (L.held node.new.log)) ≡ node.new.replica.store) }
+    ensures lasts { L.is_honest node.new.log
+        → OnOk result (LeavesJust (L.held node.new.log) (L.may_leave node.new.log)) }
+    ensures crash { L.is_honest node.new.log
+        → (added : List Edit) × LeavesAllOrNone (L.held node.old.log) (stamped time added)
+        (L.may_leave node.old.log) (L.may_leave node.new.log) }
+    ensures unwritten { (refused : NodeFault) → IsErrOf result (Node refused)
+        → sink.new ≡ sink.old }
+    ensures kept { (refused : NodeFault) → IsErrOf result (Node refused)
+        → (node.new.is_spent ≡ true) ⊎ (node.new ≡ node.old) }
     ensures faults { IfErr result IsAnswerFault }
-    ensures refused { IsErrOf result Write → FailedSince (K.refusals sink.old) (K.refusals sink.new) }
+    ensures refused { IsErrOf result Write
+        → FailedSince (K.refusals sink.old) (K.refusals sink.new) }
     ensures head { L.head node.new.log ≡ L.head node.old.log }
 {
     match commit_piece(node, piece, time) {

@@ -77,8 +77,8 @@ pub fn read_piece<S: Source>(alloc: Global, source: &mut S) -> Result<Piece, Com
     ensures spelled { IfOk result HasSpelling }
     ensures all { IfOk result (λ piece. AreAll (S.remaining source.old) (spelling_of 2 piece)) }
     ensures faults { IfErr result IsReadFault }
-    ensures bytes { (fault : SpellingFault) → IsErrOf result (Bytes fault) →
-        (bytes : List ℕ) × AreAll (S.remaining source.old) bytes × (entries_in 2 bytes ≡ Err fault) }
+    ensures bytes { (fault : SpellingFault) → IsErrOf result (Bytes fault) → (bytes : List ℕ)
+        × AreAll (S.remaining source.old) bytes × (entries_in 2 bytes ≡ Err fault) }
     ensures read { IsErrOf result Read → FailedSince (S.failures source.old) (S.failures source.new)
         ⊎ IsOver MAX_INPUT_BYTES (S.remaining source.old) }
 {

@@ -47,14 +47,18 @@ pub fn write_log<L: EditLog, K: Sink>(
     sink: &mut K,
 ) -> Result<(), CommandFault>
     ensures written { L.is_honest node.new.log → OnOk result ((logged : List LoggedAt)
-        × IsPermutation (logged_all (L.held node.old.log)) logged × IsSorted ⟦<LoggedAt as Ord>⟧.cmp logged
+        × IsPermutation (logged_all (L.held node.old.log)) logged
+        × IsSorted ⟦<LoggedAt as Ord>⟧.cmp logged
         × Appends (K.contents sink.old) (K.contents sink.new) (log_text logged)) }
     ensures kept { OnErr result ((IsErrOf result Write → ⊥) → sink.new ≡ sink.old) }
     ensures faults { IfErr result IsAnswerFault }
-    ensures refused { IsErrOf result Write → FailedSince (K.refusals sink.old) (K.refusals sink.new) }
-    ensures spent { (refused : NodeFault) → IsErrOf result (Node refused) → (node.new.is_spent ≡ true)
+    ensures refused { IsErrOf result Write
+        → FailedSince (K.refusals sink.old) (K.refusals sink.new) }
+    ensures spent { (refused : NodeFault) → IsErrOf result (Node refused)
+        → (node.new.is_spent ≡ true)
         ⊎ (L.is_honest node.new.log → L.held node.new.log ≡ L.held node.old.log) }
-    ensures crash { L.is_honest node.new.log → LeavesNothingNew (L.may_leave node.old.log) (L.may_leave node.new.log) }
+    ensures crash { L.is_honest node.new.log
+        → LeavesNothingNew (L.may_leave node.old.log) (L.may_leave node.new.log) }
     ensures replica { node.new.replica ≡ node.old.replica }
     ensures unsaved { node.new.unsaved ≡ node.old.unsaved }
     ensures head { L.head node.new.log ≡ L.head node.old.log }

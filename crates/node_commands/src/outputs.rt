@@ -21,12 +21,16 @@ pub(crate) fn write_made<K: Sink>(
     made: Result<Vec<u8>, AllocError>,
 ) -> Result<(), CommandFault>
     ensures made { OnOk result (IsOk made) }
-    ensures written { OnOk result (IfOk made (λ bytes. Appends (K.contents sink.old) (K.contents sink.new) bytes.items)) }
-    ensures prefix { OnErr result (IfOk made (λ bytes. AppendsPrefix (K.contents sink.old) (K.contents sink.new) bytes.items)) }
+    ensures written { OnOk result
+        (IfOk made (λ bytes. Appends (K.contents sink.old) (K.contents sink.new) bytes.items)) }
+    ensures prefix { OnErr result
+        (IfOk made
+        (λ bytes. AppendsPrefix (K.contents sink.old) (K.contents sink.new) bytes.items)) }
     ensures kept { IfErr made (λ _. sink.new ≡ sink.old) }
     ensures unmade { IfOk made (λ _. IfErr result (λ fault. fault ≡ Write)) }
     ensures faults { IfErr result (λ fault. (fault ≡ Memory) ⊎ (fault ≡ Write)) }
-    ensures refused { IsErrOf result Write → FailedSince (K.refusals sink.old) (K.refusals sink.new) }
+    ensures refused { IsErrOf result Write
+        → FailedSince (K.refusals sink.old) (K.refusals sink.new) }
 {
     let bytes = made?;
     write_all(sink, &bytes)?;
@@ -35,7 +39,8 @@ pub(crate) fn write_made<K: Sink>(
 
 // The bytes of a replica's digest.
 fn digest_bytes(alloc: Global, replica: &Replica) -> Result<Vec<u8>, AllocError>
-    ensures bytes { IfOk result (λ bytes. bytes.items ≡ digest_spelling (digest_of replica.now.store)) }
+    ensures bytes { IfOk result
+        (λ bytes. bytes.items ≡ digest_spelling (digest_of replica.now.store)) }
 {
     digest_to_bytes(alloc, &digest(alloc, replica)?)
 }
@@ -63,7 +68,8 @@ pub fn write_digest<L: EditLog, K: Sink>(
     ensures prefix { OnErr result (AppendsPrefix (K.contents sink.old) (K.contents sink.new)
         (digest_spelling (digest_of node.now.replica.store))) }
     ensures faults { IfErr result (λ fault. (fault ≡ Memory) ⊎ (fault ≡ Write)) }
-    ensures refused { IsErrOf result Write → FailedSince (K.refusals sink.old) (K.refusals sink.new) }
+    ensures refused { IsErrOf result Write
+        → FailedSince (K.refusals sink.old) (K.refusals sink.new) }
 {
     let made = digest_bytes(alloc, node.replica());
     write_made(sink, made)
@@ -76,10 +82,15 @@ pub fn write_store<L: EditLog, K: Sink>(
     node: &NodeFile<L>,
     sink: &mut K,
 ) -> Result<(), CommandFault>
-    ensures written { OnOk result (Appends (K.contents sink.old) (K.contents sink.new) (spelling_of 1 node.now.replica.store)) }
-    ensures prefix { OnErr result (AppendsPrefix (K.contents sink.old) (K.contents sink.new) (spelling_of 1 node.now.replica.store)) }
+    ensures written { OnOk result
+        (Appends (K.contents sink.old) (K.contents sink.new)
+        (spelling_of 1 node.now.replica.store)) }
+    ensures prefix { OnErr result
+        (AppendsPrefix (K.contents sink.old) (K.contents sink.new)
+        (spelling_of 1 node.now.replica.store)) }
     ensures faults { IfErr result (λ fault. (fault ≡ Memory) ⊎ (fault ≡ Write)) }
-    ensures refused { IsErrOf result Write → FailedSince (K.refusals sink.old) (K.refusals sink.new) }
+    ensures refused { IsErrOf result Write
+        → FailedSince (K.refusals sink.old) (K.refusals sink.new) }
 {
     let made = store_to_bytes(node.replica().store());
     write_made(sink, made)
@@ -94,10 +105,14 @@ pub fn write_id<L: EditLog, K: Sink>(
     node: &NodeFile<L>,
     sink: &mut K,
 ) -> Result<(), CommandFault>
-    ensures written { OnOk result (Appends (K.contents sink.old) (K.contents sink.new) (id_line node.now.replica.store)) }
-    ensures prefix { OnErr result (AppendsPrefix (K.contents sink.old) (K.contents sink.new) (id_line node.now.replica.store)) }
+    ensures written { OnOk result
+        (Appends (K.contents sink.old) (K.contents sink.new) (id_line node.now.replica.store)) }
+    ensures prefix { OnErr result
+        (AppendsPrefix (K.contents sink.old) (K.contents sink.new)
+        (id_line node.now.replica.store)) }
     ensures faults { IfErr result (λ fault. (fault ≡ Memory) ⊎ (fault ≡ Write)) }
-    ensures refused { IsErrOf result Write → FailedSince (K.refusals sink.old) (K.refusals sink.new) }
+    ensures refused { IsErrOf result Write
+        → FailedSince (K.refusals sink.old) (K.refusals sink.new) }
 {
     let made = id_bytes(alloc, node.replica().store());
     write_made(sink, made)

@@ -54,22 +54,32 @@ pub fn do_work<L: EditLog, K: Sink>(
     time: u32,
     sink: &mut K,
 ) -> Result<(), CommandFault>
-    ensures answered { L.is_honest node.new.log → OnOk result (Answers ⟦<Logged as Ord>⟧.cmp ⟦<LoggedAt as Ord>⟧.cmp work.now
-        node.old.replica.store node.new.replica.store
-        (record { rows = L.held node.old.log; peers = L.peers node.old.log; head = L.head node.old.log })
-        (K.contents sink.old) (K.contents sink.new)) }
+    ensures answered { L.is_honest node.new.log
+        → OnOk result
+        (Answers ⟦<Logged as Ord>⟧.cmp ⟦<LoggedAt as Ord>⟧.cmp work.now node.old.replica.store
+        node.new.replica.store
+        (record {
+          rows = L.held node.old.log;
+          peers = L.peers node.old.log;
+          head = L.head node.old.log;
+        }) (K.contents sink.old) (K.contents sink.new)) }
     ensures lacking { L.is_honest node.new.log → IsErrOf result NoEdit →
         LacksEdit ⟦<Logged as Ord>⟧.cmp work.now (L.held node.old.log) }
     ensures replica { OnOk result (node.new.replica ≡ replica_after work.now node.old.replica) }
     ensures committed { L.is_honest node.new.log → OnOk result (Commits work.now
         (L.held node.new.log) (L.may_leave node.new.log) node.new.replica.store) }
-    ensures crash { L.is_honest node.new.log → (added : List Edit) ×
-        LeavesAllOrNone (L.held node.old.log) (stamped time added) (L.may_leave node.old.log) (L.may_leave node.new.log) }
-    ensures unwritten { (refused : NodeFault) → IsErrOf result (Node refused) → sink.new ≡ sink.old }
+    ensures crash { L.is_honest node.new.log
+        → (added : List Edit) × LeavesAllOrNone (L.held node.old.log) (stamped time added)
+        (L.may_leave node.old.log) (L.may_leave node.new.log) }
+    ensures unwritten { (refused : NodeFault) → IsErrOf result (Node refused)
+        → sink.new ≡ sink.old }
     ensures unanswered { IsErrOf result NoEdit → sink.new ≡ sink.old }
-    ensures kept { (refused : NodeFault) → IsErrOf result (Node refused) → (node.new.is_spent ≡ true)
-        ⊎ ((node.new.replica ≡ node.old.replica) × (L.is_honest node.new.log → L.held node.new.log ≡ L.held node.old.log)) }
-    ensures refused { IsErrOf result Write → FailedSince (K.refusals sink.old) (K.refusals sink.new) }
+    ensures kept { (refused : NodeFault) → IsErrOf result (Node refused)
+        → (node.new.is_spent ≡ true)
+        ⊎ ((node.new.replica ≡ node.old.replica)
+        × (L.is_honest node.new.log → L.held node.new.log ≡ L.held node.old.log)) }
+    ensures refused { IsErrOf result Write
+        → FailedSince (K.refusals sink.old) (K.refusals sink.new) }
     ensures head { L.head node.new.log ≡ L.head node.old.log }
 {
     match work {

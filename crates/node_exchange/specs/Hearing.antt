@@ -10,7 +10,8 @@ use Rattle.exchange_bytes.specs.declared.frames.Frame.{Frame}
 use Rattle.node_exchange.specs.Streams.{on_stream}
 
 -- behind its first frame the rest of a message was read: its prints and asks are these, and its pieces are taken
-pub record Hears (first : Frame) (from to : EntryMap) (told : List RangePrint) (asked : List RangeAsk) (read_before read : Option (List ℕ)) : Type 0 where
+pub record Hears (first : Frame) (from to : EntryMap) (told : List RangePrint) (asked : List RangeAsk)
+    (read_before read : Option (List ℕ)) : Type 0 where
   pub rest : List Frame
   pub message : AreFrames first.hello (first ∷ rest)
   pub prints : told ≡ all_prints (first ∷ rest)

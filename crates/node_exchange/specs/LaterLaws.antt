@@ -11,7 +11,8 @@ module _ {L : Type 0} (is_honest : L → Type 0) (head : L → LogHead) (may_lea
   pub later_same : (n : Node L) → IsLater is_honest head may_leave n n
   later_same n = record { kept = store_below_refl n.replica.store; writer = refl; heads = refl; honest = λ h. h; crash = λ h left may. inl may }
 
-  pub later_then : (a b c : Node L) → IsLater is_honest head may_leave a b → IsLater is_honest head may_leave b c → IsLater is_honest head may_leave a c
+  pub later_then : (a b c : Node L) → IsLater is_honest head may_leave a b → IsLater is_honest head may_leave b c
+      → IsLater is_honest head may_leave a c
   later_then a b c p q = record {
     kept = store_below_trans a.replica.store b.replica.store c.replica.store p.kept q.kept;
     writer = q.writer ∙ p.writer;

@@ -35,14 +35,16 @@ pub record Written (hello : Option Hello) (m : Said) (written_before written : O
 pub record IsAnswer (seed : ℕ) (own : EntryMap) (heard answer : Said) : Type 0 where
   pub reply : IsReply seed own heard answer
   -- it tells of no place but where told prints aren't its own, and where it is asked by who has something newer
-  pub stays : (p : PlaceParts) → IsTold p answer.prints answer.asks → IsUnequalAt seed (versions_of own) heard.prints p ⊎ IsNewerAt (digest_of own) heard.asks p
+  pub stays : (p : PlaceParts) → IsTold p answer.prints answer.asks
+      → IsUnequalAt seed (versions_of own) heard.prints p ⊎ IsNewerAt (digest_of own) heard.asks p
   -- where it agrees, and nothing is newer, it asks for no answer
   pub agreed : All (IsOwnPrint seed (versions_of own)) heard.prints → answer.prints ≡ []
   pub quiet : All (IsOwnPrint seed (versions_of own)) heard.prints → All (IsNothingNew (digest_of own)) heard.asks → answer.asks ≡ []
 
 -- A side's part of an exchange, turn by turn, from where it held `from` and had heard `first`. A hello that is still to be said
 -- stands in its next message. It has said and heard these frames, holds `to`, and is to answer `last`.
-pub data Talk (seed : ℕ) (from : EntryMap) (first : Said) (hello : Option Hello) : List Frame → List Frame → EntryMap → Said → Option Hello → Type 0 where
+pub data Talk (seed : ℕ) (from : EntryMap) (first : Said) (hello : Option Hello) : List Frame → List Frame → EntryMap
+    → Said → Option Hello → Type 0 where
   begun : Talk seed from first hello [] [] from first hello
   turned : {said heard : List Frame} {s : EntryMap} {last : Said} {due : Option Hello} (answer : Said) (told next : List Frame)
       → Talk seed from first hello said heard s last due
@@ -52,14 +54,16 @@ pub data Talk (seed : ℕ) (from : EntryMap) (first : Said) (hello : Option Hell
 
 -- it ends where what was heard asks for no answer and no hello is to be said, or with an answer that asks for none
 pub data Ended (seed : ℕ) (from : EntryMap) (first : Said) (hello : Option Hello) : List Frame → List Frame → EntryMap → Type 0 where
-  heard_out : {said heard : List Frame} {s : EntryMap} {last : Said} → Talk seed from first hello said heard s last None → IsQuiet last → Ended seed from first hello said heard s
+  heard_out : {said heard : List Frame} {s : EntryMap} {last : Said} → Talk seed from first hello said heard s last None
+      → IsQuiet last → Ended seed from first hello said heard s
   said_out : {said heard : List Frame} {s : EntryMap} {last : Said} {due : Option Hello} (answer : Said) (told : List Frame)
       → Talk seed from first hello said heard s last due
       → IsAnswer seed s last answer → AreFrames due told → Say told answer → IsQuiet answer
       → Ended seed from first hello (said ++ told) heard s
 
 -- the rest of an exchange, behind the first message that was heard: the frames that were written and read, and what is held then
-pub record Talks (seed : ℕ) (from : EntryMap) (first : Said) (hello : Option Hello) (to : EntryMap) (written_before written read_before read : Option (List ℕ)) : Type 0 where
+pub record Talks (seed : ℕ) (from : EntryMap) (first : Said) (hello : Option Hello) (to : EntryMap)
+    (written_before written read_before read : Option (List ℕ)) : Type 0 where
   pub said : List Frame
   pub heard : List Frame
   pub ended : Ended seed from first hello said heard to

@@ -41,7 +41,8 @@ impl Heard {
 
     /// Returns whether it asks for no answer.
     pub fn is_quiet(&self) -> bool
-        ensures quiet { (result ≡ true) ↔ ((self.now.prints.items ≡ []) × (self.now.asks.items ≡ [])) }
+        ensures quiet { (result ≡ true)
+            ↔ ((self.now.prints.items ≡ []) × (self.now.asks.items ≡ [])) }
     {
         self.prints.is_empty() && self.asks.is_empty()
     }
@@ -61,7 +62,8 @@ fn take_piece<L: EditLog>(node: &mut NodeFile<L>, piece: Piece, time: u32) -> Re
     requires whole { node.old.is_spent ≡ false }
     requires saved { node.old.unsaved ≡ [] }
     ensures taken { OnOk result (node.new.replica.store ≡ join node.old.replica.store piece) }
-    ensures peers { L.is_honest node.new.log → OnOk result (L.peers node.new.log ≡ L.peers node.old.log) }
+    ensures peers { L.is_honest node.new.log
+        → OnOk result (L.peers node.new.log ≡ L.peers node.old.log) }
     ensures later { IsLater L.is_honest L.head L.may_leave node.old node.new }
     ensures whole { OnOk result (node.new.is_spent ≡ false) }
     ensures saved { OnOk result (node.new.unsaved ≡ []) }
@@ -83,9 +85,11 @@ fn take_frame<L: EditLog>(
     requires whole { node.old.is_spent ≡ false }
     requires saved { node.old.unsaved ≡ [] }
     ensures taken { OnOk result (node.new.replica.store ≡ join node.old.replica.store frame.piece) }
-    ensures prints { OnOk result (heard.new.prints.items ≡ heard.old.prints.items ++ frame.prints.items) }
+    ensures prints { OnOk result
+        (heard.new.prints.items ≡ heard.old.prints.items ++ frame.prints.items) }
     ensures asks { OnOk result (heard.new.asks.items ≡ heard.old.asks.items ++ frame.asks.items) }
-    ensures peers { L.is_honest node.new.log → OnOk result (L.peers node.new.log ≡ L.peers node.old.log) }
+    ensures peers { L.is_honest node.new.log
+        → OnOk result (L.peers node.new.log ≡ L.peers node.old.log) }
     ensures other { IsErrOf result ExchangeFault.WriterTaken → ⊥ }
     ensures later { IsLater L.is_honest L.head L.may_leave node.old node.new }
     ensures whole { OnOk result (node.new.is_spent ≡ false) }
@@ -109,9 +113,11 @@ pub fn hear<L: EditLog, S: Source>(
 ) -> Result<Heard, ExchangeFault>
     requires whole { node.old.is_spent ≡ false }
     requires saved { node.old.unsaved ≡ [] }
-    ensures heard { IfOk result (λ heard. Hears first node.old.replica.store node.new.replica.store heard.prints.items heard.asks.items
-        (S.remaining source.old) (S.remaining source.new)) }
-    ensures peers { L.is_honest node.new.log → OnOk result (L.peers node.new.log ≡ L.peers node.old.log) }
+    ensures heard { IfOk result
+        (λ heard. Hears first node.old.replica.store node.new.replica.store heard.prints.items
+        heard.asks.items (S.remaining source.old) (S.remaining source.new)) }
+    ensures peers { L.is_honest node.new.log
+        → OnOk result (L.peers node.new.log ≡ L.peers node.old.log) }
     ensures other { IsErrOf result ExchangeFault.WriterTaken → ⊥ }
     ensures later { IsLater L.is_honest L.head L.may_leave node.old node.new }
     ensures whole { OnOk result (node.new.is_spent ≡ false) }

@@ -12,7 +12,8 @@ use std::alloc::Global;
 pub fn note<L: EditLog>(node: &mut NodeFile<L>, news: &[LogPeer]) -> Result<(), ExchangeFault>
     requires whole { node.old.is_spent ≡ false }
     requires saved { node.old.unsaved ≡ [] }
-    ensures noted { L.is_honest node.new.log → OnOk result (IsPermutation (L.peers node.old.log ++ news.now) (L.peers node.new.log)) }
+    ensures noted { L.is_honest node.new.log
+        → OnOk result (IsPermutation (L.peers node.old.log ++ news.now) (L.peers node.new.log)) }
     ensures replica { node.new.replica ≡ node.old.replica }
     ensures other { IsErrOf result ExchangeFault.WriterTaken → ⊥ }
     ensures later { IsLater L.is_honest L.head L.may_leave node.old node.new }
@@ -32,8 +33,10 @@ pub fn known_peers<L: EditLog>(
     node: &mut NodeFile<L>,
 ) -> Result<Vec<LogPeer>, ExchangeFault>
     requires whole { node.old.is_spent ≡ false }
-    ensures latest { L.is_honest node.new.log → IfOk result (λ known. AreLatest (L.peers node.old.log) known.items) }
-    ensures peers { L.is_honest node.new.log → OnOk result (L.peers node.new.log ≡ L.peers node.old.log) }
+    ensures latest { L.is_honest node.new.log
+        → IfOk result (λ known. AreLatest (L.peers node.old.log) known.items) }
+    ensures peers { L.is_honest node.new.log
+        → OnOk result (L.peers node.new.log ≡ L.peers node.old.log) }
     ensures replica { node.new.replica ≡ node.old.replica }
     ensures unsaved { node.new.unsaved ≡ node.old.unsaved }
     ensures other { IsErrOf result ExchangeFault.WriterTaken → ⊥ }

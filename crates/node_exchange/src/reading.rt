@@ -28,7 +28,8 @@ fn read_some<S: Source>(
 ) -> Result<Vec<u8>, ExchangeFault>
     ensures within { IfOk result (λ bytes. length bytes.items ≤ most) }
     ensures other { IsErrOf result ExchangeFault.WriterTaken → ⊥ }
-    ensures read { IfOk result (λ bytes. Consumes (S.remaining source.old) (S.remaining source.new) bytes.items) }
+    ensures read { IfOk result
+        (λ bytes. Consumes (S.remaining source.old) (S.remaining source.new) bytes.items) }
 {
     let mut bytes = vec![in alloc; 0; most]?;
     let count = match source.read(&mut bytes) {
@@ -49,7 +50,8 @@ fn read_bytes<S: Source>(
 ) -> Result<Vec<u8>, ExchangeFault>
     ensures len { IfOk result (λ bytes. length bytes.items ≡ len) }
     ensures other { IsErrOf result ExchangeFault.WriterTaken → ⊥ }
-    ensures read { IfOk result (λ bytes. Consumes (S.remaining source.old) (S.remaining source.new) bytes.items) }
+    ensures read { IfOk result
+        (λ bytes. Consumes (S.remaining source.old) (S.remaining source.new) bytes.items) }
 {
     let mut bytes = Vec::new(alloc);
     for _turn in 0..MOST_READS {
@@ -67,7 +69,8 @@ fn read_bytes<S: Source>(
 fn read_length<S: Source>(alloc: Global, source: &mut S) -> Result<usize, ExchangeFault>
     ensures within { IfOk result (λ len. len ≤ MOST_BYTES) }
     ensures other { IsErrOf result ExchangeFault.WriterTaken → ⊥ }
-    ensures read { IfOk result (λ len. Consumes (S.remaining source.old) (S.remaining source.new) (to_be_bytes w32 len)) }
+    ensures read { IfOk result
+        (λ len. Consumes (S.remaining source.old) (S.remaining source.new) (to_be_bytes w32 len)) }
 {
     let head = read_bytes(alloc, source, 4)?;
     let len = u32::from_be_bytes([head[0], head[1], head[2], head[3]]) as usize;
@@ -80,7 +83,9 @@ fn read_length<S: Source>(alloc: Global, source: &mut S) -> Result<usize, Exchan
 /// Reads the next frame, behind its length.
 pub fn read_frame<S: Source>(alloc: Global, source: &mut S) -> Result<Frame, ExchangeFault>
     ensures other { IsErrOf result ExchangeFault.WriterTaken → ⊥ }
-    ensures read { IfOk result (λ frame. Consumes (S.remaining source.old) (S.remaining source.new) (on_stream (frame ∷ []))) }
+    ensures read { IfOk result
+        (λ frame. Consumes (S.remaining source.old) (S.remaining source.new)
+        (on_stream (frame ∷ []))) }
 {
     let len = read_length(alloc, source)?;
     let bytes = read_bytes(alloc, source, len)?;
@@ -90,7 +95,9 @@ pub fn read_frame<S: Source>(alloc: Global, source: &mut S) -> Result<Frame, Exc
 /// Reads the next frame of a message that has begun: one that says again who the peer is is refused with `Hello`.
 pub fn read_next<S: Source>(alloc: Global, source: &mut S) -> Result<Frame, ExchangeFault>
     ensures other { IsErrOf result ExchangeFault.WriterTaken → ⊥ }
-    ensures read { IfOk result (λ frame. Consumes (S.remaining source.old) (S.remaining source.new) (on_stream (frame ∷ []))) }
+    ensures read { IfOk result
+        (λ frame. Consumes (S.remaining source.old) (S.remaining source.new)
+        (on_stream (frame ∷ []))) }
     ensures unnamed { IfOk result (λ frame. frame.hello ≡ None) }
 {
     let frame = read_frame(alloc, source)?;

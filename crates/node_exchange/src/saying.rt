@@ -14,7 +14,8 @@ use std::alloc::Global;
 // Writes a frame behind its length.
 fn write_frame<K: Sink>(alloc: Global, sink: &mut K, frame: &Frame) -> Result<(), ExchangeFault>
     ensures other { IsErrOf result ExchangeFault.WriterTaken → ⊥ }
-    ensures written { OnOk result (Appends (K.contents sink.old) (K.contents sink.new) (on_stream (frame.now ∷ []))) }
+    ensures written { OnOk result
+        (Appends (K.contents sink.old) (K.contents sink.new) (on_stream (frame.now ∷ []))) }
 {
     let bytes = frame_to_bytes(alloc, frame)?;
     if bytes.len() > MOST_BYTES {
@@ -29,7 +30,8 @@ fn write_frame<K: Sink>(alloc: Global, sink: &mut K, frame: &Frame) -> Result<()
 // Writes frames.
 fn write_frames<K: Sink>(alloc: Global, sink: &mut K, frames: &[Frame]) -> Result<(), ExchangeFault>
     ensures other { IsErrOf result ExchangeFault.WriterTaken → ⊥ }
-    ensures written { OnOk result (Appends (K.contents sink.old) (K.contents sink.new) (on_stream frames.now)) }
+    ensures written { OnOk result
+        (Appends (K.contents sink.old) (K.contents sink.new) (on_stream frames.now)) }
 {
     for frame in frames {
         write_frame(alloc, sink, frame)?;
@@ -45,7 +47,8 @@ pub fn say<K: Sink>(
     message: Message,
 ) -> Result<(), ExchangeFault>
     ensures other { IsErrOf result ExchangeFault.WriterTaken → ⊥ }
-    ensures written { OnOk result (Written hello (said_of message) (K.contents sink.old) (K.contents sink.new)) }
+    ensures written { OnOk result
+        (Written hello (said_of message) (K.contents sink.old) (K.contents sink.new)) }
 {
     let frames = frames_of(alloc, hello, message)?;
     write_frames(alloc, sink, &frames)

@@ -37,7 +37,8 @@ fn nothing(alloc: Global) -> Message
 fn meet<'a>(frame: &'a Frame, head: LogHead, known: &[LogPeer]) -> Result<&'a Hello, ExchangeFault>
     ensures says { IfOk result (λ hello. frame.now.hello ≡ Some hello.now) }
     ensures may { IfOk result (λ hello. MayMeet head known.now hello.now) }
-    ensures taken { IsErrOf result ExchangeFault.WriterTaken → (hello : Hello) × ((frame.now.hello ≡ Some hello) × (MayMeet head known.now hello → ⊥)) }
+    ensures taken { IsErrOf result ExchangeFault.WriterTaken
+        → (hello : Hello) × ((frame.now.hello ≡ Some hello) × (MayMeet head known.now hello → ⊥)) }
 {
     match &frame.hello {
         None => Err(ExchangeFault::Hello),
@@ -59,9 +60,13 @@ fn converse<L: EditLog, S: Source, K: Sink>(
 ) -> Result<(), ExchangeFault>
     requires whole { node.old.is_spent ≡ false }
     requires saved { node.old.unsaved ≡ [] }
-    ensures talks { OnOk result (Talks seed node.old.replica.store (record { prints = heard.prints.items; asks = heard.asks.items; pieces = [] }) hello
-        node.new.replica.store (K.contents sink.old) (K.contents sink.new) (S.remaining source.old) (S.remaining source.new)) }
-    ensures peers { L.is_honest node.new.log → OnOk result (L.peers node.new.log ≡ L.peers node.old.log) }
+    ensures talks { OnOk result
+        (Talks seed node.old.replica.store
+        (record { prints = heard.prints.items; asks = heard.asks.items; pieces = [] }) hello
+        node.new.replica.store (K.contents sink.old) (K.contents sink.new) (S.remaining source.old)
+        (S.remaining source.new)) }
+    ensures peers { L.is_honest node.new.log
+        → OnOk result (L.peers node.new.log ≡ L.peers node.old.log) }
     ensures other { IsErrOf result ExchangeFault.WriterTaken → ⊥ }
     ensures later { IsLater L.is_honest L.head L.may_leave node.old node.new }
     ensures whole { OnOk result (node.new.is_spent ≡ false) }
@@ -109,15 +114,18 @@ pub fn call<L: EditLog, S: Source, K: Sink>(
 ) -> Result<(), ExchangeFault>
     requires whole { node.old.is_spent ≡ false }
     requires saved { node.old.unsaved ≡ [] }
-    ensures calls { OnOk result (Calls (L.head node.old.log) seed node.old.replica.store node.new.replica.store
-        (λ known met. L.is_honest node.new.log → Notes (L.head node.old.log) known met time (L.peers node.old.log) (L.peers node.new.log))
+    ensures calls { OnOk result
+        (Calls (L.head node.old.log) seed node.old.replica.store node.new.replica.store
+        (λ known met. L.is_honest node.new.log
+        → Notes (L.head node.old.log) known met time (L.peers node.old.log) (L.peers node.new.log))
         (record {
           written_before = K.contents sink.old;
           written = K.contents sink.new;
           read_before = S.remaining source.old;
           read = S.remaining source.new;
         })) }
-    ensures away { IsErrOf result ExchangeFault.WriterTaken → TurnsAway (L.head node.old.log) seed (opening seed node.old.replica.store)
+    ensures away { IsErrOf result ExchangeFault.WriterTaken
+        → TurnsAway (L.head node.old.log) seed (opening seed node.old.replica.store)
         (λ known. L.is_honest node.new.log → AreLatest (L.peers node.old.log) known)
         (record {
           written_before = K.contents sink.old;
@@ -126,7 +134,8 @@ pub fn call<L: EditLog, S: Source, K: Sink>(
           read = S.remaining source.new;
         }) }
     ensures kept { IsErrOf result ExchangeFault.WriterTaken → node.new.replica ≡ node.old.replica }
-    ensures unnoted { IsErrOf result ExchangeFault.WriterTaken → L.is_honest node.new.log → L.peers node.new.log ≡ L.peers node.old.log }
+    ensures unnoted { IsErrOf result ExchangeFault.WriterTaken → L.is_honest node.new.log
+        → L.peers node.new.log ≡ L.peers node.old.log }
     ensures usable { IsErrOf result ExchangeFault.WriterTaken → node.new.is_spent ≡ false }
     ensures nothing_unsaved { IsErrOf result ExchangeFault.WriterTaken → node.new.unsaved ≡ [] }
     ensures later { IsLater L.is_honest L.head L.may_leave node.old node.new }
@@ -157,15 +166,18 @@ pub fn respond<L: EditLog, S: Source, K: Sink>(
 ) -> Result<(), ExchangeFault>
     requires whole { node.old.is_spent ≡ false }
     requires saved { node.old.unsaved ≡ [] }
-    ensures responds { OnOk result (Responds (L.head node.old.log) node.old.replica.store node.new.replica.store
-        (λ known met. L.is_honest node.new.log → Notes (L.head node.old.log) known met time (L.peers node.old.log) (L.peers node.new.log))
+    ensures responds { OnOk result
+        (Responds (L.head node.old.log) node.old.replica.store node.new.replica.store
+        (λ known met. L.is_honest node.new.log
+        → Notes (L.head node.old.log) known met time (L.peers node.old.log) (L.peers node.new.log))
         (record {
           written_before = K.contents sink.old;
           written = K.contents sink.new;
           read_before = S.remaining source.old;
           read = S.remaining source.new;
         })) }
-    ensures away { IsErrOf result ExchangeFault.WriterTaken → TurnsAway (L.head node.old.log) 0 (record { prints = []; asks = []; pieces = [] })
+    ensures away { IsErrOf result ExchangeFault.WriterTaken
+        → TurnsAway (L.head node.old.log) 0 (record { prints = []; asks = []; pieces = [] })
         (λ known. L.is_honest node.new.log → AreLatest (L.peers node.old.log) known)
         (record {
           written_before = K.contents sink.old;
@@ -174,7 +186,8 @@ pub fn respond<L: EditLog, S: Source, K: Sink>(
           read = S.remaining source.new;
         }) }
     ensures kept { IsErrOf result ExchangeFault.WriterTaken → node.new.replica ≡ node.old.replica }
-    ensures unnoted { IsErrOf result ExchangeFault.WriterTaken → L.is_honest node.new.log → L.peers node.new.log ≡ L.peers node.old.log }
+    ensures unnoted { IsErrOf result ExchangeFault.WriterTaken → L.is_honest node.new.log
+        → L.peers node.new.log ≡ L.peers node.old.log }
     ensures usable { IsErrOf result ExchangeFault.WriterTaken → node.new.is_spent ≡ false }
     ensures nothing_unsaved { IsErrOf result ExchangeFault.WriterTaken → node.new.unsaved ≡ [] }
     ensures later { IsLater L.is_honest L.head L.may_leave node.old node.new }

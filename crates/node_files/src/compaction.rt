@@ -43,11 +43,16 @@ fn make_compacted<L: EditLog, T: Start>(
 ) -> Result<PathLog<T>, NodeFault>
     ensures running { IfOk result (λ log. Stands log.inside.head (file_state log.inside.conn)) }
     ensures head { IfOk result (λ log. log.inside.head ≡ L.head node.now.log) }
-    ensures once { IfOk result (λ log. HasCleanDisk (file_state log.inside.conn) →
-        IsPermutation (stamped time (edits_of node.now.replica.store)) (held_in (file_state log.inside.conn).committed.trees)) }
-    ensures sum { IfOk result (λ log. HasCleanDisk (file_state log.inside.conn) →
-        sum_of (edits_in (held_in (file_state log.inside.conn).committed.trees)) ≡ node.now.replica.store) }
-    ensures peers { IfOk result (λ log. HasCleanDisk (file_state log.inside.conn) → IsPermutation peers.now (peers_in (file_state log.inside.conn).committed.trees)) }
+    ensures once { IfOk result
+        (λ log. HasCleanDisk (file_state log.inside.conn)
+        → IsPermutation (stamped time (edits_of node.now.replica.store))
+        (held_in (file_state log.inside.conn).committed.trees)) }
+    ensures sum { IfOk result
+        (λ log. HasCleanDisk (file_state log.inside.conn)
+        → sum_of (edits_in (held_in (file_state log.inside.conn).committed.trees))
+        ≡ node.now.replica.store) }
+    ensures peers { IfOk result (λ log. HasCleanDisk (file_state log.inside.conn)
+        → IsPermutation peers.now (peers_in (file_state log.inside.conn).committed.trees)) }
 {
     let mut log = sqlite_log::create(rt, path, node.head(), start)?;
     node.compact_into(&mut log, time, peers)?;
@@ -57,10 +62,13 @@ fn make_compacted<L: EditLog, T: Start>(
 // Closes the file of a node, so that it needs nothing beside it.
 fn close<S: Start>(node: PathNode<S>) -> Result<Files<FileFrom<S>>, NodeFault>
     requires running { Stands node.log.inside.head (file_state node.log.inside.conn) }
-    ensures alone { IfOk result (λ files. AreClean ⟦<FileFrom<S> as Disk>⟧ files.log files.db →
-        HoldsLog ⟦<FileFrom<S> as Disk>⟧ files node.log.inside.head (held_in (file_state node.log.inside.conn).committed.trees)
+    ensures alone { IfOk result
+        (λ files. AreClean ⟦<FileFrom<S> as Disk>⟧ files.log files.db
+        → HoldsLog ⟦<FileFrom<S> as Disk>⟧ files node.log.inside.head
+        (held_in (file_state node.log.inside.conn).committed.trees)
         (peers_in (file_state node.log.inside.conn).committed.trees)) }
-    ensures clean { IfOk result (λ files. AreClean ⟦<FileFrom<S> as Disk>⟧ files.log files.db → HasCleanDisk (file_state node.log.inside.conn)) }
+    ensures clean { IfOk result (λ files. AreClean ⟦<FileFrom<S> as Disk>⟧ files.log files.db
+        → HasCleanDisk (file_state node.log.inside.conn)) }
 {
     let log = node.into_log();
     let files = log.close()?;
@@ -76,9 +84,10 @@ fn close_both<S: Start, T: Start>(
     start: T,
 ) -> Result<(Files<FileFrom<S>>, Files<FileFrom<T>>), NodeFault>
     requires running { Stands node.log.inside.head (file_state node.log.inside.conn) }
-    requires sum { HasCleanDisk (file_state node.log.inside.conn) →
-        node.replica.store ≡ sum_of (edits_in (held_in (file_state node.log.inside.conn).committed.trees)) }
-    ensures alike { IfOk result (λ both. Compacts ⟦<FileFrom<S> as Disk>⟧ ⟦<FileFrom<T> as Disk>⟧ time both.0 both.1) }
+    requires sum { HasCleanDisk (file_state node.log.inside.conn) → node.replica.store
+        ≡ sum_of (edits_in (held_in (file_state node.log.inside.conn).committed.trees)) }
+    ensures alike { IfOk result
+        (λ both. Compacts ⟦<FileFrom<S> as Disk>⟧ ⟦<FileFrom<T> as Disk>⟧ time both.0 both.1) }
 {
     let peers = node.peers(rt.alloc())?;
     let log = make_compacted(rt, &node, &peers, path, time, start)?;
@@ -101,8 +110,11 @@ pub fn prepare<S: Start, T: Start>(
     fresh_start: T,
 ) -> Result<Compacted<S, T>, NodeFault>
     ensures path { IfOk result (λ both. string_bytes both.path ≡ path.now) }
-    ensures fresh_name { IfOk result (λ both. string_bytes both.beside ≡ path.now ++ codes ".compact") }
-    ensures alike { IfOk result (λ both. Compacts ⟦<FileFrom<S> as Disk>⟧ ⟦<FileFrom<T> as Disk>⟧ time both.old both.fresh) }
+    ensures fresh_name { IfOk result
+        (λ both. string_bytes both.beside ≡ path.now ++ codes ".compact") }
+    ensures alike { IfOk result
+        (λ both.
+        Compacts ⟦<FileFrom<S> as Disk>⟧ ⟦<FileFrom<T> as Disk>⟧ time both.old both.fresh) }
 {
     let name = String::from_str(rt.alloc(), path)?;
     let beside = beside_name(rt.alloc(), path)?;

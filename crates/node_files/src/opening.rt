@@ -50,9 +50,12 @@ pub fn create<S: Start>(
     start: S,
 ) -> Result<PathNode<S>, NodeFault>
     ensures writer { IfOk result (λ node. node.replica.writer ≡ writer) }
-    ensures empty { IfOk result (λ node. HasCleanDisk (file_state node.log.inside.conn) → node.replica.store ≡ finmap.empty) }
-    ensures held { IfOk result (λ node. HasCleanDisk (file_state node.log.inside.conn) → held_in (file_state node.log.inside.conn).committed.trees ≡ []) }
-    ensures alone { IfOk result (λ node. HasCleanDisk (file_state node.log.inside.conn) → peers_in (file_state node.log.inside.conn).committed.trees ≡ []) }
+    ensures empty { IfOk result (λ node. HasCleanDisk (file_state node.log.inside.conn)
+        → node.replica.store ≡ finmap.empty) }
+    ensures held { IfOk result (λ node. HasCleanDisk (file_state node.log.inside.conn)
+        → held_in (file_state node.log.inside.conn).committed.trees ≡ []) }
+    ensures alone { IfOk result (λ node. HasCleanDisk (file_state node.log.inside.conn)
+        → peers_in (file_state node.log.inside.conn).committed.trees ≡ []) }
     ensures format { IfOk result (λ node. node.log.inside.head.format ≡ FORMAT) }
     ensures log_writer { IfOk result (λ node. node.log.inside.head.writer ≡ writer) }
     ensures saved { IfOk result (λ node. node.unsaved ≡ []) }
@@ -72,10 +75,13 @@ pub fn create<S: Start>(
 pub fn open<S: Start>(rt: &HostRuntime, path: &str, start: S) -> Result<PathNode<S>, NodeFault>
     ensures writer { IfOk result (λ node. node.replica.writer ≡ node.log.inside.head.writer) }
     ensures format { IfOk result (λ node. node.log.inside.head.format ≡ FORMAT) }
-    ensures sum { IfOk result (λ node. HasCleanDisk (file_state node.log.inside.conn) →
-        node.replica.store ≡ sum_of (edits_in (held_in (file_state node.log.inside.conn).committed.trees))) }
-    ensures found { IfOk result (λ node. HasCleanDisk (file_state node.log.inside.conn) → FindsHeld (image_at S.Start) node.log.inside.conn) }
-    ensures running { IfOk result (λ node. Stands node.log.inside.head (file_state node.log.inside.conn)) }
+    ensures sum { IfOk result
+        (λ node. HasCleanDisk (file_state node.log.inside.conn) → node.replica.store
+        ≡ sum_of (edits_in (held_in (file_state node.log.inside.conn).committed.trees))) }
+    ensures found { IfOk result (λ node. HasCleanDisk (file_state node.log.inside.conn)
+        → FindsHeld (image_at S.Start) node.log.inside.conn) }
+    ensures running { IfOk result
+        (λ node. Stands node.log.inside.head (file_state node.log.inside.conn)) }
     ensures saved { IfOk result (λ node. node.unsaved ≡ []) }
     ensures whole { IfOk result (λ node. node.is_spent ≡ false) }
 {

@@ -55,12 +55,14 @@ opened_takes r h is = sym (ap takes_in is)
 pub opened_untaken : (r : Replicated) (h : List HistoryEvent) (s : ℕ) → h ≡ Opening r ∷ [] → takes_of s h ≡ 0
 opened_untaken r h s is = ap (λ (k : List HistoryEvent). takes_of s k) is
 
-after_snoc : (w : ℕ) (before : List Edit) (h : List HistoryEvent) (x : HistoryEvent) → IsLegalAfter w before h → IsNext w (before ++ all_edits h) x → IsLegalAfter w before (h ++ x ∷ [])
+after_snoc : (w : ℕ) (before : List Edit) (h : List HistoryEvent) (x : HistoryEvent) → IsLegalAfter w before h
+    → IsNext w (before ++ all_edits h) x → IsLegalAfter w before (h ++ x ∷ [])
 after_snoc w before [] x l n = (subst (λ (es : List Edit). IsNext w es x) (append-nil before) n, tt)
 after_snoc w before (y ∷ h) x l n =
     (l.0, after_snoc w (before ++ edits_in y) h x l.1 (subst (λ (es : List Edit). IsNext w es x) (sym (append_assoc before (edits_in y) (all_edits h))) n))
 
-pub legal_snoc : (r : Replicated) (h : List HistoryEvent) (x : HistoryEvent) → IsLegal r h → IsNext r.writer (all_edits h) x → IsLegal r (h ++ x ∷ [])
+pub legal_snoc : (r : Replicated) (h : List HistoryEvent) (x : HistoryEvent) → IsLegal r h
+    → IsNext r.writer (all_edits h) x → IsLegal r (h ++ x ∷ [])
 legal_snoc r [] x l n = absurd l
 legal_snoc r (Opening q ∷ h) x l n =
     (l.0, after_snoc r.writer (edits_of r.store) h x l.1 (subst (λ (q : Replicated). IsNext r.writer (edits_of q.store ++ all_edits h) x) l.0 n))
@@ -94,36 +96,42 @@ takes_of-within r s (Edited seat e ∷ h) l = absurd l
 takes_of-within r s (Absorbed seat p ∷ h) l = absurd l
 
 -- an edit under the next version of the replica that the history gives may come next
-pub next_edit : (h : List HistoryEvent) (seat : ℕ) (e : Edit) (r : Replicated) (w : ℕ) → r.store ≡ store_of h → r.writer ≡ w → e.version ≡ next_version r → IsNext w (all_edits h) (Edited seat e)
+pub next_edit : (h : List HistoryEvent) (seat : ℕ) (e : Edit) (r : Replicated) (w : ℕ) → r.store ≡ store_of h
+    → r.writer ≡ w → e.version ≡ next_version r → IsNext w (all_edits h) (Edited seat e)
 next_edit h seat e r w kept writer version =
     let high : high_of r.store ≡ counter_of h = ap high_of kept ∙ high_of-store_of h in
     let counter : e.version.counter ≡ high_of r.store + 1 = ap (λ v. v.counter) version in
     (ap (λ v. v.writer) version ∙ writer, omega (arith, high, counter))
 
-after_edit : (w : ℕ) (es : List Edit) (before after : List HistoryEvent) (seat : ℕ) (e : Edit) → IsLegalAfter w es (before ++ Edited seat e ∷ after) → IsNext w (es ++ all_edits before) (Edited seat e)
+after_edit : (w : ℕ) (es : List Edit) (before after : List HistoryEvent) (seat : ℕ) (e : Edit)
+    → IsLegalAfter w es (before ++ Edited seat e ∷ after) → IsNext w (es ++ all_edits before) (Edited seat e)
 after_edit w es [] after seat e l = subst (λ (k : List Edit). IsNext w k (Edited seat e)) (sym (append-nil es)) l.0
 after_edit w es (y ∷ b) after seat e l =
     subst (λ (k : List Edit). IsNext w k (Edited seat e)) (append_assoc es (edits_in y) (all_edits b)) (after_edit w (es ++ edits_in y) b after seat e l.1)
 
-legal_next : (r : Replicated) (before after : List HistoryEvent) (seat : ℕ) (e : Edit) → IsLegal r (before ++ Edited seat e ∷ after) → IsNext r.writer (all_edits before) (Edited seat e)
+legal_next : (r : Replicated) (before after : List HistoryEvent) (seat : ℕ) (e : Edit)
+    → IsLegal r (before ++ Edited seat e ∷ after) → IsNext r.writer (all_edits before) (Edited seat e)
 legal_next r [] after seat e l = absurd l
 legal_next r (Opening q ∷ b) after seat e l =
     subst (λ (q : Replicated). IsNext r.writer (edits_of q.store ++ all_edits b) (Edited seat e)) (sym l.0) (after_edit r.writer (edits_of r.store) b after seat e l.1)
 legal_next r (Edited by f ∷ b) after seat e l = absurd l
 legal_next r (Absorbed by p ∷ b) after seat e l = absurd l
 
-pub legal_above : (r : Replicated) (before after : List HistoryEvent) (seat : ℕ) (e : Edit) → IsLegal r (before ++ Edited seat e ∷ after) → IsAbove r.writer (all_edits before) e
+pub legal_above : (r : Replicated) (before after : List HistoryEvent) (seat : ℕ) (e : Edit)
+    → IsLegal r (before ++ Edited seat e ∷ after) → IsAbove r.writer (all_edits before) e
 legal_above r before after seat e l =
     let n = legal_next r before after seat e l in
     (n.0, λ f a. let le = counter_among f (all_edits before) a in omega (arith, le, n.1))
 
 -- edits of nodes with different numbers have different versions
-pub legal_apart : (r q : Replicated) (before after : List HistoryEvent) (seat : ℕ) (e : Edit) (before' after' : List HistoryEvent) (seat' : ℕ) (f : Edit) → IsLegal r (before ++ Edited seat e ∷ after)
+pub legal_apart : (r q : Replicated) (before after : List HistoryEvent) (seat : ℕ) (e : Edit)
+    (before' after' : List HistoryEvent) (seat' : ℕ) (f : Edit) → IsLegal r (before ++ Edited seat e ∷ after)
     → IsLegal q (before' ++ Edited seat' f ∷ after') → r.writer ≢ q.writer → e.version ≢ f.version
 legal_apart r q before after seat e before' after' seat' f l m ne same =
     let one : e.version.writer ≡ r.writer = (legal_above r before after seat e l).0 in
     let two : f.version.writer ≡ q.writer = (legal_above q before' after' seat' f m).0 in
     ne (sym one ∙ ap (λ v. v.writer) same ∙ two)
 
-pub same_edits_same_store : (h k : List HistoryEvent) → ((e : Edit) → IsAmong e (all_edits h) → IsAmong e (all_edits k)) → ((e : Edit) → IsAmong e (all_edits k) → IsAmong e (all_edits h)) → store_of h ≡ store_of k
+pub same_edits_same_store : (h k : List HistoryEvent) → ((e : Edit) → IsAmong e (all_edits h) → IsAmong e (all_edits k))
+    → ((e : Edit) → IsAmong e (all_edits k) → IsAmong e (all_edits h)) → store_of h ≡ store_of k
 same_edits_same_store h k there back = sum_of-same_edits (all_edits h) (all_edits k) there back

@@ -27,7 +27,8 @@ replicate_spare : (k : ℕ) → replicate (double k) (node_of []) ≡ spare k
 replicate_spare zero = refl
 replicate_spare (suc k) = ap (λ (ns : List Node). node_of [] ∷ node_of [] ∷ ns) (replicate_spare k)
 
-changed_after : (used : List Node) (i : ℕ) (f : Node → Node) (x : Node) (rest : List Node) → length used ≡ i → changed_at i f (used ++ x ∷ rest) ≡ used ++ f x ∷ rest
+changed_after : (used : List Node) (i : ℕ) (f : Node → Node) (x : Node) (rest : List Node) → length used ≡ i
+    → changed_at i f (used ++ x ∷ rest) ≡ used ++ f x ∷ rest
 changed_after [] zero f x rest e = refl
 changed_after [] (suc i) f x rest e = cc
 changed_after (u ∷ used) zero f x rest e = cc
@@ -39,7 +40,8 @@ get_after [] (suc i) x rest e = cc
 get_after (u ∷ used) zero x rest e = cc
 get_after (u ∷ used) (suc i) x rest e = get_after used i x rest (cc (e))
 
-get_second : (used : List Node) (i : ℕ) (x y : Node) (rest : List Node) → length used ≡ i → slice_get (used ++ x ∷ y ∷ rest) (suc i) ≡ Some y
+get_second : (used : List Node) (i : ℕ) (x y : Node) (rest : List Node) → length used ≡ i
+    → slice_get (used ++ x ∷ y ∷ rest) (suc i) ≡ Some y
 get_second [] zero x y rest e = refl
 get_second [] (suc i) x y rest e = cc
 get_second (u ∷ used) zero x y rest e = cc
@@ -50,7 +52,8 @@ takes_more : (es fs : List Edit) → taken (sum_of fs) fs (node_of es) ≡ node_
 takes_more es fs = λ i. record { store = sym (sum_of-append es fs) i; took = es ++ fs }
 
 -- edits that are put one after another at the node after these
-puts_after : (es : List Edit) (used : List Node) (i : ℕ) (gs fs : List Edit) (rest : List Node) (asks : List Asked) (pieces : List Piece) → length used ≡ i
+puts_after : (es : List Edit) (used : List Node) (i : ℕ) (gs fs : List Edit) (rest : List Node) (asks : List Asked)
+    (pieces : List Piece) → length used ≡ i
     → after (puts_at (suc i) fs) (ready es used (node_of gs ∷ rest) asks pieces) ≡ ready es used (node_of (gs ++ fs) ∷ rest) asks pieces
 puts_after es used i gs [] rest asks pieces e = ap (λ (hs : List Edit). ready es used (node_of hs ∷ rest) asks pieces) (sym (append-nil gs))
 puts_after es used i gs (f ∷ fs) rest asks pieces e =
@@ -81,7 +84,8 @@ abbrev pub piece_of : ℕ → EntryMap → Piece
 piece_of m s = record { entries = cut (sum_of (edits_of s)) (digest_of finmap.empty) None; asker = suc (suc (double m)); had = at_places None (edits_of s) }
 
 -- a node that is given such a piece has taken the store
-takes_piece : (es : List Edit) (m : ℕ) (s : EntryMap) → taken (piece_of m s).entries (edits_with (piece_of m s) 0) (node_of es) ≡ node_of (es ++ edits_of s)
+takes_piece : (es : List Edit) (m : ℕ) (s : EntryMap)
+    → taken (piece_of m s).entries (edits_with (piece_of m s) 0) (node_of es) ≡ node_of (es ++ edits_of s)
 takes_piece es m s =
     let whole : (piece_of m s).entries ≡ s = ap (λ (t : EntryMap). cut t (digest_of finmap.empty) None) (sum_of-edits_of s) ∙ whole_cut s in
     let store : join (sum_of es) (piece_of m s).entries ≡ sum_of (es ++ edits_of s) = ap (join (sum_of es)) (whole ∙ sym (sum_of-edits_of s)) ∙ sym (sum_of-append es (edits_of s)) in
@@ -95,7 +99,8 @@ last_at : {X : Type 0} (xs : List X) (x : X) (m : ℕ) → length xs ≡ m → s
 last_at xs x m e = subst (λ (n : ℕ). slice_get (xs ++ x ∷ []) n ≡ Some x) e (slice_get_last xs x)
 
 -- a store is brought to node 0
-brought : (es : List Edit) (used : List Node) (m : ℕ) (s : EntryMap) (rest : List Node) (asks : List Asked) (pieces : List Piece) → length used ≡ double m → length asks ≡ m → length pieces ≡ m
+brought : (es : List Edit) (used : List Node) (m : ℕ) (s : EntryMap) (rest : List Node) (asks : List Asked)
+    (pieces : List Piece) → length used ≡ double m → length asks ≡ m → length pieces ≡ m
     → after (brings m s) (ready es used (node_of [] ∷ node_of [] ∷ rest) asks pieces)
     ≡ ready (es ++ edits_of s) used (node_of (edits_of s) ∷ node_of [] ∷ rest) (asks ++ ask_of m ∷ []) (pieces ++ piece_of m s ∷ [])
 brought es used m s rest asks pieces a b c =
@@ -122,10 +127,14 @@ abbrev pub Holds : EventWorld → List Edit → Type 0
 Holds w es = slice_get w.nodes 0 ≡ Some (node_of es)
 
 -- the rest follows after a store that is brought
-brings_holds : (h : List HistoryEvent) (es : List Edit) (used : List Node) (m : ℕ) (s : EntryMap) (asks : List Asked) (pieces : List Piece) → length used ≡ double m → length asks ≡ m → length pieces ≡ m
-    → ((used' : List Node) (asks' : List Asked) (pieces' : List Piece) → length used' ≡ double (suc m) → length asks' ≡ suc m → length pieces' ≡ suc m
-    → Holds (after (world_from (suc m) h) (ready (es ++ edits_of s) used' (spare (stores_in h)) asks' pieces')) ((es ++ edits_of s) ++ all_edits h))
-    → Holds (after (brings m s ++ world_from (suc m) h) (ready es used (spare (suc (stores_in h))) asks pieces)) (es ++ (edits_of s ++ all_edits h))
+brings_holds : (h : List HistoryEvent) (es : List Edit) (used : List Node) (m : ℕ) (s : EntryMap) (asks : List Asked)
+    (pieces : List Piece) → length used ≡ double m → length asks ≡ m → length pieces ≡ m
+    → ((used' : List Node) (asks' : List Asked) (pieces' : List Piece) → length used' ≡ double (suc m)
+    → length asks' ≡ suc m → length pieces' ≡ suc m
+    → Holds (after (world_from (suc m) h) (ready (es ++ edits_of s) used' (spare (stores_in h)) asks' pieces'))
+    ((es ++ edits_of s) ++ all_edits h))
+    → Holds (after (brings m s ++ world_from (suc m) h) (ready es used (spare (suc (stores_in h))) asks pieces))
+    (es ++ (edits_of s ++ all_edits h))
 brings_holds h es used m s asks pieces a b c goes_on =
     let k : ℕ = stores_in h in
     let start : EventWorld = ready es used (spare (suc k)) asks pieces in
@@ -142,7 +151,8 @@ brings_holds h es used m s asks pieces a b c goes_on =
     ∙ goes_on (used ++ own) (asks ++ ask_of m ∷ []) (pieces ++ piece_of m s ∷ []) (omega (arith, length-append used own, a)) (omega (arith, length-append asks (ask_of m ∷ []), b)) (omega (arith, length-append pieces (piece_of m s ∷ []), c))
     ∙ ap (λ (fs : List Edit). Some (node_of fs)) (append_assoc es (edits_of s) (all_edits h))
 
-world_holds : (h : List HistoryEvent) (es : List Edit) (used : List Node) (m : ℕ) (asks : List Asked) (pieces : List Piece) → length used ≡ double m → length asks ≡ m → length pieces ≡ m
+world_holds : (h : List HistoryEvent) (es : List Edit) (used : List Node) (m : ℕ) (asks : List Asked)
+    (pieces : List Piece) → length used ≡ double m → length asks ≡ m → length pieces ≡ m
     → Holds (after (world_from m h) (ready es used (spare (stores_in h)) asks pieces)) (es ++ all_edits h)
 world_holds [] es used m asks pieces a b c = ap (λ (fs : List Edit). Some (node_of fs)) (sym (append-nil es))
 world_holds (Opening r ∷ h) es used m asks pieces a b c =

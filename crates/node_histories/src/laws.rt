@@ -10,11 +10,13 @@ ghost use Rattle.node_histories.specs.{declared.events.HistoryEvent.{HistoryEven
 /// and is given each piece, in order; it took the edits of the history, and holds the store that the history gives.
 pub fn history_laws()
     ensures above { (start : Replicated) (before after : List HistoryEvent) (seat : ℕ) (e : Edit)
-        → IsLegal start (before ++ Edited seat e ∷ after) → IsAbove start.writer (all_edits before) e }
+        → IsLegal start (before ++ Edited seat e ∷ after)
+        → IsAbove start.writer (all_edits before) e }
     ensures apart { (r q : Replicated) (before after : List HistoryEvent) (seat : ℕ) (e : Edit)
         (others later : List HistoryEvent) (other : ℕ) (f : Edit)
         → IsLegal r (before ++ Edited seat e ∷ after) → IsLegal q (others ++ Edited other f ∷ later)
         → r.writer ≢ q.writer → e.version ≢ f.version }
-    ensures stands { (h : List HistoryEvent) → slice_get (after (world_of h) (blank (nodes_of h))).nodes 0
+    ensures stands { (h : List HistoryEvent)
+        → slice_get (after (world_of h) (blank (nodes_of h))).nodes 0
         ≡ Some (record { store = store_of h; took = all_edits h }) }
 {}

@@ -36,7 +36,8 @@ impl<N: NodeName> Model for HistoryPrefix<N> {
 
     ghost view = { λ f. f.seen.log };
 
-    ghost invariant = { λ f. (f.takes ≡ takes_in f.seen.log) × (f.seen.book ≡ N.book) × IsLegal N.opening f.seen.log };
+    ghost invariant = { λ f. (f.takes ≡ takes_in f.seen.log) × (f.seen.book ≡ N.book)
+        × IsLegal N.opening f.seen.log };
 }
 
 // A prefix to which an event is about to be added.

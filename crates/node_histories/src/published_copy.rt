@@ -24,9 +24,11 @@ pub struct PublishedCopy {
     replica: Arc<Replica, Global>,
     takes: u64,
     pub seen: History,
-    pub ghost kept: { arc_value replica ≡ replica_of seen.log } by { replica-prop (arc_value replica) (replica_of seen.log) },
+    pub ghost kept: { arc_value replica
+        ≡ replica_of seen.log } by { replica-prop (arc_value replica) (replica_of seen.log) },
     pub ghost counted: { takes ≡ takes_in seen.log },
-    pub ghost legal: { IsLegal (opening_of seen.log) seen.log } by { IsLegal-prop (opening_of seen.log) seen.log },
+    pub ghost legal: { IsLegal (opening_of seen.log) seen.log } by { IsLegal-prop
+        (opening_of seen.log) seen.log },
 }
 
 impl Drop for PublishedCopy {
@@ -67,9 +69,11 @@ fn next_copy<N: NodeName>(
     requires room { takes_in turn.seen < 2 ^ 64 - 1 }
     requires legal { IsNext N.opening.writer (all_edits turn.seen) turn.ask }
     requires kept { replica ≡ replica_of (turn.seen ++ turn.ask ∷ []) }
-    ensures log { IfOk result (λ published_copy. published_copy.seen.log ≡ turn.seen ++ turn.ask ∷ []) }
+    ensures log { IfOk result
+        (λ published_copy. published_copy.seen.log ≡ turn.seen ++ turn.ask ∷ []) }
     ensures book { IfOk result (λ published_copy. published_copy.seen.book ≡ N.book) }
-    ensures opening { IfOk result (λ published_copy. opening_of published_copy.seen.log ≡ N.opening) }
+    ensures opening { IfOk result
+        (λ published_copy. opening_of published_copy.seen.log ≡ N.opening) }
     ensures replica { IfOk result (λ published_copy. replica ≡ replica_of published_copy.seen.log) }
 {
     let alloc = replica.store().allocator();
@@ -211,8 +215,10 @@ impl PublishedCopy {
         requires opening { opening_of self.now.seen.log ≡ N.opening }
         requires head { head.now ≡ head_of N.book }
         requires room { takes_in self.now.seen.log < 2 ^ 64 - 1 }
-        ensures changed { IfOk result (λ r. r.0 ≡ changed_places (store_of self.now.seen.log) (store_of r.1.seen.log)) }
-        ensures log { IfOk result (λ r. r.1.seen.log ≡ self.now.seen.log ++ Absorbed seat piece ∷ []) }
+        ensures changed { IfOk result
+            (λ r. r.0 ≡ changed_places (store_of self.now.seen.log) (store_of r.1.seen.log)) }
+        ensures log { IfOk result
+            (λ r. r.1.seen.log ≡ self.now.seen.log ++ Absorbed seat piece ∷ []) }
         ensures book { IfOk result (λ r. r.1.seen.book ≡ N.book) }
         ensures opening { IfOk result (λ r. opening_of r.1.seen.log ≡ N.opening) }
     {

@@ -24,7 +24,8 @@ fn peer_of(known: &LogPeer) -> Peer
 
 // Peers of the log as they are told to others.
 fn peers_of(alloc: Global, known: &[LogPeer]) -> Result<Peers, AllocError>
-    ensures peers { IfOk result (λ peers. (p : Peer) → IsAmong p peers ↔ IsAmong p (map peer_of known.now)) }
+    ensures peers { IfOk result
+        (λ peers. (p : Peer) → IsAmong p peers ↔ IsAmong p (map peer_of known.now)) }
 {
     let mut peers = Peers::new(alloc);
     for peer in known {

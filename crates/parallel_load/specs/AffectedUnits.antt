@@ -20,7 +20,8 @@ AreNoted names affected part ending from to = (i : ℕ) (d : Name × NameLoad) �
 -- the same for the units of the secondary names in such a range that have this ending
 abbrev pub AreOwnersNoted : List (Name × NameLoad) → List (Name × ℕ) → List ℕ → List ℕ → List ℕ → ℕ → ℕ → Type 0
 AreOwnersNoted names second affected part ending from to =
-    (k : ℕ) (d : Name × ℕ) → from ≤ k → k < to → EndsWith ending (slice_index_or second k d).0 → IsNoted names affected part (slice_index_or second k d).1
+    (k : ℕ) (d : Name × ℕ) → from ≤ k → k < to → EndsWith ending (slice_index_or second k d).0
+    → IsNoted names affected part (slice_index_or second k d).1
 
 -- the same for all indices
 abbrev pub AreAffectedBy : List (Name × NameLoad) → List ℕ → List ℕ → Type 0

@@ -9,5 +9,6 @@ one_of_name s name (OfUnit u) (OfAlias m) p q = absurd (q.other (sym q.main_is �
 one_of_name s name (OfAlias m) (OfUnit v) p q = absurd (p.other (sym p.main_is ∙ q.main_is))
 one_of_name s name (OfAlias m) (OfAlias k) p q = ap OfAlias (sym p.main_is ∙ q.main_is)
 
-pub one_alone : (loader : UnitLoader) (name : Name) (x y : NameLoad) → IsLoadAlone loader.index name x → IsLoadAlone loader.index name y → x ≡ y
+pub one_alone : (loader : UnitLoader) (name : Name) (x y : NameLoad) → IsLoadAlone loader.index name x
+    → IsLoadAlone loader.index name y → x ≡ y
 one_alone loader = one_of_name loader.index

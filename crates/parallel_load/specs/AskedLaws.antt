@@ -15,7 +15,8 @@ asked_for extra load = record load { extra = extra }
 -- itself
 abbrev pub SourcesMakeTheLoad : Type 0
 SourcesMakeTheLoad =
-    (s : HostViewMap) (a b : List Name) (load : LoadMap) → AreSources s a b → AreSources s b a → IsLoad s a load → IsLoad s b (asked_for b load)
+    (s : HostViewMap) (a b : List Name) (load : LoadMap) → AreSources s a b → AreSources s b a → IsLoad s a load
+    → IsLoad s b (asked_for b load)
 
 -- and both universes are too large, or neither is
 abbrev pub SourcesMakeTheSize : Type 0

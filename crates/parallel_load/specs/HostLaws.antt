@@ -22,7 +22,8 @@ SameUnitsMakeTheLoad =
 abbrev pub HostsWithoutPlacesLoadAlike : Type 0
 HostsWithoutPlacesLoadAlike =
     (s : EntryMap) (host : List ℕ) (profile : Profile) → ShowsNothing s (Host host) → (extra : List Name) (load : LoadMap)
-    → IsLoad (host_view_of s (of_host host profile)) extra (loaded_for (of_host host profile) load) ↔ IsLoad (host_view_of s (of_fleet profile)) extra (loaded_for (of_fleet profile) load)
+    → IsLoad (host_view_of s (of_host host profile)) extra (loaded_for (of_host host profile) load)
+    ↔ IsLoad (host_view_of s (of_fleet profile)) extra (loaded_for (of_fleet profile) load)
 
 -- And as much of it must be loaded.
 abbrev pub HostsWithoutPlacesAreAsLarge : Type 0

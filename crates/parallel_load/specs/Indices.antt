@@ -33,7 +33,8 @@ pub record AreDependenciesOf (names : List (Name × NameLoad)) (lists : List Dep
 -- For each name these are the dependencies of what it resolves to, by indices.
 pub record AreDependencyAdjacency (names : List (Name × NameLoad)) (table : List (List Dependency)) : Type 0 where
   pub one_each : length table ≡ length names
-  pub rows : (i : ℕ) (p : Name × NameLoad) → i < length names → AreDependenciesOf names (lists_in (slice_index_or names i p).1) (slice_index_or table i [])
+  pub rows : (i : ℕ) (p : Name × NameLoad) → i < length names
+      → AreDependenciesOf names (lists_in (slice_index_or names i p).1) (slice_index_or table i [])
 
 -- This is the index of a name's main name, which is that of a unit of the load.
 pub record IsIndexOfMain (load : LoadMap) (name : Name) (index : ℕ) : Type 0 where

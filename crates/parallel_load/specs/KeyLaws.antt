@@ -3,7 +3,8 @@ use Rattle.std.{proofs.Common.{◌&&◌, ◌<◌, ◌∷◌, ◌≡◌}, specs.F
 use Rattle.parallel_load.specs.Prelude.{[], AllByRecursion, and_from, and_parts, ap, arith, below_all, cond, Equal, get_or, Greater, is_eq, is_less, is_lt, IsAntisymmetric, IsAt, IsStrictlySortedBy, IsTotalOrder, IsTrue, keys_of, length, Less, List, none-some, Ordering, refl, Some, sorted_head, sorted_tail, suc, sym, tied_itself, turned, zero, ℕ, ◌∙◌}
 
 -- the key at a place
-pub key_at_place : {K V : Type 0} (es : List (K × V)) (i : ℕ) (d : K × V) (k : K) → i < length es → (get_or es i d).0 ≡ get_or (keys_of es) i k
+pub key_at_place : {K V : Type 0} (es : List (K × V)) (i : ℕ) (d : K × V) (k : K) → i < length es
+    → (get_or es i d).0 ≡ get_or (keys_of es) i k
 key_at_place [] i d k l = absurd (omega arith)
 key_at_place (e ∷ es) zero d k l = refl
 key_at_place (e ∷ es) (suc i) d k l = key_at_place es i d k (omega arith)
@@ -18,7 +19,8 @@ module _ {K V : Type 0} (R : K → K → Ordering) where
   below_key x (e ∷ es) zero d h l = is_less _ (and_parts _ _ h).0
   below_key x (e ∷ es) (suc j) d h l = below_key x es j d (and_parts _ _ h).1 (omega arith)
 
-  pub keys_ascend : (es : List (K × V)) (i j : ℕ) (d : K) → IsTrue (is_sorted R es) → i < j → j < length es → R (get_or (keys_of es) i d) (get_or (keys_of es) j d) ≡ Less
+  pub keys_ascend : (es : List (K × V)) (i j : ℕ) (d : K) → IsTrue (is_sorted R es) → i < j → j < length es
+      → R (get_or (keys_of es) i d) (get_or (keys_of es) j d) ≡ Less
   keys_ascend [] i j d s l m = absurd (omega arith)
   keys_ascend (e ∷ es) i zero d s l m = absurd (omega arith)
   keys_ascend (e ∷ es) zero (suc j) d s l m = below_key e.0 es j d (and_parts _ _ s).0 (omega arith)
@@ -41,7 +43,8 @@ module _ {K V : Type 0} (R : K → K → Ordering) where
   place_of_found exact k [] v d h = absurd (none-some _ h)
   place_of_found exact k (e ∷ es) v d h = by (R k e.0) refl h (place_of_found exact k es v d)
     where
-      later : (i : ℕ) × ((i < length es) × (get_or (keys_of es) i d ≡ k)) → (i : ℕ) × ((i < length (e ∷ es)) × (get_or (keys_of (e ∷ es)) i d ≡ k))
+      later : (i : ℕ) × ((i < length es) × (get_or (keys_of es) i d ≡ k))
+          → (i : ℕ) × ((i < length (e ∷ es)) × (get_or (keys_of (e ∷ es)) i d ≡ k))
       later r = let l = r.1.0 in (suc r.0, (omega arith, r.1.1))
 
       by : (r : Ordering) → R k e.0 ≡ r → cond (is_eq r) (Some e.1) (find R k es) ≡ Some v
@@ -84,7 +87,8 @@ module _ {K V : Type 0} (R : K → K → Ordering) where
   sorted_from_keys (e ∷ es) h = and_from _ _ (below_from e.0 es (sorted_head R e.0 (keys_of es) h)) (sorted_from_keys es (sorted_tail R e.0 (keys_of es) h))
 
 -- the key that a search finds is the one at that place
-pub key_found : {K V : Type 0} (R : K → K → Ordering) → IsAntisymmetric R → (k : K) (es : List (K × V)) (i : ℕ) (d : K) → IsAt R k es i → get_or (keys_of es) i d ≡ k
+pub key_found : {K V : Type 0} (R : K → K → Ordering) → IsAntisymmetric R → (k : K) (es : List (K × V)) (i : ℕ) (d : K)
+    → IsAt R k es i → get_or (keys_of es) i d ≡ k
 key_found R exact k [] i d a = absurd a
 key_found R exact k (e ∷ es) zero d a = sym (exact k e.0 a)
 key_found R exact k (e ∷ es) (suc i) d a = key_found R exact k es i d a.1

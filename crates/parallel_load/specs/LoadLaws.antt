@@ -16,10 +16,12 @@ one_name_load s name (OfAlias m) (OfUnit v) p q = absurd (p.other (sym p.main_is
 one_name_load s name (OfAlias m) (OfAlias k) p q = ap OfAlias (sym p.main_is ∙ q.main_is)
 
 -- and has one list for each kind
-one_list : (s : HostViewMap) (name : Name) (one : NameLoad) (a b : List DependencyList) → IsNamedAlone s name one a → IsNamedAlone s name one b → a ≡ b
+one_list : (s : HostViewMap) (name : Name) (one : NameLoad) (a b : List DependencyList) → IsNamedAlone s name one a
+    → IsNamedAlone s name one b → a ≡ b
 one_list s name one a b p q = p.lists_are ∙ ap lists_in (one_of_name s name (with_lists one a) (with_lists one b) p.alone q.alone) ∙ sym q.lists_are
 
-one_named : (s : HostViewMap) (names : List (Name × NameLoad)) (a b : List (List DependencyList)) → AreNamedAlone s names a → AreNamedAlone s names b → a ≡ b
+one_named : (s : HostViewMap) (names : List (Name × NameLoad)) (a b : List (List DependencyList))
+    → AreNamedAlone s names a → AreNamedAlone s names b → a ≡ b
 one_named s [] [] [] p q = refl
 one_named s [] (x ∷ a) b p q = absurd p
 one_named s [] [] (y ∷ b) p q = absurd q

@@ -13,7 +13,8 @@ abbrev pub IsNormalizedRow : List (Name × ℕ) → Normalized → Type 0
 IsNormalizedRow mains row = row ≡ normalized_name mains (row_alone row)
 
 -- these are the rows of names in order, with the indices of their main names
-pub record AreRows (names : List (Name × NameLoad)) (named : List (List DependencyList)) (mains : List (Name × ℕ)) (rows : List Normalized) : Type 0 where
+pub record AreRows (names : List (Name × NameLoad)) (named : List (List DependencyList)) (mains : List (Name × ℕ))
+    (rows : List Normalized) : Type 0 where
   pub names_are : names ≡ name_loads rows
   pub named_are : named ≡ name_lists rows
   pub indexed : AreIndexed names names mains
@@ -21,7 +22,8 @@ pub record AreRows (names : List (Name × NameLoad)) (named : List (List Depende
   pub few : length names ≤ 4096
 
 -- What a load caches: its names in byte order, dependencies by indices, and what rows are made of.
-pub record IsKept (names : List (Name × NameLoad)) (named : List (List DependencyList)) (table : List (List Dependency)) (mains : List (Name × ℕ)) : Type 0 where
+pub record IsKept (names : List (Name × NameLoad)) (named : List (List DependencyList)) (table : List (List Dependency))
+    (mains : List (Name × ℕ)) : Type 0 where
   pub all : List Normalized
   pub are_rows : AreRows names named mains all
   pub table_is : table ≡ name_indices all
@@ -36,7 +38,8 @@ abbrev pub IsOwnUnit : HostViewMap → Name × NameLoad → Type 0
 IsOwnUnit t p = (unit : LoadedUnit) → p.1 ≡ OfUnit unit → (main t p.0 ≡ p.0) × AreNames t p.0 unit.names
 
 -- a unit that was read again and names what it named before
-pub record IsReadAgain (t : HostViewMap) (mains : List (Name × ℕ)) (old : Name × NameLoad) (lists : List DependencyList) (new : NameLoad) : Type 0 where
+pub record IsReadAgain (t : HostViewMap) (mains : List (Name × ℕ)) (old : Name × NameLoad) (lists : List DependencyList)
+    (new : NameLoad) : Type 0 where
   pub was : LoadedUnit
   pub load_is : old.1 ≡ OfUnit was
   pub unit : LoadedUnit
@@ -53,12 +56,16 @@ abbrev pub IsReadOrLeft : HostViewMap → List (Name × ℕ) → List ℕ → �
 IsReadOrLeft t mains affected i old lists new = (new.0 ≡ old.0) × (((new.1 ≡ old.1) × ¬ IsAmong i affected) ⊎ IsReadAgain t mains old lists new.1)
 
 -- the same for all names, by their indices
-abbrev pub AreReadOrLeft : HostViewMap → List (Name × ℕ) → List ℕ → List (Name × NameLoad) → List (List DependencyList) → List (Name × NameLoad) → Type 0
+abbrev pub AreReadOrLeft : HostViewMap → List (Name × ℕ) → List ℕ → List (Name × NameLoad) → List (List DependencyList)
+    → List (Name × NameLoad) → Type 0
 AreReadOrLeft t mains affected names named news =
-    (i : ℕ) (p : Name × NameLoad) → i < length names → IsReadOrLeft t mains affected i (slice_index_or names i p) (slice_index_or named i []) (slice_index_or news i p)
+    (i : ℕ) (p : Name × NameLoad) → i < length names
+    → IsReadOrLeft t mains affected i (slice_index_or names i p) (slice_index_or named i [])
+    (slice_index_or news i p)
 
 -- each name, with its lists, resolves to what it did, or its unit was read again
-abbrev pub AreLoadsAgain : HostViewMap → List (List ℕ) → List (Name × ℕ) → List (Name × NameLoad) → List (List DependencyList) → List (Name × NameLoad) → Type 0
+abbrev pub AreLoadsAgain : HostViewMap → List (List ℕ) → List (Name × ℕ) → List (Name × NameLoad)
+    → List (List DependencyList) → List (Name × NameLoad) → Type 0
 AreLoadsAgain t folders mains [] named [] = Unit {0}
 AreLoadsAgain t folders mains [] named (new ∷ news) = ⊥
 AreLoadsAgain t folders mains (old ∷ olds) named [] = ⊥

@@ -82,7 +82,8 @@ pub record AreNormalized (found names : List (Name × NameLoad)) (named : List (
   pub named_are : named ≡ name_lists (map (normalized_name mains) found)
 
 -- The load is made of what was found, for a host or without one, with these names asked for and these link targets.
-pub record IsNormalizedLoad (found : List (Name × NameLoad)) (viewer : Viewer) (extra : List Name) (words : NamedWords) (load : LoadMap) : Type 0 where
+pub record IsNormalizedLoad (found : List (Name × NameLoad)) (viewer : Viewer) (extra : List Name) (words : NamedWords)
+    (load : LoadMap) : Type 0 where
   pub viewer_is : load.viewer ≡ viewer
   pub extra_is : load.extra ≡ extra
   pub normalized : AreNormalized found load.names load.named

@@ -18,7 +18,8 @@ IsMissed folders name (OfUnit unit) = (folder : List ℕ) → IsAmong folder fol
 IsMissed folders name (OfAlias of) = Unit {0}
 
 -- this is what was loaded for a name, before names were replaced by main names, and the name has none of these indices
-pub record IsStill (affected : List ℕ) (names : List (Name × NameLoad)) (named : List (List DependencyList)) (name : Name) (one : NameLoad) : Type 0 where
+pub record IsStill (affected : List ℕ) (names : List (Name × NameLoad)) (named : List (List DependencyList))
+    (name : Name) (one : NameLoad) : Type 0 where
   pub index : ℕ
   pub below : index < length names
   pub load : NameLoad
@@ -27,7 +28,8 @@ pub record IsStill (affected : List ℕ) (names : List (Name × NameLoad)) (name
   pub left : ¬ IsAmong index affected
 
 -- all names of a load, each with what stays of it
-pub record AreStill (affected : List ℕ) (names : List (Name × NameLoad)) (named : List (List DependencyList)) (still : List (Name × Option NameLoad)) : Type 0 where
+pub record AreStill (affected : List ℕ) (names : List (Name × NameLoad)) (named : List (List DependencyList))
+    (still : List (Name × Option NameLoad)) : Type 0 where
   pub keys_are : keys_of still ≡ keys_of names
   pub each : All (λ p. IfSome p.1 (IsStill affected names named p.0)) still
 

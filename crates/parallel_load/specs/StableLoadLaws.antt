@@ -84,7 +84,8 @@ module _ (s t : HostViewMap) (leads : SameLeads s t) where
     within n m r (inl e) = (reached_closed (IsSource s extra) (LeadsTo s)).stepped n m r (inl (mains n ∙ e))
     within n m r (inr h) = let k = keeps n r (mains n ∙ h.own) in k.known m (listed_there t n m k.after k.is_after h)
 
-  pub same_sources : s.profile ≡ t.profile → (extra : List Name) → SameVisibleNames s t → (n : Name) → IsSource s extra n ↔ IsSource t extra n
+  pub same_sources : s.profile ≡ t.profile → (extra : List Name) → SameVisibleNames s t → (n : Name)
+      → IsSource s extra n ↔ IsSource t extra n
   same_sources profile extra same n = (there, back)
     where
       there : IsSource s extra n → IsSource t extra n

@@ -84,19 +84,23 @@ module _ (s t : EntryMap) (viewer : Viewer) (touched : List PlaceParts) (but : S
       by (inr same) = inr (place_decides s t viewer (own_path n l) same)
 
   at_levels : (ls : List ℕ)
-      → Stays ⊎ ((l : ℕ) → IsAmong l ls → viewed_at (host_view_of s viewer) (own_path n l) ≡ viewed_at (host_view_of t viewer) (own_path n l))
+      → Stays ⊎ ((l : ℕ) → IsAmong l ls
+      → viewed_at (host_view_of s viewer) (own_path n l) ≡ viewed_at (host_view_of t viewer) (own_path n l))
   at_levels [] = inr (λ l a. absurd a)
   at_levels (k ∷ ks) = by (at_level k) (at_levels ks)
     where
       pick : viewed_at (host_view_of s viewer) (own_path n k) ≡ viewed_at (host_view_of t viewer) (own_path n k)
           → ((l : ℕ) → IsAmong l ks → viewed_at (host_view_of s viewer) (own_path n l) ≡ viewed_at (host_view_of t viewer) (own_path n l))
-          → (l : ℕ) → IsAmong l (k ∷ ks) → viewed_at (host_view_of s viewer) (own_path n l) ≡ viewed_at (host_view_of t viewer) (own_path n l)
+          → (l : ℕ) → IsAmong l (k ∷ ks)
+          → viewed_at (host_view_of s viewer) (own_path n l) ≡ viewed_at (host_view_of t viewer) (own_path n l)
       pick e more l (inl i) = subst (λ j. viewed_at (host_view_of s viewer) (own_path n j) ≡ viewed_at (host_view_of t viewer) (own_path n j)) i e
       pick e more l (inr a) = more l a
 
       by : Stays ⊎ (viewed_at (host_view_of s viewer) (own_path n k) ≡ viewed_at (host_view_of t viewer) (own_path n k))
-          → Stays ⊎ ((l : ℕ) → IsAmong l ks → viewed_at (host_view_of s viewer) (own_path n l) ≡ viewed_at (host_view_of t viewer) (own_path n l))
-          → Stays ⊎ ((l : ℕ) → IsAmong l (k ∷ ks) → viewed_at (host_view_of s viewer) (own_path n l) ≡ viewed_at (host_view_of t viewer) (own_path n l))
+          → Stays ⊎ ((l : ℕ) → IsAmong l ks
+          → viewed_at (host_view_of s viewer) (own_path n l) ≡ viewed_at (host_view_of t viewer) (own_path n l))
+          → Stays ⊎ ((l : ℕ) → IsAmong l (k ∷ ks)
+          → viewed_at (host_view_of s viewer) (own_path n l) ≡ viewed_at (host_view_of t viewer) (own_path n l))
       by (inl w) more = inl w
       by (inr e) (inl w) = inl w
       by (inr e) (inr more) = inr (pick e more)
@@ -104,7 +108,8 @@ module _ (s t : EntryMap) (viewer : Viewer) (touched : List PlaceParts) (but : S
   words_stay : Stays
   words_stay = by (at_levels levels)
     where
-      by : Stays ⊎ ((l : ℕ) → IsAmong l levels → viewed_at (host_view_of s viewer) (own_path n l) ≡ viewed_at (host_view_of t viewer) (own_path n l)) → Stays
+      by : Stays ⊎ ((l : ℕ) → IsAmong l levels
+          → viewed_at (host_view_of s viewer) (own_path n l) ≡ viewed_at (host_view_of t viewer) (own_path n l)) → Stays
       by (inl w) = w
       by (inr same) = views_decide_link_targets (host_view_of s viewer) (host_view_of t viewer) n (λ l h. same l (level_among l h))
 

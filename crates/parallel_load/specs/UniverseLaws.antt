@@ -114,12 +114,14 @@ module _ (s : HostViewMap) (extra : List Name) (load : LoadMap) (l : IsLoad s ex
       same : (x y : LoadedUnit) → Some x ≡ Some y → x ≡ y
       same x y h = cc (h)
 
-      of_unit : (u : LoadedUnit) → load_at load n ≡ Some (OfUnit u) → u ≡ unit → IsInUniverse s extra n × (main s n ≡ n) × IsLoadedUnit s n unit
+      of_unit : (u : LoadedUnit) → load_at load n ≡ Some (OfUnit u) → u ≡ unit
+          → IsInUniverse s extra n × (main s n ≡ n) × IsLoadedUnit s n unit
       of_unit u f g =
           let p = is_load n (OfUnit u) f in
           (in_universe n (OfUnit u) f, p.is_unit.main_is, subst (IsLoadedUnit s n) g p)
 
-      by : (o : Option NameLoad) → load_at load n ≡ o → option_and_then unit_part o ≡ Some unit → IsInUniverse s extra n × (main s n ≡ n) × IsLoadedUnit s n unit
+      by : (o : Option NameLoad) → load_at load n ≡ o → option_and_then unit_part o ≡ Some unit
+          → IsInUniverse s extra n × (main s n ≡ n) × IsLoadedUnit s n unit
       by None f g = cc (g)
       by (Some (OfUnit u)) f g = of_unit u f (same u unit g)
       by (Some (OfAlias m)) f g = cc (g)
@@ -141,12 +143,14 @@ module _ (s : HostViewMap) (n : Name) where
       by false e = refl
 
   -- a name in a list by main names is the main name of one in the list, and not the unit's
-  from_mains : (names : List Name) (v : Name) → IsAmong v (filter (λ m. not (is_same m n)) (map (main s) names)) → HasSource (λ w z. main s w ≡ z) names v × (v ≢ n)
+  from_mains : (names : List Name) (v : Name) → IsAmong v (filter (λ m. not (is_same m n)) (map (main s) names))
+      → HasSource (λ w z. main s w ≡ z) names v × (v ≢ n)
   from_mains names v h =
       let r = among_filter (λ m. not (is_same m n)) (map (main s) names) v h in
       (among_map (main s) names v r.0, not_same v r.1)
 
-  to_mains : (names : List Name) (w v : Name) → IsAmong w names → main s w ≡ v → v ≢ n → IsAmong v (filter (λ m. not (is_same m n)) (map (main s) names))
+  to_mains : (names : List Name) (w v : Name) → IsAmong w names → main s w ≡ v → v ≢ n
+      → IsAmong v (filter (λ m. not (is_same m n)) (map (main s) names))
   to_mains names w v h e d =
       filter_among (λ m. not (is_same m n)) (map (main s) names) v (subst (λ (x : Name). IsAmong x (map (main s) names)) e (map_among (main s) names w h)) (same_not v d)
 
@@ -167,7 +171,8 @@ module _ (s : HostViewMap) (n : Name) where
         f.1,
       )
 
-  mains_listed : (lists : List DependencyList) (dep : DepKind) (w v : Name) → IsListed lists dep w → main s w ≡ v → v ≢ n → IsListed (map (list_by_mains (main s) n) lists) dep v
+  mains_listed : (lists : List DependencyList) (dep : DepKind) (w v : Name) → IsListed lists dep w → main s w ≡ v
+      → v ≢ n → IsListed (map (list_by_mains (main s) n) lists) dep v
   mains_listed lists dep w v l e d = record {
     list = list_by_mains (main s) n l.list;
     there = contains_from_among _ _ (map_among (list_by_mains (main s) n) lists l.list (among_from_contains l.list lists l.there));
@@ -177,7 +182,8 @@ module _ (s : HostViewMap) (n : Name) where
         (contains_from_among v _ (to_mains l.list.names w v (among_from_contains w l.list.names l.has_name) e d));
   }
 
-dependencies_of : (s : HostViewMap) (n : Name) (unit : LoadedUnit) (dep : DepKind) (v : Name) → IsLoadedUnit s n unit → IsListed unit.deps dep v ↔ IsDependency s n dep v
+dependencies_of : (s : HostViewMap) (n : Name) (unit : LoadedUnit) (dep : DepKind) (v : Name) → IsLoadedUnit s n unit
+    → IsListed unit.deps dep v ↔ IsDependency s n dep v
 dependencies_of s n unit dep v p = (there, back)
   where
     lists : List DependencyList

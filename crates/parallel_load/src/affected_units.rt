@@ -17,8 +17,10 @@ use unit_name::UnitName;
 /// runs out.
 pub(crate) fn indices_affected(loaded: &Loaded, parts: &[Bytes]) -> Result<Vec<usize>, AllocError>
     ensures ascending { IfOk result (λ affected. IsStrictlySortedBy nat_cmp affected.items) }
-    ensures within { IfOk result (λ affected. All (λ i. i < length loaded.now.names) affected.items) }
-    ensures affected { IfOk result (λ affected. AreAffected parts.now loaded.now.names affected.items) }
+    ensures within { IfOk result
+        (λ affected. All (λ i. i < length loaded.now.names) affected.items) }
+    ensures affected { IfOk result
+        (λ affected. AreAffected parts.now loaded.now.names affected.items) }
 {
     let alloc = loaded.allocator();
     let mut affected = Vec::new(alloc);
@@ -41,7 +43,8 @@ fn add_of_type(
     affected: &mut Vec<usize>,
 ) -> Result<(), AllocError>
     requires word { IsOfType part.now word.now }
-    ensures grows { OnOk result (GrowsWithin (length loaded.now.names) affected.old.items affected.new.items) }
+    ensures grows { OnOk result
+        (GrowsWithin (length loaded.now.names) affected.old.items affected.new.items) }
     ensures affected { OnOk result (AreAffectedBy loaded.now.names affected.new.items part.now) }
 {
     let names = loaded.names();
@@ -60,7 +63,8 @@ fn add_by_search_prefix(
     affected: &mut Vec<usize>,
 ) -> Result<(), AllocError>
     requires no_type { IsOfNoType part.now }
-    ensures grows { OnOk result (GrowsWithin (length loaded.now.names) affected.old.items affected.new.items) }
+    ensures grows { OnOk result
+        (GrowsWithin (length loaded.now.names) affected.old.items affected.new.items) }
     ensures affected { OnOk result (AreAffectedBy loaded.now.names affected.new.items part.now) }
 {
     let names = loaded.names();
@@ -98,8 +102,10 @@ fn add_indices(
     affected: &mut Vec<usize>,
 ) -> Result<(), AllocError>
     requires within { indices.end ≤ length names.now }
-    ensures grows { OnOk result (GrowsWithin (length names.now) affected.old.items affected.new.items) }
-    ensures affected { OnOk result (AreNoted names.now affected.new.items part.now ending.now indices.start indices.end) }
+    ensures grows { OnOk result
+        (GrowsWithin (length names.now) affected.old.items affected.new.items) }
+    ensures affected { OnOk result
+        (AreNoted names.now affected.new.items part.now ending.now indices.start indices.end) }
 {
     for index in indices.start..indices.end {
         if ends_with(&names[index].0, ending) {
@@ -121,8 +127,11 @@ fn add_owners(
 ) -> Result<(), AllocError>
     requires owners { All (λ p. p.1 < length names.now) second.now }
     requires within { places.end ≤ length second.now }
-    ensures grows { OnOk result (GrowsWithin (length names.now) affected.old.items affected.new.items) }
-    ensures affected { OnOk result (AreOwnersNoted names.now second.now affected.new.items part.now ending.now places.start places.end) }
+    ensures grows { OnOk result
+        (GrowsWithin (length names.now) affected.old.items affected.new.items) }
+    ensures affected { OnOk result
+        (AreOwnersNoted names.now second.now affected.new.items part.now ending.now places.start
+        places.end) }
 {
     for place in places.start..places.end {
         if ends_with(&second[place].0, ending) {
@@ -141,7 +150,8 @@ fn add_if_affected(
     affected: &mut Vec<usize>,
 ) -> Result<(), AllocError>
     requires within { index < length names.now }
-    ensures grows { OnOk result (GrowsWithin (length names.now) affected.old.items affected.new.items) }
+    ensures grows { OnOk result
+        (GrowsWithin (length names.now) affected.old.items affected.new.items) }
     ensures noted { OnOk result (IsNoted names.now affected.new.items part.now index) }
 {
     let (name, load) = &names[index];
@@ -158,7 +168,8 @@ fn is_in_footprint(
     load: &NameLoad,
     part: &Bytes,
 ) -> Result<bool, AllocError>
-    ensures missed { IfOk result (λ is_in. is_in ≡ false → ¬ IsInFootprint part.now (name.now, load.now)) }
+    ensures missed { IfOk result
+        (λ is_in. is_in ≡ false → ¬ IsInFootprint part.now (name.now, load.now)) }
 {
     match load {
         NameLoad::Unit(unit) => {

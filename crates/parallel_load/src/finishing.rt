@@ -106,13 +106,15 @@ fn normalize_by_workers<R: Threads + Sync>(
     workers: usize,
 ) -> Result<Vec<Normalized>, AllocError>
     requires some { 0 < workers }
-    ensures names { IfOk result (λ names. names.items ≡ map (normalized_name mains.now) pairs.items) }
+    ensures names { IfOk result
+        (λ names. names.items ≡ map (normalized_name mains.now) pairs.items) }
 {
     if workers == 1 {
         return mains.normalize_all(alloc, pairs);
     }
     let normalize = |chunk: Chunk<(UnitName, RawLoad)>| -> Result<Vec<Normalized>, AllocError>
-        ensures { IfOk result (λ names. names.items ≡ map (normalized_name mains.entry.now) chunk.nodes.items) }
+        ensures { IfOk result
+            (λ names. names.items ≡ map (normalized_name mains.entry.now) chunk.nodes.items) }
     { mains.normalize_all(alloc, chunk.nodes) };
     work_by_chunks(rt, alloc, pairs, workers, &normalize)
 }
@@ -127,7 +129,8 @@ fn load_of(
     mains: Mains,
     fresh: u64,
 ) -> Result<Loaded, AllocError>
-    requires kept { IsKept (name_loads normalized.items) (name_lists normalized.items) (name_indices normalized.items) mains }
+    requires kept { IsKept (name_loads normalized.items) (name_lists normalized.items)
+        (name_indices normalized.items) mains }
     ensures viewer { IfOk result (λ load. load.viewer ≡ viewer.now) }
     ensures extra { IfOk result (λ load. load.extra ≡ extra.now) }
     ensures names { IfOk result (λ load. load.names ≡ name_loads normalized.items) }

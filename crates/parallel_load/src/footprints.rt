@@ -57,7 +57,11 @@ fn own_parts(alloc: Global, name: &UnitName) -> Result<Vec<Bytes>, AllocError>
 
 // Appends the folders with these names.
 fn append_dirs(alloc: Global, parts: &mut Vec<Bytes>, names: &[UnitName]) -> Result<(), AllocError>
-    ensures appended { OnOk result (parts.new.items ≡ parts.old.items ++ (name_dirs names.now ++ (type_dirs names.now
+    ensures appended { OnOk result
+        (parts.new.items
+        ≡ parts.old.items
+        ++ (name_dirs names.now
+        ++ (type_dirs names.now
         ++ (dirs_with (ending Wants) names.now ++ dirs_with (ending Requires) names.now)))) }
 {
     parts.append(&mut name_dirs(alloc, names, b".d")?)?;

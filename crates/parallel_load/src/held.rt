@@ -22,7 +22,8 @@ pub(crate) fn still_of(
     affected: &[usize],
 ) -> Result<Vec<(UnitName, Option<RawLoad>)>, AllocError>
     requires ascending { IsStrictlySortedBy nat_cmp affected.now }
-    ensures still { IfOk result (λ still. AreStill affected.now loaded.now.names loaded.now.named still.items) }
+    ensures still { IfOk result
+        (λ still. AreStill affected.now loaded.now.names loaded.now.named still.items) }
 {
     let names = loaded.names();
     let named = loaded.named();

@@ -123,9 +123,16 @@ impl Model for Loaded {
 
     ghost coded = { coded_load };
 
-    ghost view = { λ l. record { viewer = l.viewer; extra = l.extra; names = l.names.items; named = l.kept.named.items; words = l.kept.words } };
+    ghost view = { λ l. record {
+      viewer = l.viewer;
+      extra = l.extra;
+      names = l.names.items;
+      named = l.kept.named.items;
+      words = l.kept.words;
+    } };
 
-    ghost invariant = { λ l. IsKept l.names.items l.kept.named.items l.kept.deps.items l.kept.mains × AreSecondaryNames l.names.items l.kept.second };
+    ghost invariant = { λ l. IsKept l.names.items l.kept.named.items l.kept.deps.items l.kept.mains
+        × AreSecondaryNames l.names.items l.kept.second };
 }
 
 impl Loaded {
@@ -139,7 +146,13 @@ impl Loaded {
     ) -> Loaded
         requires kept { IsKept names.items kept.named.items kept.deps.items kept.mains }
         requires second { AreSecondaryNames names.items kept.second }
-        ensures load { result ≡ record { viewer = viewer; extra = extra; names = names.items; named = kept.named.items; words = kept.words } }
+        ensures load { result ≡ record {
+          viewer = viewer;
+          extra = extra;
+          names = names.items;
+          named = kept.named.items;
+          words = kept.words;
+        } }
     {
         Loaded {
             viewer,
@@ -253,7 +266,8 @@ impl Loaded {
 
     /// The cached data, shared. Fails only if memory runs out.
     pub(crate) fn kept(&self) -> Result<Shared<CachedRows>, AllocError>
-        ensures kept { IfOk result (λ kept. IsKept self.now.names self.now.named kept.deps.items kept.mains) }
+        ensures kept { IfOk result
+            (λ kept. IsKept self.now.names self.now.named kept.deps.items kept.mains) }
         ensures named { IfOk result (λ kept. kept.named.items ≡ self.now.named) }
         ensures second { IfOk result (λ kept. AreSecondaryNames self.now.names kept.second) }
         ensures words { IfOk result (λ kept. kept.words ≡ self.now.words) }
@@ -285,7 +299,8 @@ impl Loaded {
     /// name of a unit. Allocates nothing.
     pub fn main_index_at(&self, at: usize) -> usize
         requires within { at < length self.now.names }
-        ensures index { (name : _) → IsAt name_cmp name self.now.names at → IsIndexOfMain self.now name result }
+        ensures index { (name : _) → IsAt name_cmp name self.now.names at
+            → IsIndexOfMain self.now name result }
     {
         self.kept.get().mains.main_of(at)
     }

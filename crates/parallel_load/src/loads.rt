@@ -37,8 +37,10 @@ pub fn load_here(
     extra: &[UnitName],
 ) -> Result<Loaded, LoadFault>
     ensures load { IfOk result (IsLoad (host_view_of store.now viewer.now) extra.now) }
-    ensures over { IfErr result (λ fault. OnTooMany fault (IsTooLarge (host_view_of store.now viewer.now) extra.now)) }
-    ensures not_over { IfOk result (λ _. ¬ IsTooLarge (host_view_of store.now viewer.now) extra.now) }
+    ensures over { IfErr result
+        (λ fault. OnTooMany fault (IsTooLarge (host_view_of store.now viewer.now) extra.now)) }
+    ensures not_over { IfOk result
+        (λ _. ¬ IsTooLarge (host_view_of store.now viewer.now) extra.now) }
     ensures no_workers { IfErr result (λ fault. OnWorkers fault ⊥) }
 {
     let Start {
@@ -69,8 +71,10 @@ pub fn load_fleet<R: Threads + Sync, G: Gate + Sync>(
 ) -> Result<Loaded, LoadFault>
     ensures workers { (result ≡ Err Workers) ↔ ((workers ≡ 0) ⊎ (64 < workers)) }
     ensures load { IfOk result (IsLoad (host_view_of store.now viewer.now) extra.now) }
-    ensures over { IfErr result (λ fault. OnTooMany fault (IsTooLarge (host_view_of store.now viewer.now) extra.now)) }
-    ensures not_over { IfOk result (λ _. ¬ IsTooLarge (host_view_of store.now viewer.now) extra.now) }
+    ensures over { IfErr result
+        (λ fault. OnTooMany fault (IsTooLarge (host_view_of store.now viewer.now) extra.now)) }
+    ensures not_over { IfOk result
+        (λ _. ¬ IsTooLarge (host_view_of store.now viewer.now) extra.now) }
 {
     if !is_worker_count(workers) {
         return Err(LoadFault::Workers);
@@ -99,7 +103,8 @@ fn start_of<'a>(
     viewer: &'a Viewer,
     extra: &[UnitName],
 ) -> Result<Start<'a>, AllocError>
-    ensures words { IfOk result (λ start. AreOwnLinkTargets (host_view_of store.now viewer.now) start.words) }
+    ensures words { IfOk result
+        (λ start. AreOwnLinkTargets (host_view_of store.now viewer.now) start.words) }
     ensures sources { IfOk result (λ start. (n : _) → IsAmong n start.sources.items
         ↔ IsSource (host_view_of store.now viewer.now) extra.now n) }
     ensures view { IfOk result (λ start. start.loader.index ≡ host_view_of store.now viewer.now) }

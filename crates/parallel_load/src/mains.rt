@@ -100,7 +100,8 @@ impl Mains {
         alloc: Global,
         names: Vec<(UnitName, RawLoad)>,
     ) -> Result<Vec<Normalized>, AllocError>
-        ensures names { IfOk result (λ all. all.items ≡ map (normalized_name self.now) names.items) }
+        ensures names { IfOk result
+            (λ all. all.items ≡ map (normalized_name self.now) names.items) }
     {
         let mut all = Vec::with_capacity(alloc, names.len())?;
         for (name, kept) in names {
@@ -158,7 +159,8 @@ impl Mains {
         unit: Shared<Unit>,
         lists: NamedLists,
     ) -> Result<Normalized, AllocError>
-        ensures one { IfOk result (λ one. one ≡ normalized_name self.now (name, with_lists (OfUnit unit) lists)) }
+        ensures one { IfOk result
+            (λ one. one ≡ normalized_name self.now (name, with_lists (OfUnit unit) lists)) }
     {
         let (normalized, deps) = self.normalize_deps(alloc, &unit.get().name, lists.as_slice())?;
         let unit = with_dependencies(alloc, unit, normalized)?;
@@ -177,8 +179,10 @@ impl Mains {
         unit: &UnitName,
         lists: &[DependencyList],
     ) -> Result<(Items<DependencyList>, Shared<Items<Dependency>>), AllocError>
-        ensures lists { IfOk result (λ made. made.0 ≡ map (list_normalized self.now unit.now) lists.now) }
-        ensures deps { IfOk result (λ made. made.1 ≡ flat_map (list_indices self.now unit.now) lists.now) }
+        ensures lists { IfOk result
+            (λ made. made.0 ≡ map (list_normalized self.now unit.now) lists.now) }
+        ensures deps { IfOk result
+            (λ made. made.1 ≡ flat_map (list_indices self.now unit.now) lists.now) }
     {
         let mut deps = Items::new(alloc);
         let normalized = self.normalize_lists(alloc, unit, lists, &mut deps)?;
@@ -193,8 +197,10 @@ impl Mains {
         lists: &[DependencyList],
         deps: &mut Items<Dependency>,
     ) -> Result<Items<DependencyList>, AllocError>
-        ensures lists { IfOk result (λ normalized. normalized ≡ map (list_normalized self.now unit.now) lists.now) }
-        ensures deps { OnOk result (deps.new ≡ deps.old ++ flat_map (list_indices self.now unit.now) lists.now) }
+        ensures lists { IfOk result
+            (λ normalized. normalized ≡ map (list_normalized self.now unit.now) lists.now) }
+        ensures deps { OnOk result
+            (deps.new ≡ deps.old ++ flat_map (list_indices self.now unit.now) lists.now) }
     {
         let mut normalized = Vec::with_capacity(alloc, lists.len())?;
         for list in lists {
@@ -211,8 +217,10 @@ impl Mains {
         list: &DependencyList,
         deps: &mut Items<Dependency>,
     ) -> Result<DependencyList, AllocError>
-        ensures list { IfOk result (λ normalized. normalized ≡ list_normalized self.now unit.now list.now) }
-        ensures deps { OnOk result (deps.new ≡ deps.old ++ list_indices self.now unit.now list.now) }
+        ensures list { IfOk result
+            (λ normalized. normalized ≡ list_normalized self.now unit.now list.now) }
+        ensures deps { OnOk result
+            (deps.new ≡ deps.old ++ list_indices self.now unit.now list.now) }
     {
         let kind = list.kind;
         let mut mains = Vec::with_capacity(alloc, list.names.as_slice().len())?;

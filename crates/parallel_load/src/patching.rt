@@ -27,9 +27,12 @@ pub(crate) fn patches(
     parts: &[Bytes],
 ) -> Result<Option<Patches>, AllocError>
     requires before { IsBefore loaded.now store.now touched.now }
-    requires words { All (KeepsLinkTargets loaded.now.viewer loaded.now.words (host_view_of store.now loaded.now.viewer)) touched.now }
+    requires words { All (KeepsLinkTargets loaded.now.viewer loaded.now.words
+        (host_view_of store.now loaded.now.viewer)) touched.now }
     requires parts { All (HasParts loaded.now.viewer parts.now) touched.now }
-    ensures units { IfOk result (λ patches. IfSome patches (AreUnitsOf (host_view_of store.now loaded.now.viewer) loaded.now)) }
+    ensures units { IfOk result
+        (λ patches. IfSome patches
+        (AreUnitsOf (host_view_of store.now loaded.now.viewer) loaded.now)) }
 {
     let alloc = loaded.allocator();
     let viewer = loaded.viewer();
@@ -54,9 +57,12 @@ fn units_again(
     requires affected { All (λ i. i < length names.now) affected.now }
     requires each { length kept.now.named.items ≡ length names.now }
     requires own { All (IsOwnUnit (host_view_of store.now viewer.now)) names.now }
-    ensures within { IfOk result (λ again. IfSome again (λ units. All (λ u. u.0 < length names.now) units.items)) }
-    ensures again { IfOk result (λ again. IfSome again (λ units. AreReadOrLeft (host_view_of store.now viewer.now)
-        kept.now.mains affected.now names.now kept.now.named.items (with_loads names.now units.items))) }
+    ensures within { IfOk result
+        (λ again. IfSome again (λ units. All (λ u. u.0 < length names.now) units.items)) }
+    ensures again { IfOk result
+        (λ again. IfSome again
+        (λ units. AreReadOrLeft (host_view_of store.now viewer.now) kept.now.mains affected.now
+        names.now kept.now.named.items (with_loads names.now units.items))) }
 {
     let named = kept.named.as_slice();
     let mut units = Vec::with_capacity(alloc, affected.len())?;
@@ -81,8 +87,9 @@ fn unit_again(
     lists: &NamedLists,
 ) -> Result<Option<NameLoad>, AllocError>
     requires own { IsOwnUnit (host_view_of store.now viewer.now) one.now }
-    ensures again { IfOk result (λ again. IfSome again (IsReadAgain (host_view_of store.now viewer.now)
-        mains.now one.now lists.now)) }
+    ensures again { IfOk result
+        (λ again. IfSome again
+        (IsReadAgain (host_view_of store.now viewer.now) mains.now one.now lists.now)) }
 {
     let (name, load) = one;
     let NameLoad::Unit(was) = load else {

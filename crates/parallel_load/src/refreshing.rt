@@ -34,7 +34,9 @@ pub fn patches_for(
     touched: &[Place],
 ) -> Result<Option<Patches>, AllocError>
     requires before { IsBefore loaded.now store.now touched.now }
-    ensures units { IfOk result (λ patches. IfSome patches (AreUnitsOf (host_view_of store.now loaded.now.viewer) loaded.now)) }
+    ensures units { IfOk result
+        (λ patches. IfSome patches
+        (AreUnitsOf (host_view_of store.now loaded.now.viewer) loaded.now)) }
 {
     let alloc = loaded.allocator();
     if !keeps_link_targets(alloc, loaded, store, touched)? {
@@ -52,9 +54,13 @@ pub fn refreshed_anew(
     touched: &[Place],
 ) -> Result<Loaded, LoadFault>
     requires before { IsBefore loaded.now store.now touched.now }
-    ensures load { IfOk result (IsLoad (host_view_of store.now loaded.now.viewer) loaded.now.extra) }
-    ensures over { IfErr result (λ fault. OnTooMany fault (IsTooLarge (host_view_of store.now loaded.now.viewer) loaded.now.extra)) }
-    ensures not_over { IfOk result (λ _. ¬ IsTooLarge (host_view_of store.now loaded.now.viewer) loaded.now.extra) }
+    ensures load { IfOk result
+        (IsLoad (host_view_of store.now loaded.now.viewer) loaded.now.extra) }
+    ensures over { IfErr result
+        (λ fault. OnTooMany fault
+        (IsTooLarge (host_view_of store.now loaded.now.viewer) loaded.now.extra)) }
+    ensures not_over { IfOk result
+        (λ _. ¬ IsTooLarge (host_view_of store.now loaded.now.viewer) loaded.now.extra) }
     ensures no_workers { IfErr result (λ fault. OnWorkers fault ⊥) }
 {
     let alloc = loaded.allocator();
@@ -76,12 +82,17 @@ fn found_again(
     parts: &[Bytes],
 ) -> Result<BTreeMap<UnitName, RawLoad>, LoadFault>
     requires before { IsBefore loaded.now store.now touched.now }
-    requires words { All (KeepsLinkTargets loaded.now.viewer loaded.now.words (host_view_of store.now loaded.now.viewer)) touched.now }
+    requires words { All (KeepsLinkTargets loaded.now.viewer loaded.now.words
+        (host_view_of store.now loaded.now.viewer)) touched.now }
     requires parts { All (HasParts loaded.now.viewer parts.now) touched.now }
-    ensures found { IfOk result (λ found. IsFound (host_view_of store.now loaded.now.viewer) loaded.now.extra found.entries) }
+    ensures found { IfOk result
+        (λ found. IsFound
+        (host_view_of store.now loaded.now.viewer) loaded.now.extra found.entries) }
     ensures ascending { IfOk result (λ found. IsStrictlySortedBy name_cmp (keys found)) }
     ensures few { IfOk result (λ found. length found.entries ≤ 4096) }
-    ensures over { IfErr result (λ fault. OnTooMany fault (IsTooLarge (host_view_of store.now loaded.now.viewer) loaded.now.extra)) }
+    ensures over { IfErr result
+        (λ fault. OnTooMany fault
+        (IsTooLarge (host_view_of store.now loaded.now.viewer) loaded.now.extra)) }
     ensures no_workers { IfErr result (λ fault. OnWorkers fault ⊥) }
 {
     let alloc = loaded.allocator();

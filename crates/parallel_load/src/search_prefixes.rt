@@ -11,7 +11,8 @@ use unit_name::UnitName;
 /// component up to and with its first dot or at sign, or without that byte where a dash stands before it, since
 /// prefixes are cut after dashes. None where the component has neither a dot nor an at sign.
 pub(crate) fn search_prefix_of(part: &[u8]) -> Option<&[u8]>
-    ensures search_prefix { MatchOption result (HasNoStop part.now) (λ search_prefix. IsSearchPrefixOf part.now search_prefix.now) }
+    ensures search_prefix { MatchOption result (HasNoStop part.now)
+        (λ search_prefix. IsSearchPrefixOf part.now search_prefix.now) }
 {
     let stop = stop_of(part)?;
     if stop > 0 && part[stop - 1] == b'-' {
@@ -67,7 +68,8 @@ fn is_below(name: &UnitName, search_prefix: &[u8]) -> bool
 
 // Whether a name is less than these bytes, or begins with them.
 fn is_below_or_begins(name: &UnitName, search_prefix: &[u8]) -> bool
-    ensures test { result ≡ (is_lt (name_cmp name.now search_prefix.now) || begins_so search_prefix.now name.now) }
+    ensures test { result ≡ (is_lt (name_cmp name.now search_prefix.now)
+        || begins_so search_prefix.now name.now) }
 {
     is_below(name, search_prefix) || name.bytes().starts_with(search_prefix)
 }

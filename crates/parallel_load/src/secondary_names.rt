@@ -78,7 +78,8 @@ fn add_others(
     index: usize,
     names: &[UnitName],
 ) -> Result<(), AllocError>
-    ensures added { OnOk result (AddsNames index name.now names.now pairs.old.items pairs.new.items) }
+    ensures added { OnOk result
+        (AddsNames index name.now names.now pairs.old.items pairs.new.items) }
 {
     let own = name.bytes();
     for other in names {

@@ -31,7 +31,8 @@ fn add_visible(
     words: &CachedLinkTargets,
     names: &mut Vec<UnitName>,
 ) -> Result<(), AllocError>
-    ensures added { OnOk result (names.new.items ≡ names.old.items ++ filter_map (λ p. whole_name p.0) words.now) }
+    ensures added { OnOk result
+        (names.new.items ≡ names.old.items ++ filter_map (λ p. whole_name p.0) words.now) }
 {
     for (name, _) in words.names() {
         if let Some(name) = whole_name(alloc, name.as_slice())? {

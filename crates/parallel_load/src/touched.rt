@@ -20,8 +20,10 @@ pub(crate) fn keeps_link_targets(
     store: &Store,
     touched: &[Place],
 ) -> Result<bool, AllocError>
-    ensures kept { IfOk result (λ kept. kept ≡ true
-        → All (KeepsLinkTargets loaded.now.viewer loaded.now.words (host_view_of store.now loaded.now.viewer)) touched.now) }
+    ensures kept { IfOk result
+        (λ kept. kept ≡ true
+        → All (KeepsLinkTargets loaded.now.viewer loaded.now.words
+        (host_view_of store.now loaded.now.viewer)) touched.now) }
 {
     let viewer = loaded.viewer();
     let words = loaded.words();
@@ -42,7 +44,8 @@ fn keeps_link_targets_at(
     viewer: &Viewer,
     place: &Place,
 ) -> Result<bool, AllocError>
-    ensures kept { IfOk result (λ kept. kept ≡ true → KeepsLinkTargets viewer.now words.now view.now place.now) }
+    ensures kept { IfOk result
+        (λ kept. kept ≡ true → KeepsLinkTargets viewer.now words.now view.now place.now) }
 {
     if !is_viewed(viewer, place) || !place.path.folder().is_empty() {
         return Ok(true);

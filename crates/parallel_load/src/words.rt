@@ -103,7 +103,8 @@ fn with_words(
     view: &HostView,
     shown: Vec<Bytes>,
 ) -> Result<Vec<(Bytes, LinkTargets)>, AllocError>
-    ensures words { IfOk result (λ names. names.items ≡ map (with_own_link_targets view.now) shown.items) }
+    ensures words { IfOk result
+        (λ names. names.items ≡ map (with_own_link_targets view.now) shown.items) }
 {
     let mut names = Vec::with_capacity(alloc, shown.len())?;
     for name in shown {

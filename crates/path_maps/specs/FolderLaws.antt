@@ -21,9 +21,11 @@ module _ {A E : Type 0} (test : A → Bool) where
   ]
 
   -- If no pair of another key's part passes, what passes is what passes of this key's part.
-  module _ {K V : Type 0} (R : K → K → Ordering) (o : IsTotalOrder R) (exact : (k l : K) → R k l ≡ Equal → k ≡ l) (part : K → List V → List (A × E)) (k : K) (nothing : (l : K) → part l [] ≡ [])
+  module _ {K V : Type 0} (R : K → K → Ordering) (o : IsTotalOrder R) (exact : (k l : K) → R k l ≡ Equal → k ≡ l)
+      (part : K → List V → List (A × E)) (k : K) (nothing : (l : K) → part l [] ≡ [])
       (apart : (l : K) (v : List V) → eq_by_cmp R k l ≡ false → filter (λ p. test p.0) (part l v) ≡ []) where
-    filter-spread : (es : List (K × List V)) → IsTrue (is_sorted R es) → filter (λ p. test p.0) (spread part es) ≡ filter (λ p. test p.0) (part k (or_empty (find R k es)))
+    filter-spread : (es : List (K × List V)) → IsTrue (is_sorted R es)
+        → filter (λ p. test p.0) (spread part es) ≡ filter (λ p. test p.0) (part k (or_empty (find R k es)))
     filter-spread [] s = sym (ap (filter (λ p. test p.0)) (nothing k))
     filter-spread (e ∷ es) s =
         let p = and_parts _ _ s in
@@ -46,13 +48,15 @@ number_test a b = by (nat_cmp a b) refl
     by Greater e = grind (arith, nat_tests)
 
 module _ (rank : ℕ) (folder : List ℕ) where
-  other_rank : (l : ℕ) (folders : FolderMap) → eq_by_cmp nat_cmp rank l ≡ false → filter (λ p. is_in rank folder p.0) (in_rank l folders) ≡ []
+  other_rank : (l : ℕ) (folders : FolderMap) → eq_by_cmp nat_cmp rank l ≡ false
+      → filter (λ p. is_in rank folder p.0) (in_rank l folders) ≡ []
   other_rank l folders t =
       let unlike : (l == rank) ≡ false = sym (number_test l rank) ∙ (eq_by_cmp_equiv nat_cmp_total).symm l rank ∙ t in
       none_passes (is_in rank folder) (in_rank l folders)
       (all_keys_weaker (λ q. q.rank ≡ l) (λ q. is_in rank folder q ≡ false) (λ q is. ap (λ r. (r == rank) && bytes_eq q.folder folder) is ∙ ap (λ b. b && bytes_eq q.folder folder) unlike) (in_rank l folders) (of_rank l folders))
 
-  other_folder : (l : List ℕ) (names : NameMap) → eq_by_cmp bytes_cmp folder l ≡ false → filter (λ p. is_in rank folder p.0) (in_folder rank l names) ≡ []
+  other_folder : (l : List ℕ) (names : NameMap) → eq_by_cmp bytes_cmp folder l ≡ false
+      → filter (λ p. is_in rank folder p.0) (in_folder rank l names) ≡ []
   other_folder l names t =
       let unlike : bytes_eq l folder ≡ false = sym (is_eq-slice_cmp l folder) ∙ (eq_by_cmp_equiv nat_list_cmp_total).symm l folder ∙ t in
       none_passes (is_in rank folder) (in_folder rank l names)
@@ -69,17 +73,21 @@ module _ (rank : ℕ) (folder : List ℕ) where
       (λ q is. (λ i. is_in rank folder (record { rank = is.0 i; folder = is.1 i; name = q.name })) ∙ ap (λ b. b && bytes_eq folder folder) (sym (number_test rank rank) ∙ ap is_eq (tied_itself nat_cmp_total rank)) ∙ sym (is_eq-slice_cmp folder folder) ∙ ap is_eq (tied_itself nat_list_cmp_total folder))
       (in_folder rank folder names) (of_folder rank folder names))
 
-  in_folders : (folders : FolderMap) → AreFolders folders → filter (λ p. is_in rank folder p.0) (in_rank rank folders) ≡ in_folder rank folder (or_empty (find bytes_cmp folder folders))
+  in_folders : (folders : FolderMap) → AreFolders folders → filter (λ p. is_in rank folder p.0) (in_rank rank folders)
+      ≡ in_folder rank folder (or_empty (find bytes_cmp folder folders))
   in_folders folders are =
       filter-spread (is_in rank folder) bytes_cmp nat_list_cmp_total (slice_cmp-IsAntisymmetric nat_cmp-IsAntisymmetric) (in_folder rank) folder (λ l. refl) other_folder folders are.sorted
       ∙ this_folder (or_empty (find bytes_cmp folder folders))
 
   -- The entries in a folder are what two look-ups find.
-  pub folder-listed : (m : RankMap) → AreRanks m → filter (λ p. is_in rank folder p.0) (listed m) ≡ in_folder rank folder (names_in m rank folder)
+  pub folder-listed : (m : RankMap) → AreRanks m
+      → filter (λ p. is_in rank folder p.0) (listed m) ≡ in_folder rank folder (names_in m rank folder)
   folder-listed m are =
       filter-spread (is_in rank folder) nat_cmp nat_cmp_total nat_cmp-IsAntisymmetric in_rank rank (λ l. refl) other_rank m are.sorted
       ∙ by (find nat_cmp rank m) refl
     where
-      by : (x : Option FolderMap) → find nat_cmp rank m ≡ x → filter (λ p. is_in rank folder p.0) (in_rank rank (or_empty x)) ≡ in_folder rank folder (or_empty (find bytes_cmp folder (or_empty x)))
+      by : (x : Option FolderMap) → find nat_cmp rank m ≡ x
+          → filter (λ p. is_in rank folder p.0) (in_rank rank (or_empty x))
+          ≡ in_folder rank folder (or_empty (find bytes_cmp folder (or_empty x)))
       by None e = refl
       by (Some folders) e = in_folders folders (found_well_formed nat_cmp FoldersBelow AreFolders rank m are.held folders e)

@@ -61,7 +61,8 @@ half_of_even r = omega arith
 
 -- ---- places that are looked at
 
-fleets_viewed : (v : HostViewMap) (rank : ℕ) (folder name : List ℕ) → finmap.get (view v) (path_at (rank + rank + 1) folder name) ≡ finmap.get v.fleet (path_at rank folder name)
+fleets_viewed : (v : HostViewMap) (rank : ℕ) (folder name : List ℕ)
+    → finmap.get (view v) (path_at (rank + rank + 1) folder name) ≡ finmap.get v.fleet (path_at rank folder name)
 fleets_viewed v rank folder name =
     get-view (path_at (rank + rank + 1) folder name) v
     ∙ ap (λ b. option_and_then (λ (held : PathMap). finmap.get held (path_at ((rank + rank + 1) / 2) folder name)) (cond b (option_map (λ (o : Own). o.held) v.own) (Some v.fleet))) (odd_level rank)
@@ -90,17 +91,22 @@ other_host k h rank e same = by (bytes_eq k h) (ap (bytes_eq k) same ∙ (bytes_
     by false t e = cc (t)
 
 -- what a host has for itself is what the store has at its places
-own_held : (s : EntryMap) (h : List ℕ) (profile : Profile) (path : PathParts) → finmap.get (view (host_view_of s (of_host h profile))) (path_at (path.rank + path.rank) path.folder path.name) ≡ finmap.get s (within (Host h) path)
+own_held : (s : EntryMap) (h : List ℕ) (profile : Profile) (path : PathParts)
+    → finmap.get (view (host_view_of s (of_host h profile))) (path_at (path.rank + path.rank) path.folder path.name)
+    ≡ finmap.get s (within (Host h) path)
 own_held s h profile path = own_viewed (record { host = h; held = scope_of s (Host h) }) (scope_of s Fleet) profile path.rank path.folder path.name ∙ get-scope_of (Host h) s path
 
-fleets_held : (s : EntryMap) (viewer : Viewer) (path : PathParts) → finmap.get (view (host_view_of s viewer)) (path_at (path.rank + path.rank + 1) path.folder path.name) ≡ finmap.get s (within Fleet path)
+fleets_held : (s : EntryMap) (viewer : Viewer) (path : PathParts)
+    → finmap.get (view (host_view_of s viewer)) (path_at (path.rank + path.rank + 1) path.folder path.name)
+    ≡ finmap.get s (within Fleet path)
 fleets_held s viewer path = fleets_viewed (host_view_of s viewer) path.rank path.folder path.name ∙ get-scope_of Fleet s path
 
 pub places_are_in_views : PlacesAreInViews
 places_are_in_views s viewer place level is = by viewer.host place.scope is
   where
     by : (host : Option (List ℕ)) (scope : Scope) → level_for (record viewer { host = host }) (within scope place.path) ≡ Some level
-        → finmap.get (view (host_view_of s (record viewer { host = host }))) (path_at level place.path.folder place.path.name) ≡ finmap.get s (within scope place.path)
+        → finmap.get (view (host_view_of s (record viewer { host = host })))
+        (path_at level place.path.folder place.path.name) ≡ finmap.get s (within scope place.path)
     by host Fleet e =
         ap (λ l. finmap.get (view (host_view_of s (record viewer { host = host }))) (path_at l place.path.folder place.path.name)) (sym (same_Some _ _ e))
         ∙ fleets_held s (record viewer { host = host }) place.path
@@ -141,7 +147,10 @@ what_is_viewed_there_is_its_own s viewer place level is = by viewer.host place.s
 pub what_is_in_view_has_a_place : WhatIsInViewHasAPlace
 what_is_in_view_has_a_place v path e got = by (path.rank % 2 == 0) refl v.own refl (sym (get-view path v) ∙ got)
   where
-    by : (b : Bool) → (path.rank % 2 == 0) ≡ b → (own : Option Own) → v.own ≡ own → option_and_then (λ (held : PathMap). finmap.get held (path_after path)) (cond (path.rank % 2 == 0) (option_map (λ (o : Own). o.held) v.own) (Some v.fleet)) ≡ Some e → content_at v (viewed_place v path) ≡ shown e
+    by : (b : Bool) → (path.rank % 2 == 0) ≡ b → (own : Option Own) → v.own ≡ own
+        → option_and_then (λ (held : PathMap). finmap.get held (path_after path))
+        (cond (path.rank % 2 == 0) (option_map (λ (o : Own). o.held) v.own) (Some v.fleet)) ≡ Some e
+        → content_at v (viewed_place v path) ≡ shown e
     by true even (Some own) is got =
         let there : finmap.get own.held (path_after path) ≡ Some e = (λ i. option_and_then (λ (held : PathMap). finmap.get held (path_after path)) (cond (sym even i) (option_map (λ (o : Own). o.held) (sym is i)) (Some v.fleet))) ∙ got in
         let scope : scope_at v path.rank ≡ Host own.host = (λ i. cond (even i) (own_scope (is i)) Fleet) in
@@ -158,7 +167,8 @@ what_is_in_view_has_a_place v path e got = by (path.rank % 2 == 0) refl v.own re
         ∙ ap (option_and_then shown) there
 
 -- the same of what is visible
-pub content_viewed : (v : HostViewMap) (path : PathParts) (c : Content) → viewed_at v path ≡ Some c → content_at v (viewed_place v path) ≡ Some c
+pub content_viewed : (v : HostViewMap) (path : PathParts) (c : Content) → viewed_at v path ≡ Some c
+    → content_at v (viewed_place v path) ≡ Some c
 content_viewed v path c is = by (finmap.get (view v) path) refl is
   where
     by : (o : Option Entry) → finmap.get (view v) path ≡ o → option_and_then shown o ≡ Some c → content_at v (viewed_place v path) ≡ Some c
@@ -179,7 +189,8 @@ one_viewer s viewer = ap (λ (host : Option (List ℕ)). record viewer { host = 
 
 -- ---- other hosts
 
-same_scope : (s t : EntryMap) (place : PlaceParts) (scope : Scope) → place.scope ≢ scope → ((q : PlaceParts) → q ≢ place → finmap.get s q ≡ finmap.get t q) → scope_of s scope ≡ scope_of t scope
+same_scope : (s t : EntryMap) (place : PlaceParts) (scope : Scope) → place.scope ≢ scope
+    → ((q : PlaceParts) → q ≢ place → finmap.get s q ≡ finmap.get t q) → scope_of s scope ≡ scope_of t scope
 same_scope s t place scope apart same =
     finmap.same_map path_cmp_total path_cmp-IsAntisymmetric (scope_of s scope) (scope_of t scope)
     (λ p. get-scope_of scope s p ∙ same (within scope p) (λ e. apart (ap (λ (q : PlaceParts). q.scope) (sym e))) ∙ sym (get-scope_of scope t p))
@@ -190,7 +201,8 @@ named h k e = ap scope_bytes e
 pub other_hosts_are_not_in_view : OtherHostsAreNotInView
 other_hosts_are_not_in_view s t viewer place none same = by viewer.host place.scope refl none
   where
-    by : (host : Option (List ℕ)) (scope : Scope) → place.scope ≡ scope → level_for (record viewer { host = host }) (within scope place.path) ≡ None
+    by : (host : Option (List ℕ)) (scope : Scope) → place.scope ≡ scope
+        → level_for (record viewer { host = host }) (within scope place.path) ≡ None
         → host_view_of s (record viewer { host = host }) ≡ host_view_of t (record viewer { host = host })
     by host Fleet is e = cc (e)
     by None (Host k) is e = (λ i. record { own = None; fleet = same_scope s t place Fleet (λ f. let wrong = sym is ∙ f in cc (wrong)) same i; profile = viewer.profile })
@@ -206,34 +218,49 @@ hosts_without_places_have_the_fleets_view s host profile none =
     finmap.same_map path_cmp_total path_cmp-IsAntisymmetric (view (host_view_of s (of_host host profile))) (view (host_view_of s (of_fleet profile)))
     (λ p. get-view p (host_view_of s (of_host host profile)) ∙ by p (p.rank % 2 == 0) ∙ sym (get-view p (host_view_of s (of_fleet profile))))
   where
-    by : (p : PathParts) (b : Bool) → option_and_then (λ (held : PathMap). finmap.get held (path_after p)) (cond b (Some (scope_of s (Host host))) (Some (scope_of s Fleet))) ≡ option_and_then (λ (held : PathMap). finmap.get held (path_after p)) (cond b None (Some (scope_of s Fleet)))
+    by : (p : PathParts) (b : Bool)
+        → option_and_then (λ (held : PathMap). finmap.get held (path_after p))
+        (cond b (Some (scope_of s (Host host))) (Some (scope_of s Fleet)))
+        ≡ option_and_then (λ (held : PathMap). finmap.get held (path_after p)) (cond b None (Some (scope_of s Fleet)))
     by p true = get-scope_of (Host host) s (path_after p) ∙ none (path_after p)
     by p false = refl
 
 -- ---- what is visible without a host
 
 -- at a level of the fleet's it is what is visible at the path behind it, and at a host's it is nothing
-pub fleets_sights : (s : EntryMap) (profile : Profile) (p : PathParts) → viewed_at (host_view_of s (of_fleet profile)) p ≡ cond (p.rank % 2 == 0) None (shown_at (scope_of s Fleet) (path_after p))
+pub fleets_sights : (s : EntryMap) (profile : Profile) (p : PathParts) → viewed_at (host_view_of s (of_fleet profile)) p
+    ≡ cond (p.rank % 2 == 0) None (shown_at (scope_of s Fleet) (path_after p))
 fleets_sights s profile p = ap (option_and_then shown) (get-view p (host_view_of s (of_fleet profile))) ∙ by (p.rank % 2 == 0)
   where
-    by : (b : Bool) → option_and_then shown (option_and_then (λ (held : PathMap). finmap.get held (path_after p)) (cond b None (Some (scope_of s Fleet)))) ≡ cond b None (shown_at (scope_of s Fleet) (path_after p))
+    by : (b : Bool)
+        → option_and_then shown
+        (option_and_then (λ (held : PathMap). finmap.get held (path_after p))
+        (cond b None (Some (scope_of s Fleet)))) ≡ cond b None (shown_at (scope_of s Fleet) (path_after p))
     by true = refl
     by false = refl
 
 -- what is visible of the fleet at a path is visible at its level
-pub fleets_shown : (s : EntryMap) (profile : Profile) (p : PathParts) → viewed_at (host_view_of s (of_fleet profile)) (path_at (p.rank + p.rank + 1) p.folder p.name) ≡ shown_at (scope_of s Fleet) p
+pub fleets_shown : (s : EntryMap) (profile : Profile) (p : PathParts)
+    → viewed_at (host_view_of s (of_fleet profile)) (path_at (p.rank + p.rank + 1) p.folder p.name)
+    ≡ shown_at (scope_of s Fleet) p
 fleets_shown s profile p = ap (option_and_then shown) (fleets_viewed (host_view_of s (of_fleet profile)) p.rank p.folder p.name)
 
 -- a host at whose places nothing is visible sees what is visible without one
-pub same_sights : (s : EntryMap) (host : List ℕ) (profile : Profile) → ShowsNothing s (Host host) → (p : PathParts) → viewed_at (host_view_of s (of_host host profile)) p ≡ viewed_at (host_view_of s (of_fleet profile)) p
+pub same_sights : (s : EntryMap) (host : List ℕ) (profile : Profile) → ShowsNothing s (Host host) → (p : PathParts)
+    → viewed_at (host_view_of s (of_host host profile)) p ≡ viewed_at (host_view_of s (of_fleet profile)) p
 same_sights s host profile none p = ap (option_and_then shown) (get-view p (host_view_of s (of_host host profile))) ∙ by (p.rank % 2 == 0) ∙ sym (fleets_sights s profile p)
   where
-    by : (b : Bool) → option_and_then shown (option_and_then (λ (held : PathMap). finmap.get held (path_after p)) (cond b (Some (scope_of s (Host host))) (Some (scope_of s Fleet)))) ≡ cond b None (shown_at (scope_of s Fleet) (path_after p))
+    by : (b : Bool)
+        → option_and_then shown
+        (option_and_then (λ (held : PathMap). finmap.get held (path_after p))
+        (cond b (Some (scope_of s (Host host))) (Some (scope_of s Fleet))))
+        ≡ cond b None (shown_at (scope_of s Fleet) (path_after p))
     by true = ap (option_and_then shown) (get-scope_of (Host host) s (path_after p)) ∙ none (path_after p)
     by false = refl
 
 -- what is visible without a host is the fleet's, and so is its place in each view
-pub fleets_level : (s : EntryMap) (profile : Profile) (p : PathParts) (c : Content) → viewed_at (host_view_of s (of_fleet profile)) p ≡ Some c → (p.rank % 2 == 0) ≡ false
+pub fleets_level : (s : EntryMap) (profile : Profile) (p : PathParts) (c : Content)
+    → viewed_at (host_view_of s (of_fleet profile)) p ≡ Some c → (p.rank % 2 == 0) ≡ false
 fleets_level s profile p c is = by (p.rank % 2 == 0) (sym (fleets_sights s profile p) ∙ is)
   where
     by : (b : Bool) → cond b None (shown_at (scope_of s Fleet) (path_after p)) ≡ Some c → b ≡ false

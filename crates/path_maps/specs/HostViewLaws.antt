@@ -55,7 +55,8 @@ nothing_twice false b = refl
 
 module _ (p : PathParts) where
   -- An entry at a level is found exactly at its own path with that level.
-  met_own : (q : PathParts) → eq_by_cmp path_cmp p (path_at (q.rank + q.rank) q.folder q.name) ≡ ((p.rank % 2 == 0) && eq_by_cmp path_cmp (path_after p) q)
+  met_own : (q : PathParts) → eq_by_cmp path_cmp p (path_at (q.rank + q.rank) q.folder q.name)
+      ≡ ((p.rank % 2 == 0) && eq_by_cmp path_cmp (path_after p) q)
   met_own q =
       path_test p (path_at (q.rank + q.rank) q.folder q.name)
       ∙ ap (λ b. b && is_eq (rest_cmp p q)) (even_test p.rank q.rank)
@@ -66,7 +67,8 @@ module _ (p : PathParts) where
       regroup true b c = refl
       regroup false b c = refl
 
-  met_fleets : (q : PathParts) → (p.rank % 2 == 0) ≡ false → eq_by_cmp path_cmp p (path_at (q.rank + q.rank + 1) q.folder q.name) ≡ eq_by_cmp path_cmp (path_after p) q
+  met_fleets : (q : PathParts) → (p.rank % 2 == 0) ≡ false
+      → eq_by_cmp path_cmp p (path_at (q.rank + q.rank + 1) q.folder q.name) ≡ eq_by_cmp path_cmp (path_after p) q
   met_fleets q odd =
       path_test p (path_at (q.rank + q.rank + 1) q.folder q.name)
       ∙ ap (λ b. b && is_eq (rest_cmp p q)) (odd_test p.rank q.rank (is_odd p.rank odd))
@@ -79,7 +81,8 @@ module _ (p : PathParts) where
   find_own [] = nothing (p.rank % 2 == 0)
   find_own (e ∷ es) = (λ i. cond (met_own e.0 i) (Some e.1) (find_own es i)) ∙ either (p.rank % 2 == 0) (eq_by_cmp path_cmp (path_after p) e.0)
     where
-      either : (a b : Bool) → cond (a && b) (Some e.1) (cond a (find path_cmp (path_after p) es) None) ≡ cond a (cond b (Some e.1) (find path_cmp (path_after p) es)) None
+      either : (a b : Bool) → cond (a && b) (Some e.1) (cond a (find path_cmp (path_after p) es) None)
+          ≡ cond a (cond b (Some e.1) (find path_cmp (path_after p) es)) None
       either true b = refl
       either false b = refl
 
@@ -92,7 +95,9 @@ module _ (p : PathParts) where
   no_fleets even (e ∷ es) = (λ i. cond (not_fleets e.0 even i) (Some e.1) (no_fleets even es i))
 
   module _ (v : HostViewMap) where
-    found_own : (own : Option Own) → find path_cmp p (entries_own own) ≡ cond (p.rank % 2 == 0) (option_and_then (λ held. finmap.get held (path_after p)) (option_map (λ (o : Own). o.held) own)) None
+    found_own : (own : Option Own)
+        → find path_cmp p (entries_own own) ≡ cond (p.rank % 2 == 0)
+        (option_and_then (λ held. finmap.get held (path_after p)) (option_map (λ (o : Own). o.held) own)) None
     found_own None = nothing (p.rank % 2 == 0)
     found_own (Some own) = find_own (finmap.entries own.held) ∙ ap (λ o. cond (p.rank % 2 == 0) o None) (sym (finmap.get-entries own.held (path_after p)))
 
@@ -101,7 +106,9 @@ module _ (p : PathParts) where
     unfolding view
     get-view = finmap.get-from_entries path_cmp_total (entries_own v.own ++ map viewed_fleets (finmap.entries v.fleet)) p ∙ by (p.rank % 2 == 0) refl
       where
-        by : (b : Bool) → (p.rank % 2 == 0) ≡ b → find path_cmp p (entries_own v.own ++ map viewed_fleets (finmap.entries v.fleet)) ≡ option_and_then (λ held. finmap.get held (path_after p)) (holding v p.rank)
+        by : (b : Bool) → (p.rank % 2 == 0) ≡ b
+            → find path_cmp p (entries_own v.own ++ map viewed_fleets (finmap.entries v.fleet))
+            ≡ option_and_then (λ held. finmap.get held (path_after p)) (holding v p.rank)
         by true t =
             find-prefix path_cmp p (entries_own v.own) (map viewed_fleets (finmap.entries v.fleet)) (no_fleets t (finmap.entries v.fleet))
             ∙ found_own v.own
@@ -120,7 +127,9 @@ abbrev held_entries : ℕ → List ℕ → Option PathMap → Entries
 held_entries level folder holds = map (at_level level) (after_entries level folder holds)
 
 -- Entries of one rank stay in order when placed at a level.
-level_below : (level rank : ℕ) (p : PathParts) → p.rank ≡ rank → (es : Entries) → AllKeys (λ q. q.rank ≡ rank) es → IsTrue (below_all path_cmp p es) → IsTrue (below_all path_cmp (path_at level p.folder p.name) (map (at_level level) es))
+level_below : (level rank : ℕ) (p : PathParts) → p.rank ≡ rank → (es : Entries) → AllKeys (λ q. q.rank ≡ rank) es
+    → IsTrue (below_all path_cmp p es)
+    → IsTrue (below_all path_cmp (path_at level p.folder p.name) (map (at_level level) es))
 level_below level rank p r [] of h = refl
 level_below level rank p r (e ∷ es) of h =
     let parts = and_parts _ _ h in
@@ -129,7 +138,8 @@ level_below level rank p r (e ∷ es) of h =
     same : (q : PathParts) → q.rank ≡ rank → path_cmp (path_at level p.folder p.name) (path_at level q.folder q.name) ≡ path_cmp p q
     same q s = ap (λ o. ordering_then o (ordering_then (list_cmp p.folder q.folder) (list_cmp p.name q.name))) (tied_itself nat_cmp_total level ∙ sym (ap (λ x. nat_cmp x q.rank) (r ∙ sym s) ∙ tied_itself nat_cmp_total q.rank))
 
-level_sorted : (level rank : ℕ) (es : Entries) → AllKeys (λ q. q.rank ≡ rank) es → IsTrue (is_sorted path_cmp es) → IsTrue (is_sorted path_cmp (map (at_level level) es))
+level_sorted : (level rank : ℕ) (es : Entries) → AllKeys (λ q. q.rank ≡ rank) es → IsTrue (is_sorted path_cmp es)
+    → IsTrue (is_sorted path_cmp (map (at_level level) es))
 level_sorted level rank [] of h = refl
 level_sorted level rank (e ∷ es) of h =
     let parts = and_parts _ _ h in
@@ -149,7 +159,8 @@ module _ (level : ℕ) (folder : List ℕ) where
   ranks_after (Some held) = in_rank (finmap.entries held)
 
   module _ (p : PathParts) where
-    one_more : (e : PathParts × Entry) (es : Entries) → e.0.rank ≡ level / 2 → (b : Bool) → (p.rank == level) ≡ b → find path_cmp p (map (at_level level) es) ≡ cond (p.rank == level) (find path_cmp (path_after p) es) None
+    one_more : (e : PathParts × Entry) (es : Entries) → e.0.rank ≡ level / 2 → (b : Bool) → (p.rank == level) ≡ b
+        → find path_cmp p (map (at_level level) es) ≡ cond (p.rank == level) (find path_cmp (path_after p) es) None
         → find path_cmp p (map (at_level level) (e ∷ es)) ≡ cond (p.rank == level) (find path_cmp (path_after p) (e ∷ es)) None
     one_more e es of true t rest =
         let half : (p.rank / 2 == e.0.rank) ≡ true = eq-eqb (p.rank / 2) e.0.rank (ap (λ r. r / 2) (eqb-true p.rank level t) ∙ sym of) in
@@ -162,27 +173,37 @@ module _ (level : ℕ) (folder : List ℕ) where
         let found : find path_cmp p (map (at_level level) es) ≡ None = rest ∙ ap (λ b. cond b (find path_cmp (path_after p) es) None) t in
         (λ i. cond (apart i) (Some e.1) (found i)) ∙ ap (λ b. cond b (find path_cmp (path_after p) (e ∷ es)) None) (sym t)
 
-    at_its_level : (es : Entries) → AllKeys (λ q. q.rank ≡ level / 2) es → find path_cmp p (map (at_level level) es) ≡ cond (p.rank == level) (find path_cmp (path_after p) es) None
+    at_its_level : (es : Entries) → AllKeys (λ q. q.rank ≡ level / 2) es
+        → find path_cmp p (map (at_level level) es) ≡ cond (p.rank == level) (find path_cmp (path_after p) es) None
     at_its_level [] of = nothing (p.rank == level)
     at_its_level (e ∷ es) of = one_more e es of.0 (p.rank == level) refl (at_its_level es of.1)
 
   alike : (rank : ℕ) (q x : PathParts) → path_cmp q x ≡ Equal → is_in rank folder x ≡ is_in rank folder q
   alike rank q x e = ap (is_in rank folder) (sym (path_cmp-IsAntisymmetric q x e))
 
-  passed : (rank : ℕ) (q : PathParts) (m : PathMap) → find path_cmp q (filter (λ p. is_in rank folder p.0) (finmap.entries m)) ≡ cond (is_in rank folder q) (finmap.get m q) None
+  passed : (rank : ℕ) (q : PathParts) (m : PathMap)
+      → find path_cmp q (filter (λ p. is_in rank folder p.0) (finmap.entries m))
+      ≡ cond (is_in rank folder q) (finmap.get m q) None
   passed rank q m = find-where_key path_cmp (is_in rank folder) q (alike rank q) (finmap.entries m) ∙ ap (λ o. cond (is_in rank folder q) o None) (sym (finmap.get-entries m q))
 
   module _ (v : HostViewMap) where
-    found_there : (p : PathParts) (holds : Option PathMap) → find path_cmp p (held_entries level folder holds) ≡ cond (p.rank == level) (cond (is_in (level / 2) folder (path_after p)) (option_and_then (λ held. finmap.get held (path_after p)) holds) None) None
+    found_there : (p : PathParts) (holds : Option PathMap)
+        → find path_cmp p (held_entries level folder holds)
+        ≡ cond (p.rank == level)
+        (cond (is_in (level / 2) folder (path_after p))
+        (option_and_then (λ held. finmap.get held (path_after p)) holds) None) None
     found_there p None = nothing_twice (p.rank == level) (is_in (level / 2) folder (path_after p))
     found_there p (Some held) =
         at_its_level p (filter (λ q. is_in (level / 2) folder q.0) (finmap.entries held)) (in_rank (finmap.entries held))
         ∙ ap (λ o. cond (p.rank == level) o None) (passed (level / 2) (path_after p) held)
 
-    same_found : (p : PathParts) → find path_cmp p (filter (λ p. is_in level folder p.0) (finmap.entries (view v))) ≡ find path_cmp p (held_entries level folder (holding v level))
+    same_found : (p : PathParts) → find path_cmp p (filter (λ p. is_in level folder p.0) (finmap.entries (view v)))
+        ≡ find path_cmp p (held_entries level folder (holding v level))
     same_found p = passed level p (view v) ∙ ap (λ o. cond (is_in level folder p) o None) (get-view p v) ∙ by (p.rank == level) refl ∙ sym (found_there p (holding v level))
       where
-        by : (b : Bool) → (p.rank == level) ≡ b → cond (b && bytes_eq p.folder folder) (option_and_then (λ held. finmap.get held (path_after p)) (holding v p.rank)) None
+        by : (b : Bool) → (p.rank == level) ≡ b
+            → cond (b && bytes_eq p.folder folder)
+            (option_and_then (λ held. finmap.get held (path_after p)) (holding v p.rank)) None
             ≡ cond b (cond (is_in (level / 2) folder (path_after p)) (option_and_then (λ held. finmap.get held (path_after p)) (holding v level)) None) None
         by true t =
             let same = eqb-true p.rank level t in
@@ -196,7 +217,8 @@ module _ (level : ℕ) (folder : List ℕ) where
     sorted_there (Some held) = level_sorted level (level / 2) _ (in_rank (finmap.entries held)) (from_T _ (is_sorted-where_key path_cmp (is_in (level / 2) folder) (finmap.entries held) (finmap.entries_sorted held)))
 
     -- The entries of a folder are those held for the level, placed at the level.
-    pub folder_viewed : map (at_level level) (after_entries level folder (holding v level)) ≡ filter (λ p. is_in level folder p.0) (finmap.entries (view v))
+    pub folder_viewed : map (at_level level) (after_entries level folder (holding v level))
+        ≡ filter (λ p. is_in level folder p.0) (finmap.entries (view v))
     folder_viewed =
         same_entries path_cmp path_cmp_total path_cmp-IsAntisymmetric (held_entries level folder (holding v level)) (filter (λ p. is_in level folder p.0) (finmap.entries (view v)))
         (to_T _ (sorted_there (holding v level))) (is_sorted-where_key path_cmp (is_in level folder) (finmap.entries (view v)) (finmap.entries_sorted (view v)))

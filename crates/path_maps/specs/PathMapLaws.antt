@@ -9,7 +9,8 @@ bytes_same = slice_cmp-IsAntisymmetric nat_cmp-IsAntisymmetric
 
 -- ---- which paths the parts have
 
-all_keys-spread : {K V A E : Type 0} (P : A → Type 0) (part : K → V → List (A × E)) (h : (k : K) (v : V) → AllKeys P (part k v)) (es : List (K × V)) → AllKeys P (spread part es)
+all_keys-spread : {K V A E : Type 0} (P : A → Type 0) (part : K → V → List (A × E))
+    (h : (k : K) (v : V) → AllKeys P (part k v)) (es : List (K × V)) → AllKeys P (spread part es)
 all_keys-spread P part h [] = tt
 all_keys-spread P part h (e ∷ es) = all_keys-append P (part e.0 e.1) (spread part es) (h e.0 e.1) (all_keys-spread P part h es)
 
@@ -43,13 +44,15 @@ one_sorted : (rank : ℕ) (folder name : List ℕ) (v : Versioned Content) → U
 one_sorted rank folder name Never h = refl
 one_sorted rank folder name (At x) h = refl
 
-by_name : (rank : ℕ) (folder : List ℕ) (k l : List ℕ) (a b : PathParts) → bytes_cmp k l ≡ Less → IsAtName rank folder k a → IsAtName rank folder l b → path_cmp a b ≡ Less
+by_name : (rank : ℕ) (folder : List ℕ) (k l : List ℕ) (a b : PathParts) → bytes_cmp k l ≡ Less
+    → IsAtName rank folder k a → IsAtName rank folder l b → path_cmp a b ≡ Less
 by_name rank folder k l a b less p q =
     (λ i. path_cmp (p i) (q i))
     ∙ ap (λ r. ordering_then r (ordering_then (bytes_cmp folder folder) (bytes_cmp k l))) (tied_itself nat_cmp_total rank)
     ∙ ap (λ r. ordering_then r (bytes_cmp k l)) (tied_itself nat_list_cmp_total folder) ∙ less
 
-by_folder : (rank : ℕ) (k l : List ℕ) (a b : PathParts) → bytes_cmp k l ≡ Less → IsInFolder rank k a → IsInFolder rank l b → path_cmp a b ≡ Less
+by_folder : (rank : ℕ) (k l : List ℕ) (a b : PathParts) → bytes_cmp k l ≡ Less → IsInFolder rank k a
+    → IsInFolder rank l b → path_cmp a b ≡ Less
 by_folder rank k l a b less p q =
     (λ i. ordering_then (nat_cmp (p.0 i) (q.0 i)) (ordering_then (bytes_cmp (p.1 i) (q.1 i)) (bytes_cmp a.name b.name)))
     ∙ ap (λ r. ordering_then r (ordering_then (bytes_cmp k l) (bytes_cmp a.name b.name))) (tied_itself nat_cmp_total rank)
@@ -60,7 +63,8 @@ by_rank k l a b less p q =
     (λ i. ordering_then (nat_cmp (p i) (q i)) (ordering_then (bytes_cmp a.folder b.folder) (bytes_cmp a.name b.name)))
     ∙ ap (λ r. ordering_then r (ordering_then (bytes_cmp a.folder b.folder) (bytes_cmp a.name b.name))) less
 
-pub all_well_formed : {K V : Type 0} (below : V → V → Type 0) (valid : V → Type 0) (es : List (K × V)) → AllHeld below valid es → AllValues valid es
+pub all_well_formed : {K V : Type 0} (below : V → V → Type 0) (valid : V → Type 0) (es : List (K × V))
+    → AllHeld below valid es → AllValues valid es
 all_well_formed below valid [] h = tt
 all_well_formed below valid (e ∷ es) h = (h.0.well_formed, all_well_formed below valid es h.1)
 
@@ -84,7 +88,8 @@ entries-flat m is = finmap.entries-from_sorted path_cmp (listed m) (to_T _ (list
 
 -- ---- what is found there
 
-pub found_well_formed : {K V : Type 0} (R : K → K → Ordering) (below : V → V → Type 0) (valid : V → Type 0) (k : K) (es : List (K × V)) → AllHeld below valid es → (v : V) → find R k es ≡ Some v → valid v
+pub found_well_formed : {K V : Type 0} (R : K → K → Ordering) (below : V → V → Type 0) (valid : V → Type 0) (k : K)
+    (es : List (K × V)) → AllHeld below valid es → (v : V) → find R k es ≡ Some v → valid v
 found_well_formed R below valid k [] h v e = cc (e)
 found_well_formed R below valid k (x ∷ es) h v e =
     elim (eq_by_cmp R k x.0) as (λ b. cond b (Some x.1) (find R k es) ≡ Some v → valid v) [
@@ -105,7 +110,8 @@ find-at_name : (q : PathParts) (v : Versioned Content) → find path_cmp q (at_n
 find-at_name q Never = refl
 find-at_name q (At x) = ap (λ b. cond b (Some x) None) (same_path q)
 
-find-in_folder : (q : PathParts) (names : NameMap) → IsTrue (is_sorted bytes_cmp names) → find path_cmp q (in_folder q.rank q.folder names) ≡ written_at (find bytes_cmp q.name names)
+find-in_folder : (q : PathParts) (names : NameMap) → IsTrue (is_sorted bytes_cmp names)
+    → find path_cmp q (in_folder q.rank q.folder names) ≡ written_at (find bytes_cmp q.name names)
 find-in_folder q names s =
     find-spread bytes_cmp path_cmp (IsAtName q.rank q.folder) (at_name q.rank q.folder) (of_name q.rank q.folder) nat_list_cmp_total bytes_same path_cmp-IsAntisymmetric q q.name (λ l is. ap (λ (p : PathParts). p.name) (sym is)) names s
     ∙ by (find bytes_cmp q.name names)
@@ -114,12 +120,15 @@ find-in_folder q names s =
     by None = refl
     by (Some v) = find-at_name q v
 
-find-in_rank : (q : PathParts) (folders : FolderMap) → AreFolders folders → find path_cmp q (in_rank q.rank folders) ≡ written_at (find bytes_cmp q.name (or_empty (find bytes_cmp q.folder folders)))
+find-in_rank : (q : PathParts) (folders : FolderMap) → AreFolders folders → find path_cmp q (in_rank q.rank folders)
+    ≡ written_at (find bytes_cmp q.name (or_empty (find bytes_cmp q.folder folders)))
 find-in_rank q folders m =
     find-spread bytes_cmp path_cmp (IsInFolder q.rank) (in_folder q.rank) (of_folder q.rank) nat_list_cmp_total bytes_same path_cmp-IsAntisymmetric q q.folder (λ l is. sym is.1) folders m.sorted
     ∙ by (find bytes_cmp q.folder folders) refl
   where
-    by : (x : Option NameMap) → find bytes_cmp q.folder folders ≡ x → option_and_then (λ v. find path_cmp q (in_folder q.rank q.folder v)) x ≡ written_at (find bytes_cmp q.name (or_empty x))
+    by : (x : Option NameMap) → find bytes_cmp q.folder folders ≡ x
+        → option_and_then (λ v. find path_cmp q (in_folder q.rank q.folder v)) x
+        ≡ written_at (find bytes_cmp q.name (or_empty x))
     by None e = refl
     by (Some names) e = find-in_folder q names (found_well_formed bytes_cmp NamesBelow AreNames q.folder folders m.held names e).sorted
 
@@ -128,7 +137,9 @@ find-listed m is q =
     find-spread nat_cmp path_cmp IsInRank in_rank of_rank nat_cmp_total nat_cmp-IsAntisymmetric path_cmp-IsAntisymmetric q q.rank (λ l at. sym at) m is.sorted
     ∙ by (find nat_cmp q.rank m) refl
   where
-    by : (x : Option FolderMap) → find nat_cmp q.rank m ≡ x → option_and_then (λ v. find path_cmp q (in_rank q.rank v)) x ≡ written_at (find bytes_cmp q.name (or_empty (find bytes_cmp q.folder (or_empty x))))
+    by : (x : Option FolderMap) → find nat_cmp q.rank m ≡ x
+        → option_and_then (λ v. find path_cmp q (in_rank q.rank v)) x
+        ≡ written_at (find bytes_cmp q.name (or_empty (find bytes_cmp q.folder (or_empty x))))
     by None e = refl
     by (Some folders) e = find-in_rank q folders (found_well_formed nat_cmp FoldersBelow AreFolders q.rank m is.held folders e)
 
@@ -203,13 +214,16 @@ look_up_join a b c j q =
     (level_join bytes_cmp nat_list_cmp_total bytes_cmp nat_list_cmp_total (IsUpTo content_cmp) leaf_itself leaf_chain q.folder _ _ _
     (level_join nat_cmp nat_cmp_total bytes_cmp nat_list_cmp_total NamesBelow names_itself names_chain q.rank a b c j))
 
-pub look_up_between : (a b v : RankMap) → IsBetween RanksBelow a b v → (q : PathParts) → IsBelow (look_up v q) (larger (look_up a q) (look_up b q))
+pub look_up_between : (a b v : RankMap) → IsBetween RanksBelow a b v → (q : PathParts)
+    → IsBelow (look_up v q) (larger (look_up a q) (look_up b q))
 look_up_between a b v j q =
     leaf_between content_cmp content_cmp_total content_cmp-IsAntisymmetric bytes_cmp nat_list_cmp_total q.name _ _ _
     (level_between bytes_cmp nat_list_cmp_total bytes_cmp nat_list_cmp_total (IsUpTo content_cmp) leaf_itself leaf_chain q.folder leaf_union leaf_joins _ _ _
     (level_between nat_cmp nat_cmp_total bytes_cmp nat_list_cmp_total NamesBelow names_itself names_chain q.rank names_union names_joins a b v j))
 
-pub look_up_bounds : (a b v r : RankMap) → ((z : RankMap) → (RanksBelow v z × RanksBelow r z) ↔ (RanksBelow a z × RanksBelow b z)) → (q : PathParts) → larger (look_up v q) (look_up r q) ≡ larger (look_up a q) (look_up b q)
+pub look_up_bounds : (a b v r : RankMap)
+    → ((z : RankMap) → (RanksBelow v z × RanksBelow r z) ↔ (RanksBelow a z × RanksBelow b z)) → (q : PathParts)
+    → larger (look_up v q) (look_up r q) ≡ larger (look_up a q) (look_up b q)
 look_up_bounds a b v r h q =
     leaf_bounds content_cmp content_cmp_total content_cmp-IsAntisymmetric bytes_cmp nat_list_cmp_total q.name _ _ _ _
     (level_bounds bytes_cmp nat_list_cmp_total bytes_cmp nat_list_cmp_total (IsUpTo content_cmp) leaf_itself leaf_chain q.folder leaf_union leaf_joins _ _ _ _

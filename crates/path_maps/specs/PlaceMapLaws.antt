@@ -20,7 +20,8 @@ by_scope : (k l : Scope) (a b : PlaceParts) → scope_cmp k l ≡ Less → IsInS
 by_scope k l a b less p q =
     (λ i. ordering_then (scope_cmp (p i) (q i)) (path_cmp a.path b.path)) ∙ ap (λ r. ordering_then r (path_cmp a.path b.path)) less
 
-below_within : {E : Type 0} (s : Scope) (p : PathParts) (es : List (PathParts × E)) → below_all place_cmp (within s p) (placed s es) ≡ below_all path_cmp p es
+below_within : {E : Type 0} (s : Scope) (p : PathParts) (es : List (PathParts × E))
+    → below_all place_cmp (within s p) (placed s es) ≡ below_all path_cmp p es
 below_within s p [] = refl
 below_within s p (e ∷ es) = (λ i. is_lt (same_scope s p e.0 i) && below_within s p es i)
 
@@ -28,7 +29,8 @@ sorted_within : {E : Type 0} (s : Scope) (es : List (PathParts × E)) → is_sor
 sorted_within s [] = refl
 sorted_within s (e ∷ es) = (λ i. below_within s e.0 es i && sorted_within s es i)
 
-find-within : {E : Type 0} (s : Scope) (p : PathParts) (es : List (PathParts × E)) → find place_cmp (within s p) (placed s es) ≡ find path_cmp p es
+find-within : {E : Type 0} (s : Scope) (p : PathParts) (es : List (PathParts × E))
+    → find place_cmp (within s p) (placed s es) ≡ find path_cmp p es
 find-within s p [] = refl
 find-within s p (e ∷ es) = (λ i. cond (is_eq (same_scope s p e.0 i)) (Some e.1) (find-within s p es i))
 
@@ -62,7 +64,8 @@ find-all m is q =
     find-spread scope_cmp place_cmp IsInScope in_scope (λ k v. of_scope k (listed v)) scope_cmp_total scope_cmp-IsAntisymmetric place_cmp-IsAntisymmetric q q.scope (λ l at. sym at) m is.sorted
     ∙ by (find scope_cmp q.scope m) refl
   where
-    by : (o : Option RankMap) → find scope_cmp q.scope m ≡ o → option_and_then (λ v. find place_cmp q (in_scope q.scope v)) o ≡ look_up (or_empty o) q.path
+    by : (o : Option RankMap) → find scope_cmp q.scope m ≡ o
+        → option_and_then (λ v. find place_cmp q (in_scope q.scope v)) o ≡ look_up (or_empty o) q.path
     by None e = refl
     by (Some ranks) e = find-within q.scope q.path (listed ranks) ∙ find-listed ranks (found_well_formed scope_cmp RanksBelow AreRanks q.scope m is.held ranks e) q.path
 
@@ -76,15 +79,19 @@ look_up_place_below : (a b : ScopeMap) → ScopesBelow a b → (q : PlaceParts) 
 look_up_place_below a b h q =
     look_up_below _ _ (level_below scope_cmp scope_cmp_total nat_cmp nat_cmp_total FoldersBelow folders_itself folders_chain q.scope a b h) q.path
 
-look_up_place_join : (a b c : ScopeMap) → IsJoin ScopesBelow a b c → (q : PlaceParts) → look_up_place c q ≡ larger (look_up_place a q) (look_up_place b q)
+look_up_place_join : (a b c : ScopeMap) → IsJoin ScopesBelow a b c → (q : PlaceParts)
+    → look_up_place c q ≡ larger (look_up_place a q) (look_up_place b q)
 look_up_place_join a b c j q =
     look_up_join _ _ _ (level_join scope_cmp scope_cmp_total nat_cmp nat_cmp_total FoldersBelow folders_itself folders_chain q.scope a b c j) q.path
 
-look_up_place_between : (a b v : ScopeMap) → IsBetween ScopesBelow a b v → (q : PlaceParts) → IsBelow (look_up_place v q) (larger (look_up_place a q) (look_up_place b q))
+look_up_place_between : (a b v : ScopeMap) → IsBetween ScopesBelow a b v → (q : PlaceParts)
+    → IsBelow (look_up_place v q) (larger (look_up_place a q) (look_up_place b q))
 look_up_place_between a b v j q =
     look_up_between _ _ _ (level_between scope_cmp scope_cmp_total nat_cmp nat_cmp_total FoldersBelow folders_itself folders_chain q.scope folders_union folders_joins a b v j) q.path
 
-look_up_place_bounds : (a b v r : ScopeMap) → ((z : ScopeMap) → (ScopesBelow v z × ScopesBelow r z) ↔ (ScopesBelow a z × ScopesBelow b z)) → (q : PlaceParts) → larger (look_up_place v q) (look_up_place r q) ≡ larger (look_up_place a q) (look_up_place b q)
+look_up_place_bounds : (a b v r : ScopeMap)
+    → ((z : ScopeMap) → (ScopesBelow v z × ScopesBelow r z) ↔ (ScopesBelow a z × ScopesBelow b z)) → (q : PlaceParts)
+    → larger (look_up_place v q) (look_up_place r q) ≡ larger (look_up_place a q) (look_up_place b q)
 look_up_place_bounds a b v r h q =
     look_up_bounds _ _ _ _ (level_bounds scope_cmp scope_cmp_total nat_cmp nat_cmp_total FoldersBelow folders_itself folders_chain q.scope folders_union folders_joins a b v r h) q.path
 
@@ -106,7 +113,9 @@ module _ (a b v : ScopeMap) (is_a : AreScopes a) (is_b : AreScopes b) (is_v : Ar
       (subst (λ y. IsBelow (look_up_place v q) y) ((λ i. larger (sym (get-held a is_a q) i) (sym (get-held b is_b q) i)) ∙ sym (get-join (all_held a) (all_held b) q)) (look_up_place_between a b v j q))
 
   -- Joining what is left gives the join.
-  pub held-rest : (r : ScopeMap) → AreScopes r → ((z : ScopeMap) → (ScopesBelow v z × ScopesBelow r z) ↔ (ScopesBelow a z × ScopesBelow b z)) → join (all_held v) (all_held r) ≡ join (all_held a) (all_held b)
+  pub held-rest : (r : ScopeMap) → AreScopes r
+      → ((z : ScopeMap) → (ScopesBelow v z × ScopesBelow r z) ↔ (ScopesBelow a z × ScopesBelow b z))
+      → join (all_held v) (all_held r) ≡ join (all_held a) (all_held b)
   held-rest r is_r h = same_store (join (all_held v) (all_held r)) (join (all_held a) (all_held b))
       (λ q. get-join (all_held v) (all_held r) q ∙ (λ i. larger (get-held v is_v q i) (get-held r is_r q i)) ∙ look_up_place_bounds a b v r h q
       ∙ (λ i. larger (sym (get-held a is_a q) i) (sym (get-held b is_b q) i)) ∙ sym (get-join (all_held a) (all_held b) q))

@@ -14,7 +14,8 @@ module _ (scope : Scope) where
 
   -- ---- its entries are in ascending order
 
-  below_of : (p : PathParts) (es : Entries) → IsTrue (below_all place_cmp (within scope p) es) → IsTrue (below_all path_cmp p (entries_of scope es))
+  below_of : (p : PathParts) (es : Entries) → IsTrue (below_all place_cmp (within scope p) es)
+      → IsTrue (below_all path_cmp p (entries_of scope es))
   below_of p [] h = refl
   below_of p (e ∷ es) h =
       let parts = and_parts _ _ h in
@@ -63,7 +64,9 @@ module _ (scope : Scope) where
   -- ---- the places of a folder
 
   module _ (rank : ℕ) (folder : List ℕ) where
-    folder_of : (es : Entries) → map (λ p. p.0) (placed scope (filter (λ p. is_in rank folder p.0) (entries_of scope es))) ≡ filter (is_within scope rank folder) (map (λ p. p.0) es)
+    folder_of : (es : Entries)
+        → map (λ p. p.0) (placed scope (filter (λ p. is_in rank folder p.0) (entries_of scope es)))
+        ≡ filter (is_within scope rank folder) (map (λ p. p.0) es)
     folder_of [] = refl
     folder_of (e ∷ es) =
         let rest : List PlaceParts = map (λ p. p.0) (placed scope (filter (λ p. is_in rank folder p.0) (entries_of scope es))) in
@@ -77,6 +80,8 @@ module _ (scope : Scope) where
         ] refl
 
     -- The places of a folder are the places of what the scope has in the folder.
-    pub places_of_folder : (s : EntryMap) → map (λ p. p.0) (placed scope (filter (λ p. is_in rank folder p.0) (finmap.entries (scope_of s scope)))) ≡ filter (is_within scope rank folder) (finmap.keys s)
+    pub places_of_folder : (s : EntryMap)
+        → map (λ p. p.0) (placed scope (filter (λ p. is_in rank folder p.0) (finmap.entries (scope_of s scope))))
+        ≡ filter (is_within scope rank folder) (finmap.keys s)
     places_of_folder s =
         ap (λ (es : List (PathParts × Entry)). map (λ p. p.0) (placed scope (filter (λ p. is_in rank folder p.0) es))) (entries-scope_of s) ∙ folder_of (finmap.entries s)

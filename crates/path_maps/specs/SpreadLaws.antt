@@ -30,7 +30,8 @@ module _ {A E : Type 0} (S : A → A → Ordering) where
   below_append x [] ys p q = q
   below_append x (e ∷ es) ys p q = let h = and_parts _ _ p in both _ _ h.0 (below_append x es ys h.1 q)
 
-  sorted_append : (xs ys : List (A × E)) → IsTrue (is_sorted S xs) → IsTrue (is_sorted S ys) → AllKeys (λ x. IsTrue (below_all S x ys)) xs → IsTrue (is_sorted S (xs ++ ys))
+  sorted_append : (xs ys : List (A × E)) → IsTrue (is_sorted S xs) → IsTrue (is_sorted S ys)
+      → AllKeys (λ x. IsTrue (below_all S x ys)) xs → IsTrue (is_sorted S (xs ++ ys))
   sorted_append [] ys p q h = q
   sorted_append (x ∷ xs) ys p q h = let s = and_parts _ _ p in both _ _ (below_append x.0 xs ys s.0 h.0) (sorted_append xs ys s.1 q h.1)
 
@@ -43,7 +44,8 @@ all_keys-append P [] ys p q = q
 all_keys-append P (x ∷ xs) ys p q = (p.0, all_keys-append P xs ys p.1 q)
 
 -- The part of `k` has only keys of `k`.
-module _ {K V A E : Type 0} (R : K → K → Ordering) (S : A → A → Ordering) (IsOf : K → A → Type 0) (part : K → V → List (A × E)) (of_part : (k : K) (v : V) → AllKeys (IsOf k) (part k v)) where
+module _ {K V A E : Type 0} (R : K → K → Ordering) (S : A → A → Ordering) (IsOf : K → A → Type 0)
+    (part : K → V → List (A × E)) (of_part : (k : K) (v : V) → AllKeys (IsOf k) (part k v)) where
   module _ (o : IsTotalOrder R) (same : (k l : K) → R k l ≡ Equal → k ≡ l) (exact : (a b : A) → S a b ≡ Equal → a ≡ b) where
     other_part : (k : K) (q : A) → ¬ IsOf k q → (xs : List (A × E)) → AllKeys (IsOf k) xs → find S q xs ≡ None
     other_part k q other [] h = refl
@@ -54,7 +56,8 @@ module _ {K V A E : Type 0} (R : K → K → Ordering) (S : A → A → Ordering
         ] refl
 
     -- What is found at a key of `k` is what is found in the part of `k`.
-    pub find-spread : (q : A) (k : K) → ((l : K) → IsOf l q → l ≡ k) → (es : List (K × V)) → IsTrue (is_sorted R es) → find S q (spread part es) ≡ option_and_then (λ v. find S q (part k v)) (find R k es)
+    pub find-spread : (q : A) (k : K) → ((l : K) → IsOf l q → l ≡ k) → (es : List (K × V)) → IsTrue (is_sorted R es)
+        → find S q (spread part es) ≡ option_and_then (λ v. find S q (part k v)) (find R k es)
     find-spread q k one [] s = refl
     find-spread q k one (e ∷ es) s =
         let rest = find-spread q k one es (and_parts _ _ s).1 in
@@ -69,7 +72,8 @@ module _ {K V A E : Type 0} (R : K → K → Ordering) (S : A → A → Ordering
               find-after S q (part e.0 e.1) (spread part es) (other_part e.0 q apart (part e.0 e.1) (of_part e.0 e.1)) ∙ rest
         ] refl
 
-  module _ (Good : V → Type 0) (by_key : (k l : K) (a b : A) → R k l ≡ Less → IsOf k a → IsOf l b → S a b ≡ Less) (part_sorted : (k : K) (v : V) → Good v → IsTrue (is_sorted S (part k v))) where
+  module _ (Good : V → Type 0) (by_key : (k l : K) (a b : A) → R k l ≡ Less → IsOf k a → IsOf l b → S a b ≡ Less)
+      (part_sorted : (k : K) (v : V) → Good v → IsTrue (is_sorted S (part k v))) where
     below_part : (k l : K) (a : A) → R k l ≡ Less → IsOf k a → (bs : List (A × E)) → AllKeys (IsOf l) bs → IsTrue (below_all S a bs)
     below_part k l a less is [] h = refl
     below_part k l a less is (b ∷ bs) h = both _ _ (ap is_lt (by_key k l a b.0 less is h.0)) (below_part k l a less is bs h.1)

@@ -46,7 +46,8 @@ pub fn count_changes(store: &Store, other: &Store) -> Changes
 pub fn find_news(store: &Store, other: &Store) -> Result<Vec<Place>, AllocError>
     ensures places { IfOk result (λ places. places.items
         ≡ news_zipped (zipped (finmap.get store.now) (finmap.entries other.now))) }
-    ensures without_memory { news_zipped (zipped (finmap.get store.now) (finmap.entries other.now)) ≡ [] → IsOk result }
+    ensures without_memory { news_zipped (zipped (finmap.get store.now) (finmap.entries other.now))
+        ≡ [] → IsOk result }
 {
     let mut both = other.entries_zipped(store);
     let mut places = Vec::new(store.allocator());

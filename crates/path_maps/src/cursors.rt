@@ -48,7 +48,8 @@ impl<C: Cursor, O: Cursor<Item = C>> Cursor for Nested<C, O> {
 /// Takes the next item of the list that is being read, if there is such a list and it has one left.
 #[inline(always)]
 pub fn next_of<C: Cursor>(cursor: &mut Option<C>) -> Option<C::Item>
-    ensures first { MatchOption result ((in_hand C.left cursor.old ≡ []) × (in_hand C.left cursor.new ≡ []))
+    ensures first { MatchOption result
+        ((in_hand C.left cursor.old ≡ []) × (in_hand C.left cursor.new ≡ []))
         (λ item. in_hand C.left cursor.old ≡ item ∷ in_hand C.left cursor.new) }
 {
     match cursor {

@@ -23,8 +23,10 @@ pub(crate) struct Unlike {
 pub(crate) fn find_unlike(store: &Store, older: &Store) -> Result<Unlike, AllocError>
     ensures places { IfOk result (λ found. found.places.items
         ≡ differing_zipped (zipped (finmap.get older.now) (finmap.entries store.now))) }
-    ensures added { IfOk result (λ found. found.added ≡ additions older.now (finmap.entries store.now)) }
-    ensures without_memory { differing_zipped (zipped (finmap.get older.now) (finmap.entries store.now)) ≡ [] → IsOk result }
+    ensures added { IfOk result
+        (λ found. found.added ≡ additions older.now (finmap.entries store.now)) }
+    ensures without_memory { differing_zipped
+        (zipped (finmap.get older.now) (finmap.entries store.now)) ≡ [] → IsOk result }
 {
     let mut both = store.entries_zipped(older);
     let mut found = Unlike {

@@ -143,7 +143,8 @@ impl<'a> PathEntries<'a> {
 
     /// Takes the next entry, if one is left. O(1). Allocates nothing.
     pub fn next_entry(&mut self) -> Option<PathEntry<'a>>
-        ensures first { MatchOption result ((self.old ≡ []) × (self.new ≡ [])) (λ placed. self.old ≡ placed ∷ self.new) }
+        ensures first { MatchOption result ((self.old ≡ []) × (self.new ≡ []))
+            (λ placed. self.old ≡ placed ∷ self.new) }
     {
         let (entry, ()) = next_of(&mut self.names)?;
         Some(entry)

@@ -127,9 +127,13 @@ impl Addition for AddInFolder {
 
     type Value = FolderMap;
 
-    ghost added = { λ a. (a.addition.key, (a.addition.addition.key, a.addition.addition.addition.value) ∷ []) ∷ [] };
+    ghost added = { λ a. (
+      a.addition.key,
+      (a.addition.addition.key, a.addition.addition.addition.value) ∷ [],
+    ) ∷ [] };
 
-    ghost is_new = { λ a map. is_none_or (λ names. is_none_or (λ _. false) (find bytes_cmp a.addition.addition.key names))
+    ghost is_new = { λ a map. is_none_or
+        (λ names. is_none_or (λ _. false) (find bytes_cmp a.addition.addition.key names))
         (find bytes_cmp a.addition.key map) };
 
     ghost joins_in_place = { Unit {0} };
@@ -163,10 +167,14 @@ impl<'a> Change for OverwriteInFolder<'a> {
 
     type Value = FolderMap;
 
-    ghost is_made = { λ o map. is_some_and (λ names. is_some_and (has_other content_cmp o.change.change.change.entry.content)
+    ghost is_made = { λ o map. is_some_and
+        (λ names. is_some_and (has_other content_cmp o.change.change.change.entry.content)
         (find bytes_cmp o.change.change.key.now names)) (find bytes_cmp o.change.key.now map) };
 
-    ghost added = { λ o. (o.change.key.now, (o.change.change.key.now, At o.change.change.change.entry) ∷ []) ∷ [] };
+    ghost added = { λ o. (
+      o.change.key.now,
+      (o.change.change.key.now, At o.change.change.change.entry) ∷ [],
+    ) ∷ [] };
 
     fn make(self, map: &mut FolderMap) -> bool {
         let OverwriteInFolder { change } = self;

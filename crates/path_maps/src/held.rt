@@ -55,7 +55,8 @@ impl<'a> Held<'a> {
     /// path has no folder. O(log n). Builds no path and allocates nothing.
     pub fn entry_at(&self, rank: u8, folder: &[u8], name: &[u8]) -> Option<PathEntry<'a>>
         ensures path { IfSome result (λ entry. entry.0 ≡ path_at rank folder.now name.now) }
-        ensures held { option_map (λ entry. entry.1) result ≡ finmap.get self.now (path_at rank folder.now name.now) }
+        ensures held { option_map (λ entry. entry.1) result
+            ≡ finmap.get self.now (path_at rank folder.now name.now) }
     {
         let (folder, names) = folder_at(self.ranks, rank, folder)?;
         let (name, value) = pair_at(names, name)?;
@@ -82,7 +83,8 @@ impl<'a> Held<'a> {
     /// Returns a cursor over the entries in a folder of the directory of a rank, in path order, removals included. The
     /// empty folder has the paths of one component. O(log n). Allocates nothing.
     pub fn entries_in(&self, rank: u8, folder: &[u8]) -> PathEntries<'a>
-        ensures entries { result ≡ filter (λ p. is_in rank folder.now p.0) (finmap.entries self.now) }
+        ensures entries { result ≡ filter (λ p. is_in rank folder.now p.0)
+            (finmap.entries self.now) }
     {
         match folder_at(self.ranks, rank, folder) {
             Some((folder, names)) => PathEntries::of_folder(rank, folder, names),

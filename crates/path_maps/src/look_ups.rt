@@ -78,8 +78,10 @@ pub fn folder_at<'a>(
     folder: &[u8],
 ) -> Option<(&'a Bytes, &'a NameMap)>
     ensures found { MatchOption result
-        (find bytes_cmp folder.now (or_empty (find nat_cmp rank (or_empty (option_copied ranks.entry)))) ≡ None)
-        (λ pair. (pair.0.now ≡ folder.now) × (find bytes_cmp folder.now
+        (find bytes_cmp folder.now
+        (or_empty (find nat_cmp rank (or_empty (option_copied ranks.entry)))) ≡ None)
+        (λ pair. (pair.0.now ≡ folder.now)
+        × (find bytes_cmp folder.now
         (or_empty (find nat_cmp rank (or_empty (option_copied ranks.entry)))) ≡ Some pair.1.now)) }
 {
     let folders = ranks?.get(&rank)?;

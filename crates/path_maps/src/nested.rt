@@ -100,7 +100,8 @@ impl<'a, N: OtherMap<Bytes>, F: OtherMap<Bytes, Held = N>, R: OtherMap<u8, Held 
 
     ghost before = { λ p q. nat_cmp p.0 q.0 ≡ Less };
 
-    ghost part = { λ s p. folders_read (λ f. N.held (F.held (R.held s.others p.0) f)) p.0 p.1 ∷ [] };
+    ghost part = { λ s p. folders_read (λ f. N.held (F.held (R.held s.others p.0) f)) p.0 p.1
+        ∷ [] };
 
     #[inline(always)]
     fn read(&mut self, item: Pair<'a, u8, FolderMap>) -> Folders<'a, F> {
@@ -210,7 +211,8 @@ impl<
     ghost before = { λ p q. scope_cmp p.0 q.0 ≡ Less };
 
     ghost part = { λ s p. scope_read p.0
-        (zipped (held_at_path (λ r f. N.held (F.held (R.held (S.held s.others p.0) r) f))) (listed p.1)) ∷ [] };
+        (zipped (held_at_path (λ r f. N.held (F.held (R.held (S.held s.others p.0) r) f)))
+        (listed p.1)) ∷ [] };
 
     #[inline(always)]
     fn read(&mut self, item: Pair<'a, Scope, RankMap>) -> InScope<'a, N, F, R> {
@@ -231,8 +233,9 @@ pub fn places_of<
 >(scopes: &'a ScopeMap, others: S) -> Places<'a, N, F, R, S>
     requires paths { HasWellFormedPaths scopes.now }
     ensures entries { left_of result.inner result.outer
-        ≡ zipped (λ q. N.held (F.held (R.held (S.held others q.scope) q.path.rank) q.path.folder) q.path.name)
-        (all_listed scopes.now) }
+        ≡ zipped
+        (λ q. N.held (F.held (R.held (S.held others q.scope) q.path.rank) q.path.folder)
+        q.path.name) (all_listed scopes.now) }
 {
     let left = scopes.pairs();
     Nested {

@@ -133,7 +133,8 @@ impl<'a> Entries<'a> {
 
     /// Takes the next entry, if one is left. O(1). Allocates nothing.
     pub fn next_entry(&mut self) -> Option<Placed<'a>>
-        ensures first { MatchOption result ((self.old ≡ []) × (self.new ≡ [])) (λ placed. self.old ≡ placed ∷ self.new) }
+        ensures first { MatchOption result ((self.old ≡ []) × (self.new ≡ []))
+            (λ placed. self.old ≡ placed ∷ self.new) }
     {
         let (placed, ()) = self.entries.next()?;
         Some(placed)
@@ -157,7 +158,8 @@ pub(crate) fn places_in(
     mut entries: PathEntries<'_>,
     alloc: Global,
 ) -> Result<Vec<Place>, AllocError>
-    ensures places { IfOk result (λ places. places.items ≡ map (λ p. p.0) (placed scope.now entries.entry)) }
+    ensures places { IfOk result
+        (λ places. places.items ≡ map (λ p. p.0) (placed scope.now entries.entry)) }
 {
     let mut places = Vec::new(alloc);
     while let Some(entry) = entries.next_entry() {

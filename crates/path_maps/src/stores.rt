@@ -222,7 +222,8 @@ impl Store {
         ensures ascending { IfOk result (λ places. IsStrictlySortedBy place_cmp places.items) }
         ensures exact { IfOk result (λ places. (p : PlaceParts) →
             IsAmong p places.items ↔ (visible_at self.now p ≢ visible_at older.now p)) }
-        ensures without_memory { ((p : PlaceParts) → visible_at self.now p ≡ visible_at older.now p) → IsOk result }
+        ensures without_memory { ((p : PlaceParts) → visible_at self.now p ≡ visible_at older.now p)
+            → IsOk result }
     {
         let found = find_unlike(self, older)?;
         if self.has_all_of(older, found.added) {
@@ -237,8 +238,8 @@ impl Store {
     /// It reads both side by side once. Fails only if memory runs out, when the list grows, and copies no bytes.
     pub fn news(&self, other: &Store) -> Result<Vec<Place>, AllocError>
         ensures ascending { IfOk result (λ places. IsStrictlySortedBy place_cmp places.items) }
-        ensures exact { IfOk result (λ places. (p : PlaceParts) →
-            IsAmong p places.items ↔ (finmap.get (join self.now other.now) p ≢ finmap.get self.now p)) }
+        ensures exact { IfOk result (λ places. (p : PlaceParts) → IsAmong p places.items
+            ↔ (finmap.get (join self.now other.now) p ≢ finmap.get self.now p)) }
         ensures without_memory { join self.now other.now ≡ self.now → IsOk result }
     {
         find_news(self, other)
@@ -247,7 +248,8 @@ impl Store {
     // Whether all places of an older store are held too, where so many are held that it doesn't have.
     fn has_all_of(&self, older: &Store, added: usize) -> bool
         requires added { added ≡ additions older.now (finmap.entries self.now) }
-        ensures all { IsTrue result → (p : PlaceParts) → finmap.get self.now p ≡ None → finmap.get older.now p ≡ None }
+        ensures all { IsTrue result → (p : PlaceParts) → finmap.get self.now p ≡ None
+            → finmap.get older.now p ≡ None }
     {
         self.len - added == older.len
     }
@@ -421,7 +423,8 @@ impl Store {
     // greatest number is held.
     fn is_full_for(&self, place: &Place) -> bool
         ensures full { OnTrue result (finmap.get self.now place.now ≡ None) }
-        ensures room { OnFalse result (finmap.get self.now place.now ≡ None → finmap.len self.now + 1 ≤ usize.MAX) }
+        ensures room { OnFalse result
+            (finmap.get self.now place.now ≡ None → finmap.len self.now + 1 ≤ usize.MAX) }
     {
         self.len == usize::MAX && self.get(place).is_none()
     }

@@ -82,7 +82,8 @@ pub(crate) struct Together<'a> {
 impl<'a> Model for Together<'a> {
     ghost Value = { List specs.Shown };
 
-    ghost view = { λ t. specs.together (specs.from_first t.newer t.newer_left) (specs.from_first t.older t.older_left) };
+    ghost view = { λ t. specs.together (specs.from_first t.newer t.newer_left)
+        (specs.from_first t.older t.older_left) };
 }
 
 impl<'a> Together<'a> {
@@ -100,7 +101,8 @@ impl<'a> Together<'a> {
 
     // Takes the next place, if one is left. Allocates nothing.
     fn next_shown(&mut self) -> Option<Shown<'a>>
-        ensures first { MatchOption result ((self.old ≡ []) × (self.new ≡ [])) (λ shown. self.old ≡ shown ∷ self.new) }
+        ensures first { MatchOption result ((self.old ≡ []) × (self.new ≡ []))
+            (λ shown. self.old ≡ shown ∷ self.new) }
     {
         match (self.newer.take(), self.older.take()) {
             (None, None) => None,

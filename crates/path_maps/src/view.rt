@@ -80,7 +80,8 @@ impl<'a> Model for HostViewEntries<'a> {
 impl<'a> HostViewEntries<'a> {
     /// Takes the next entry, if one is left. O(1). Allocates nothing.
     pub fn next_entry(&mut self) -> Option<HostViewEntry<'a>>
-        ensures first { MatchOption result ((self.old ≡ []) × (self.new ≡ [])) (λ placed. self.old ≡ placed ∷ self.new) }
+        ensures first { MatchOption result ((self.old ≡ []) × (self.new ≡ []))
+            (λ placed. self.old ≡ placed ∷ self.new) }
     {
         let entry = self.entries.next_entry()?;
         let level = self.level;
@@ -168,7 +169,8 @@ impl<'a> HostView<'a> {
     /// path has no folder. O(log n). Builds no path and allocates nothing.
     pub fn entry_at(&self, level: u8, folder: &[u8], name: &[u8]) -> Option<HostViewEntry<'a>>
         ensures path { IfSome result (λ entry. entry.0 ≡ path_at level folder.now name.now) }
-        ensures held { option_map (λ entry. entry.1) result ≡ finmap.get (view self.now) (path_at level folder.now name.now) }
+        ensures held { option_map (λ entry. entry.1) result
+            ≡ finmap.get (view self.now) (path_at level folder.now name.now) }
     {
         let held = self.holding(level)?;
         let entry = held.entry_at(level / 2, folder, name)?;
@@ -178,7 +180,8 @@ impl<'a> HostView<'a> {
     /// Returns a cursor over the entries in a folder of the directory of a level, in path order, removals included. The
     /// empty folder has the paths of one component. O(log n). Allocates nothing.
     pub fn entries_in(&self, level: u8, folder: &[u8]) -> HostViewEntries<'a>
-        ensures entries { result ≡ filter (λ p. is_in level folder.now p.0) (finmap.entries (view self.now)) }
+        ensures entries { result ≡ filter (λ p. is_in level folder.now p.0)
+            (finmap.entries (view self.now)) }
     {
         let entries = self.entries_after(level, folder);
         HostViewEntries { level, entries }

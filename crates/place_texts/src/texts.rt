@@ -12,7 +12,8 @@ use std::alloc::{AllocError, Global};
 /// Appends a file: its place after `# `, and its bytes, with a line feed added if the last byte is none. Fails only if
 /// memory runs out.
 pub fn append_file(out: &mut Vec<u8>, place: &Place, bytes: &[u8]) -> Result<(), AllocError>
-    ensures appended { OnOk result (out.new.items ≡ out.old.items ++ file_lines place.now bytes.now) }
+    ensures appended { OnOk result
+        (out.new.items ≡ out.old.items ++ file_lines place.now bytes.now) }
 {
     out.extend_from_slice(b"# ")?;
     place.append_to(out)?;
@@ -26,7 +27,8 @@ pub fn append_file(out: &mut Vec<u8>, place: &Place, bytes: &[u8]) -> Result<(),
 
 // Appends a link: its place, and its target.
 fn append_link(out: &mut Vec<u8>, place: &Place, target: &LinkTarget) -> Result<(), AllocError>
-    ensures appended { OnOk result (out.new.items ≡ out.old.items ++ shown_lines place.now (Link target.now)) }
+    ensures appended { OnOk result
+        (out.new.items ≡ out.old.items ++ shown_lines place.now (Link target.now)) }
 {
     place.append_to(out)?;
     out.extend_from_slice(b" link ")?;
@@ -38,7 +40,8 @@ fn append_link(out: &mut Vec<u8>, place: &Place, target: &LinkTarget) -> Result<
 /// Appends what stands at a place: a file as `cat` writes it, or the place and the target of a link; nothing of a
 /// removal. Linear in what is written. Fails only if memory runs out.
 pub fn append_shown(out: &mut Vec<u8>, place: &Place, content: &Content) -> Result<(), AllocError>
-    ensures appended { OnOk result (out.new.items ≡ out.old.items ++ shown_lines place.now content.now) }
+    ensures appended { OnOk result
+        (out.new.items ≡ out.old.items ++ shown_lines place.now content.now) }
 {
     match content {
         Content::Gone => Ok(()),

@@ -70,7 +70,8 @@ pub fn same(a: &[u8], b: &[u8]) -> bool
 
 // Skips the whole words that both strings begin with, and returns what remains of each; `None` if two words differ.
 fn past_all_words<'a>(a: &'a [u8], b: &'a [u8]) -> Option<(&'a [u8], &'a [u8])>
-    ensures left { IfSome result (λ left. slice_cmp nat_cmp left.0.now left.1.now ≡ slice_cmp nat_cmp a.now b.now) }
+    ensures left { IfSome result
+        (λ left. slice_cmp nat_cmp left.0.now left.1.now ≡ slice_cmp nat_cmp a.now b.now) }
     ensures differ { result ≡ None → slice_cmp nat_cmp a.now b.now ≢ Equal }
 {
     let (mut a_left, mut b_left) = past_lines(a, b)?;
@@ -82,7 +83,8 @@ fn past_all_words<'a>(a: &'a [u8], b: &'a [u8]) -> Option<(&'a [u8], &'a [u8])>
 
 // Skips whole lines of 32 bytes, and returns what remains of each string; `None` if two words differ.
 fn past_lines<'a>(a: &'a [u8], b: &'a [u8]) -> Option<(&'a [u8], &'a [u8])>
-    ensures left { IfSome result (λ left. slice_cmp nat_cmp left.0.now left.1.now ≡ slice_cmp nat_cmp a.now b.now) }
+    ensures left { IfSome result
+        (λ left. slice_cmp nat_cmp left.0.now left.1.now ≡ slice_cmp nat_cmp a.now b.now) }
     ensures differ { result ≡ None → slice_cmp nat_cmp a.now b.now ≢ Equal }
 {
     let mut a_left = a;
@@ -101,7 +103,8 @@ fn past_lines<'a>(a: &'a [u8], b: &'a [u8]) -> Option<(&'a [u8], &'a [u8])>
 fn past_word<'a>(a: &'a [u8], b: &'a [u8]) -> Option<(&'a [u8], &'a [u8])>
     requires eight { 8 ≤ length a.now }
     requires other_eight { 8 ≤ length b.now }
-    ensures left { IfSome result (λ left. slice_cmp nat_cmp left.0.now left.1.now ≡ slice_cmp nat_cmp a.now b.now) }
+    ensures left { IfSome result
+        (λ left. slice_cmp nat_cmp left.0.now left.1.now ≡ slice_cmp nat_cmp a.now b.now) }
     ensures following { IfSome result (λ left. 8 + length left.0.now ≡ length a.now) }
     ensures other_following { IfSome result (λ left. 8 + length left.1.now ≡ length b.now) }
     ensures differ { result ≡ None → slice_cmp nat_cmp a.now b.now ≢ Equal }

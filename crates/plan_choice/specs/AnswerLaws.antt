@@ -12,7 +12,8 @@ pub record KeepsPromises {N : Type 0} (order : N → N → Ordering) (c : Case N
   pub loaded : (u : N) → IsChosen order c u → IsTrue (c.is_loaded u)
   pub requisites : (u v : N) → IsChosen order c u → IsNeeded c u ⊎ ¬ IsLeftAlone c u → ¬ Lacks c u v
   pub peace : (u v : N) → IsChosen order c u → IsChosen order c v → ¬ AreInConflict c u v
-  pub after : (prefix : List N) (u : N) (rest : List N) → starts ≡ prefix ++ u ∷ rest → (v : N) → Starts order c v → Precedes c v u → IsAmong v prefix
+  pub after : (prefix : List N) (u : N) (rest : List N) → starts ≡ prefix ++ u ∷ rest → (v : N) → Starts order c v
+      → Precedes c v u → IsAmong v prefix
 
 -- By files alone there are no exceptions: what is chosen is closed under need, and its requisites are running.
 pub record KeepsFilePromises {N : Type 0} (order : N → N → Ordering) (c : Case N) : Type 0 where
@@ -93,7 +94,8 @@ module _ {N : Type 0} (order : N → N → Ordering) (c : Case N) where
     }
 
 -- by files alone a plan keeps the promises without exceptions
-pub files_keep : {N : Type 0} (order : N → N → Ordering) (c : Case N) (starts : List N) → c.profile ≡ Files → KeepsPromises order c starts → KeepsFilePromises order c
+pub files_keep : {N : Type 0} (order : N → N → Ordering) (c : Case N) (starts : List N) → c.profile ≡ Files
+    → KeepsPromises order c starts → KeepsFilePromises order c
 files_keep {N} order c starts e k = record {
   closed = λ u v h a. elim (k.closed u v h (inr (free u)) a) [ inl chosen ↦ chosen | inr left ↦ absurd (free v left) ];
   requisites = λ u v h a. stable (c.is_running v) (λ rests. k.requisites u v h (inr (free u)) (record { asked = a; rests = rests; unpulled = λ m. absurd (files_or_manager (sym e ∙ m)) }));

@@ -4,7 +4,8 @@ use Rattle.plan_choice.specs.Prelude.{[], ap, AreNamedSuccessors, AreNames, Bool
 use Rattle.plan_choice.specs.{Answers.{AreNeededConflicts, conflict, cycle, IsClearBelow, IsFirstPair, IsPlan, IsRefusal, IsUnloadedNeed, LacksRequisite, manual_start, need_fault, rank, Refusal, requisite, Stands, target_fault, WaitsForever}, Case.{Case}, NamedCases.{IsNamedCase, named_refusal}, SetLaws.{is_false, needs_itself, unlike}, Sets.{AreInConflict, AsksFor, GoesOn, IsChosen, IsDropped, IsExtra, IsGood, IsLeftAlone, IsLoser, IsNeeded, IsOutside, IsPulled, IsStoppedByConflict, Keeps, Lacks, LosesTo, MissesRequisite, Needs, NeedsNext, Precedes, Pulls, Starts, TakesAlong}}
 
 -- sets with the same members
-same_names : {N : Type 0} (count : ℕ) (name : ℕ → N) (P R : ℕ → Type 0) (Q S : N → Type 0) → AreNames count name P Q → ((i : ℕ) → P i ↔ R i) → ((u : N) → Q u ↔ S u) → AreNames count name R S
+same_names : {N : Type 0} (count : ℕ) (name : ℕ → N) (P R : ℕ → Type 0) (Q S : N → Type 0) → AreNames count name P Q
+    → ((i : ℕ) → P i ↔ R i) → ((u : N) → Q u ↔ S u) → AreNames count name R S
 same_names count name P R Q S a p q = record {
   within = λ i h. a.within i ((p i).1 h);
   named = λ i h. (q (name i)).0 (a.named i ((p i).1 h));
@@ -12,7 +13,8 @@ same_names count name P R Q S a p q = record {
 }
 
 -- what is in one of two sets
-either_named : {N : Type 0} (count : ℕ) (name : ℕ → N) (P P' : ℕ → Type 0) (Q Q' : N → Type 0) → AreNames count name P Q → AreNames count name P' Q' → AreNames count name (λ i. P i ⊎ P' i) (λ u. Q u ⊎ Q' u)
+either_named : {N : Type 0} (count : ℕ) (name : ℕ → N) (P P' : ℕ → Type 0) (Q Q' : N → Type 0) → AreNames count name P Q
+    → AreNames count name P' Q' → AreNames count name (λ i. P i ⊎ P' i) (λ u. Q u ⊎ Q' u)
 either_named count name P P' Q Q' a b = record {
   within = λ i h. elim h [ inl k ↦ a.within i k | inr k ↦ b.within i k ];
   named = λ i h. elim h [ inl k ↦ inl (a.named i k) | inr k ↦ inr (b.named i k) ];
@@ -20,16 +22,19 @@ either_named count name P P' Q Q' a b = record {
 }
 
 -- a set of names, where something else holds
-where_named : {N : Type 0} (count : ℕ) (name : ℕ → N) (A B : Type 0) (P : ℕ → Type 0) (Q : N → Type 0) → (A → B) → (B → A) → AreNames count name P Q → AreNames count name (λ i. A × P i) (λ u. B × Q u)
+where_named : {N : Type 0} (count : ℕ) (name : ℕ → N) (A B : Type 0) (P : ℕ → Type 0) (Q : N → Type 0) → (A → B)
+    → (B → A) → AreNames count name P Q → AreNames count name (λ i. A × P i) (λ u. B × Q u)
 where_named count name A B P Q to from a = record {
   within = λ i h. a.within i h.1;
   named = λ i h. (to h.0, a.named i h.1);
   indexed = λ u h. (let r = a.indexed u h.1 in (r.0, ((from h.0, r.1.0), r.1.1)));
 }
 
-module _ {N : Type 0} (count : ℕ) (name : ℕ → N) (order : N → N → Ordering) (total : IsTotalOrder order) (n : IsIndexing count name order) where
+module _ {N : Type 0} (count : ℕ) (name : ℕ → N) (order : N → N → Ordering) (total : IsTotalOrder order)
+    (n : IsIndexing count name order) where
   -- what is in one set and not in another
-  without_named : (P P' : ℕ → Type 0) (Q Q' : N → Type 0) → AreNames count name P Q → AreNames count name P' Q' → AreNames count name (λ i. P i × ¬ P' i) (λ u. Q u × ¬ Q' u)
+  without_named : (P P' : ℕ → Type 0) (Q Q' : N → Type 0) → AreNames count name P Q → AreNames count name P' Q'
+      → AreNames count name (λ i. P i × ¬ P' i) (λ u. Q u × ¬ Q' u)
   without_named P P' Q Q' a b = record {
     within = λ i h. a.within i h.0;
     named = λ i h. (a.named i h.0, λ q. h.1 (index_of count name order total n P' Q' b i (a.within i h.0) q));
@@ -37,17 +42,20 @@ module _ {N : Type 0} (count : ℕ) (name : ℕ → N) (order : N → N → Orde
   }
 
   -- the first pair of a relation, by name
-  pair_named : (R : ℕ → ℕ → Type 0) (S : N → N → Type 0) → AreNames count name (λ x. (y : ℕ) × R x y) (λ x. (y : N) × S x y) → AreNamedSuccessors count name R S
+  pair_named : (R : ℕ → ℕ → Type 0) (S : N → N → Type 0)
+      → AreNames count name (λ x. (y : ℕ) × R x y) (λ x. (y : N) × S x y) → AreNamedSuccessors count name R S
       → (a b : ℕ) → IsFirstPair nat_cmp R a b → IsFirstPair order S (name a) (name b)
   pair_named R S o s a b f = record {
     outer = (least_named count name order total n (λ x. (y : ℕ) × R x y) (λ x. (y : N) × S x y) o).named a f.outer;
     inner = (least_named count name order total n (R a) (S (name a)) (s a (o.within a f.outer.member))).named b f.inner;
   }
 
-  false_named : (P : ℕ → Bool) (Q : N → Bool) → AreNames count name (λ i. IsTrue (P i)) (λ u. IsTrue (Q u)) → (i : ℕ) → i < count → P i ≡ false → Q (name i) ≡ false
+  false_named : (P : ℕ → Bool) (Q : N → Bool) → AreNames count name (λ i. IsTrue (P i)) (λ u. IsTrue (Q u)) → (i : ℕ)
+      → i < count → P i ≡ false → Q (name i) ≡ false
   false_named P Q a i l e = is_false (Q (name i)) (λ q. unlike (P i) e (index_of count name order total n (λ j. IsTrue (P j)) (λ u. IsTrue (Q u)) a i l q))
 
-  false_index : (P : ℕ → Bool) (Q : N → Bool) → AreNames count name (λ i. IsTrue (P i)) (λ u. IsTrue (Q u)) → (i : ℕ) → Q (name i) ≡ false → P i ≡ false
+  false_index : (P : ℕ → Bool) (Q : N → Bool) → AreNames count name (λ i. IsTrue (P i)) (λ u. IsTrue (Q u)) → (i : ℕ)
+      → Q (name i) ≡ false → P i ≡ false
   false_index P Q a i e = is_false (P i) (λ p. unlike (Q (name i)) e (a.named i p))
 
   -- the one name of an index
@@ -85,7 +93,8 @@ module _ {N : Type 0} (count : ℕ) (name : ℕ → N) (order : N → N → Orde
         reached_named count name (Listed (i ∷ [])) (Listed (name i ∷ [])) (NeedsNext c i) (NeedsNext d (name i))
         (listed_names count name (i ∷ []) (λ j k. elim k [ inl e ↦ subst (λ x. x < count) e l | inr none ↦ absurd none ])) (next_named i l)
 
-    from_target : (E : ℕ → ℕ → Type 0) (F : N → N → Type 0) → AreNamedSuccessors count name E F → AreNames count name (IsReached (Listed (c.target ∷ [])) E) (IsReached (Listed (d.target ∷ [])) F)
+    from_target : (E : ℕ → ℕ → Type 0) (F : N → N → Type 0) → AreNamedSuccessors count name E F
+        → AreNames count name (IsReached (Listed (c.target ∷ [])) E) (IsReached (Listed (d.target ∷ [])) F)
     from_target E F s =
         subst (λ t. AreNames count name (IsReached (Listed (c.target ∷ [])) E) (IsReached (Listed (t ∷ [])) F)) h.target
         (reached_named count name (Listed (c.target ∷ [])) (Listed (name c.target ∷ [])) E F
@@ -95,7 +104,8 @@ module _ {N : Type 0} (count : ℕ) (name : ℕ → N) (order : N → N → Orde
     needed_named = subst (λ t. AreNames count name (IsNeeded c) (Needs d t)) h.target (needs_named c.target h.below)
 
     -- a relation between named units, by indices and by names
-    step_index : (f : ℕ → List ℕ) (g : N → List N) → AreNamedSuccessors count name (Named f) (Named g) → (i j : ℕ) → i < count → j < count → IsAmong (name j) (g (name i)) → IsAmong j (f i)
+    step_index : (f : ℕ → List ℕ) (g : N → List N) → AreNamedSuccessors count name (Named f) (Named g) → (i j : ℕ)
+        → i < count → j < count → IsAmong (name j) (g (name i)) → IsAmong j (f i)
     step_index f g s i j l m a = index_of count name order total n (λ x. IsAmong x (f i)) (λ u. IsAmong u (g (name i))) (s i l) j m a
 
     conflict_named : (i j : ℕ) → i < count → j < count → AreInConflict c i j → AreInConflict d (name i) (name j)
@@ -377,7 +387,8 @@ module _ {N : Type 0} (count : ℕ) (name : ℕ → N) (order : N → N → Orde
     conflicting_to : (i j : ℕ) → AreNeededConflicts nat_cmp c i j → AreNeededConflicts order d (name i) (name j)
     conflicting_to i j k = (needed_named.named i k.0, needed_named.named j k.1, conflict_named i j (needed_named.within i k.0) (needed_named.within j k.1) k.2)
 
-    conflicting_from : (i : ℕ) → i < count → (v : N) → AreNeededConflicts order d (name i) v → (j : ℕ) × (AreNeededConflicts nat_cmp c i j × (name j ≡ v))
+    conflicting_from : (i : ℕ) → i < count → (v : N) → AreNeededConflicts order d (name i) v
+        → (j : ℕ) × (AreNeededConflicts nat_cmp c i j × (name j ≡ v))
     conflicting_from i l v k =
         let o = needed_named.indexed v k.1 in
         (o.0, ((index_of count name order total n (IsNeeded c) (IsNeeded d) needed_named i l k.0, o.1.0, conflict_index i o.0 l (needed_named.within o.0 o.1.0) (subst (λ x. AreInConflict d (name i) x) (sym o.1.1) k.2)), o.1.1))

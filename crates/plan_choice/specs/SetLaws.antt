@@ -109,7 +109,8 @@ module _ {N : Type 0} (c : Case N) where
     chosen_loaded loaded v h = elim (pulled_reason v (chosen_kept v h).0) [ inl n ↦ loaded v n | inr g ↦ g.1.0.all_loaded v g.1.1 ]
 
     -- no requisite is lacking, but of what is only wanted and left alone
-    pub chosen_requisites : ((u v : N) → IsNeeded c u → ¬ Lacks c u v) → (u v : N) → IsChosen order c u → IsNeeded c u ⊎ ¬ IsLeftAlone c u → ¬ Lacks c u v
+    pub chosen_requisites : ((u v : N) → IsNeeded c u → ¬ Lacks c u v) → (u v : N) → IsChosen order c u
+        → IsNeeded c u ⊎ ¬ IsLeftAlone c u → ¬ Lacks c u v
     chosen_requisites there u v h (inl n) l = there u v n l
     chosen_requisites there u v h (inr free) l = by c.profile refl
       where

@@ -48,7 +48,8 @@ impl<'c, 'a> Model for CaseSets<'c, 'a> {
 
     ghost view = { λ m. m.case.now };
 
-    ghost invariant = { λ m. AreCaseSets m.case.now m.idle.items m.going.items m.needed.items m.conflicting };
+    ghost invariant = { λ m. AreCaseSets m.case.now m.idle.items m.going.items m.needed.items
+        m.conflicting };
 }
 
 impl<'c, 'a> CaseSets<'c, 'a> {
@@ -73,7 +74,9 @@ impl<'c, 'a> CaseSets<'c, 'a> {
 
 // Edges from each unit to those that conflict with it.
 fn conflicting<'a>(alloc: Global, case: &IndexedCase<'a>) -> Result<Successors<'a>, AllocError>
-    ensures { IfOk result (λ successors. ArePairsOf (count_of case.now) (AreInConflict (case_of case.now)) successors) }
+    ensures { IfOk result
+        (λ successors. ArePairsOf (count_of case.now)
+        (AreInConflict (case_of case.now)) successors) }
 {
     let mut conflicting = Successors::new(alloc);
     conflicting.push(case.conflicts)?;
@@ -83,7 +86,9 @@ fn conflicting<'a>(alloc: Global, case: &IndexedCase<'a>) -> Result<Successors<'
 
 // The set of units that aren't left alone: all of them or, for a manager, those that don't run.
 fn free(alloc: Global, case: &IndexedCase) -> Result<Vec<bool>, AllocError>
-    ensures { IfOk result (λ bits. AreBitsOf (count_of case.now) (IsFree (count_of case.now) (case_of case.now)) bits.items) }
+    ensures { IfOk result
+        (λ bits. AreBitsOf (count_of case.now)
+        (IsFree (count_of case.now) (case_of case.now)) bits.items) }
 {
     match case.profile {
         Profile::Files => {
@@ -108,7 +113,9 @@ fn going(alloc: Global, case: &IndexedCase, units: &[usize]) -> Result<Vec<bool>
 // The set of units that need one of these: they are reached backwards, from none that is left alone but these.
 fn needing(alloc: Global, case: &IndexedCase, units: &[usize]) -> Result<Vec<bool>, AllocError>
     requires { All (λ v. v < count_of case.now) units.now }
-    ensures { IfOk result (λ bits. AreBitsOf (count_of case.now) (NeedsSome (case_of case.now) units.now) bits.items) }
+    ensures { IfOk result
+        (λ bits. AreBitsOf (count_of case.now)
+        (NeedsSome (case_of case.now) units.now) bits.items) }
 {
     let going = going(alloc, case, units)?;
     let none = Successors::new(alloc);
@@ -118,7 +125,8 @@ fn needing(alloc: Global, case: &IndexedCase, units: &[usize]) -> Result<Vec<boo
 impl<'c, 'a> CaseSets<'c, 'a> {
     // The set of pulled units. Over a weak dependency only good ones are pulled.
     pub fn pulled(&self, alloc: Global) -> Result<Vec<bool>, AllocError>
-        ensures { IfOk result (λ bits. AreBitsOf (count_of self.now) (IsPulled (case_of self.now)) bits.items) }
+        ensures { IfOk result
+            (λ bits. AreBitsOf (count_of self.now) (IsPulled (case_of self.now)) bits.items) }
     {
         let good = self.good_weak_dependencies(alloc)?;
         let case = self.case;
@@ -135,7 +143,9 @@ impl<'c, 'a> CaseSets<'c, 'a> {
     // The units that are lacked as requisites: those that don't run and, for a manager, aren't pulled.
     fn absent(&self, alloc: Global, pulled: &[bool]) -> Result<Vec<bool>, AllocError>
         requires { AreBitsOf (count_of self.now) (IsPulled (case_of self.now)) pulled.now }
-        ensures { IfOk result (λ bits. AreBitsOf (count_of self.now) (IsAbsent (count_of self.now) (case_of self.now)) bits.items) }
+        ensures { IfOk result
+            (λ bits. AreBitsOf (count_of self.now)
+            (IsAbsent (count_of self.now) (case_of self.now)) bits.items) }
     {
         match self.case.profile {
             Profile::Files => non_members(alloc, &self.case.running),
@@ -152,7 +162,9 @@ impl<'c, 'a> CaseSets<'c, 'a> {
     ) -> Result<Vec<usize>, AllocError>
         requires extra { AreBitsOf (count_of self.now) (IsExtra (case_of self.now)) extra.now }
         requires pulled { AreBitsOf (count_of self.now) (IsPulled (case_of self.now)) pulled.now }
-        ensures { IfOk result (λ units. IsListOf (count_of self.now) (MissesRequisite nat_cmp (case_of self.now)) units.items) }
+        ensures { IfOk result
+            (λ units. IsListOf (count_of self.now)
+            (MissesRequisite nat_cmp (case_of self.now)) units.items) }
     {
         match self.case.profile {
             Profile::Files => Ok(Vec::new(alloc)),
@@ -167,7 +179,9 @@ impl<'c, 'a> CaseSets<'c, 'a> {
     // The units that lose a conflict or lack a requisite.
     fn losers(&self, alloc: Global, pulled: &[bool]) -> Result<Vec<usize>, AllocError>
         requires { AreBitsOf (count_of self.now) (IsPulled (case_of self.now)) pulled.now }
-        ensures { IfOk result (λ units. IsListOf (count_of self.now) (IsLoser nat_cmp (case_of self.now)) units.items) }
+        ensures { IfOk result
+            (λ units. IsListOf (count_of self.now)
+            (IsLoser nat_cmp (case_of self.now)) units.items) }
     {
         let extra = without(alloc, pulled, &self.needed)?;
         let mut losers = conflict_losers(alloc, self.case, &extra)?;
@@ -179,8 +193,9 @@ impl<'c, 'a> CaseSets<'c, 'a> {
     // The pulled units that remain: those that need no loser.
     fn remaining(&self, alloc: Global, pulled: &[bool]) -> Result<Vec<bool>, AllocError>
         requires { AreBitsOf (count_of self.now) (IsPulled (case_of self.now)) pulled.now }
-        ensures { IfOk result (λ bits. AreBitsOf (count_of self.now)
-            (λ u. IsPulled (case_of self.now) u × ¬ IsDropped nat_cmp (case_of self.now) u) bits.items) }
+        ensures { IfOk result
+            (λ bits. AreBitsOf (count_of self.now) (λ u. IsPulled (case_of self.now) u
+            × ¬ IsDropped nat_cmp (case_of self.now) u) bits.items) }
     {
         let losers = self.losers(alloc, pulled)?;
         let fallen = needing(alloc, self.case, &losers)?;
@@ -190,7 +205,9 @@ impl<'c, 'a> CaseSets<'c, 'a> {
     // The set of chosen units: those reached within what is pulled and not dropped.
     pub fn chosen(&self, alloc: Global, pulled: &[bool]) -> Result<Vec<bool>, AllocError>
         requires { AreBitsOf (count_of self.now) (IsPulled (case_of self.now)) pulled.now }
-        ensures { IfOk result (λ bits. AreBitsOf (count_of self.now) (IsChosen nat_cmp (case_of self.now)) bits.items) }
+        ensures { IfOk result
+            (λ bits. AreBitsOf (count_of self.now)
+            (IsChosen nat_cmp (case_of self.now)) bits.items) }
     {
         let rest = self.remaining(alloc, pulled)?;
         let case = self.case;
@@ -214,7 +231,9 @@ fn set_bits(bits: &mut Vec<bool>, nodes: &[usize], value: bool)
 fn loses(extra: &[bool], named: &[bool], namers: &[usize], unit: usize) -> bool
     requires named { length named.now ≡ length extra.now }
     requires namers { All (λ v. v < length extra.now) namers.now }
-    ensures { IsTrue result ↔ ((v : ℕ) × (IsAmong v namers.now × IsMember extra.now v × (IsMember named.now v → v < unit))) }
+    ensures { IsTrue result
+        ↔ ((v : ℕ)
+        × (IsAmong v namers.now × IsMember extra.now v × (IsMember named.now v → v < unit))) }
 {
     for other in namers {
         if extra[*other] && *other < unit {
@@ -255,9 +274,11 @@ fn first_pair(sources: &[bool], successors: &Successors, bits: &[bool]) -> Optio
     requires sources { length sources.now ≡ length bits.now }
     requires successors { AreSuccessorsOf (length bits.now) successors.now }
     ensures { MatchOption result
-        ((u v : ℕ) → ¬ (IsMember sources.now u × IsAmong v (successors_from successors.now u) × IsMember bits.now v))
-        (λ pair. IsFirstPair nat_cmp (λ u v. IsMember sources.now u × IsAmong v (successors_from successors.now u) × IsMember bits.now v)
-        pair.0 pair.1) }
+        ((u v : ℕ)
+        → ¬ (IsMember sources.now u × IsAmong v (successors_from successors.now u)
+        × IsMember bits.now v))
+        (λ pair. IsFirstPair nat_cmp (λ u v. IsMember sources.now u
+        × IsAmong v (successors_from successors.now u) × IsMember bits.now v) pair.0 pair.1) }
 {
     for (unit, is_source) in sources.iter().enumerate() {
         if *is_source {
@@ -277,7 +298,8 @@ impl<'c, 'a> CaseSets<'c, 'a> {
         pulled: &[bool],
     ) -> Result<Option<PlanRefusal<usize>>, AllocError>
         requires { AreBitsOf (count_of self.now) (IsPulled (case_of self.now)) pulled.now }
-        ensures { IfOk result (λ answer. MatchOption answer (IsClearBelow nat_cmp (case_of self.now) 6)
+        ensures { IfOk result
+            (λ answer. MatchOption answer (IsClearBelow nat_cmp (case_of self.now) 6)
             (IsRefusal nat_cmp (case_of self.now))) }
     {
         let case = self.case;
@@ -349,7 +371,8 @@ impl<'c, 'a> CaseSets<'c, 'a> {
     // The set of units that may be pulled over a weak dependency: those that need no unit with which something is
     // wrong.
     pub fn good_weak_dependencies(&self, alloc: Global) -> Result<Vec<bool>, AllocError>
-        ensures { IfOk result (λ bits. AreBitsOf (count_of self.now) (IsGood (case_of self.now)) bits.items) }
+        ensures { IfOk result
+            (λ bits. AreBitsOf (count_of self.now) (IsGood (case_of self.now)) bits.items) }
     {
         let faulty = self.faults(alloc)?;
         let bad = needing(alloc, self.case, &faulty)?;
@@ -367,7 +390,8 @@ fn leading_into(
     requires units { length bits.now ≡ length sources.now }
     requires successors { AreSuccessorsOf (length bits.now) successors.now }
     ensures { IfOk result (λ units. IsListOf (length bits.now) (λ u. IsMember sources.now u
-        × ((v : ℕ) × (IsAmong v (successors_from successors.now u) × IsMember bits.now v))) units.items) }
+        × ((v : ℕ) × (IsAmong v (successors_from successors.now u) × IsMember bits.now v)))
+        units.items) }
 {
     let mut units = Vec::new(alloc);
     for (unit, is_source) in sources.iter().enumerate() {
@@ -431,10 +455,12 @@ pub fn indexed_plan(
     alloc: Global,
     case: &IndexedCase,
 ) -> Result<Result<IndexedPlan, PlanRefusal<usize>>, AllocError>
-    ensures plan { IfOk result (λ answer. IfOk answer (λ plan. IsPlan nat_cmp (case_of case.now) plan.stops.items
-        plan.starts.items)) }
-    ensures all { IfOk result (λ answer. IfOk answer (λ plan. (u : ℕ) → Starts nat_cmp (case_of case.now) u
-        → IsAmong u plan.starts.items)) }
+    ensures plan { IfOk result
+        (λ answer. IfOk answer
+        (λ plan. IsPlan nat_cmp (case_of case.now) plan.stops.items plan.starts.items)) }
+    ensures all { IfOk result
+        (λ answer. IfOk answer
+        (λ plan. (u : ℕ) → Starts nat_cmp (case_of case.now) u → IsAmong u plan.starts.items)) }
     ensures refusal { IfOk result (λ answer. IfErr answer (IsRefusal nat_cmp (case_of case.now))) }
 {
     let sets = CaseSets::of(alloc, case)?;

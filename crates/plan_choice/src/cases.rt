@@ -49,7 +49,9 @@ pub struct IndexedCase<'a> {
     pub ghost valid_successors: { AreAdjacencyOf (length loaded.items) successors.now },
     pub ghost valid_takes: { AreSuccessorsOf (length loaded.items) takes_along },
     pub ghost needs_transposed: { AreOpposite (successors_from needs) (successors_from needed_by) },
-    pub ghost conflicts_transposed: { AreOpposite (neighbors_of conflicts.now) (neighbors_of conflicted_by.now) },
+    pub ghost conflicts_transposed: { AreOpposite (neighbors_of conflicts.now)
+        (neighbors_of conflicted_by.now) },
     pub ghost predecessors_transposed: { AreTransposed predecessors.now successors.now },
-    pub ghost stops_transposed: { AreOpposite (successors_from stops_with) (successors_from takes_along) },
+    pub ghost stops_transposed: { AreOpposite (successors_from stops_with)
+        (successors_from takes_along) },
 }

@@ -24,7 +24,8 @@ pub fn parts(
     requires some { 0 < count }
     ensures parts { IfOk result (λ parts. ArePartsOf range parts.items) }
     ensures few { IfOk result (λ parts. length parts.items ≤ count) }
-    ensures several { IfOk result (λ parts. 1 < count → 1 < length versions.now → 1 < length parts.items) }
+    ensures several { IfOk result
+        (λ parts. 1 < count → 1 < length versions.now → 1 < length parts.items) }
 {
     let share = versions.len().div_ceil(count).max(1);
     let (mut from, last) = range.into_bounds();

@@ -9,7 +9,9 @@ ghost use Rattle.range_prints.specs.{Asked.{IsSameCut}, Prints.{print}, declared
 /// a range the same piece is cut for the part of an ask that the range has as for the whole ask (`same_cut`): so an ask that
 /// is told of a range alone is an ask of the world.
 pub fn range_laws()
-    ensures sum { (seed : ℕ) (vs ws : List (PlaceParts × Version)) → print seed (vs ++ ws) ≡ (print seed vs + print seed ws) % 2 ^ 64 }
+    ensures sum { (seed : ℕ) (vs ws : List (PlaceParts × Version))
+        → print seed (vs ++ ws) ≡ (print seed vs + print seed ws) % 2 ^ 64 }
     ensures bits { (seed : ℕ) (vs : List (PlaceParts × Version)) → print seed vs < 2 ^ 64 }
-    ensures same_cut { (range : Range) (s t : EntryMap) (places : List PlaceParts) → IsSameCut range s t places }
+    ensures same_cut { (range : Range) (s t : EntryMap) (places : List PlaceParts)
+        → IsSameCut range s t places }
 {}

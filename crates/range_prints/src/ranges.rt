@@ -48,7 +48,8 @@ fn count_below(versions: &[PlaceVersion<'_>], place: &Place) -> usize
     requires sorted { IsTrue (is_sorted place_cmp versions.now) }
     ensures most { result ≤ length versions.now }
     ensures below { take result versions.now ≡ those (is_below place.now) versions.now }
-    ensures others { drop result versions.now ≡ those (λ p. not (is_below place.now p)) versions.now }
+    ensures others { drop result versions.now
+        ≡ those (λ p. not (is_below place.now p)) versions.now }
 {
     versions.partition_point(|version| version.is_below(place))
 }

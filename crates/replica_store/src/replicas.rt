@@ -110,9 +110,11 @@ impl Replica {
         ensures version { IfOk result (λ version. version ≡ next_version self.old) }
         ensures joined { OnOk result (self.new ≡ with_put self.old (record
             { place = place; version = next_version self.old; content = content })) }
-        ensures spent { IsErrOf result EditFault.VersionsSpent ↔ (high_of self.old.store ≡ u64.MAX) }
+        ensures spent { IsErrOf result EditFault.VersionsSpent
+            ↔ (high_of self.old.store ≡ u64.MAX) }
         ensures always { IsErrOf result EditFault.Nothing → ⊥ }
-        ensures held { IsSome (finmap.get self.old.store place) → IsErrOf result EditFault.Memory → ⊥ }
+        ensures held { IsSome (finmap.get self.old.store place) → IsErrOf result EditFault.Memory
+            → ⊥ }
         ensures err { OnErr result (self.new ≡ self.old) }
     {
         let Some(version) = self.next_version() else {
@@ -139,8 +141,10 @@ impl Replica {
         ensures version { IfOk result (λ version. version ≡ next_version self.old) }
         ensures joined { OnOk result (self.new ≡ with_put self.old (record
             { place = place; version = next_version self.old; content = Gone })) }
-        ensures nothing { IsErrOf result EditFault.Nothing ↔ (visible_at self.old.store place ≡ None) }
-        ensures spent { IsErrOf result EditFault.VersionsSpent ↔ (IsSome (visible_at self.old.store place)
+        ensures nothing { IsErrOf result EditFault.Nothing
+            ↔ (visible_at self.old.store place ≡ None) }
+        ensures spent { IsErrOf result EditFault.VersionsSpent
+            ↔ (IsSome (visible_at self.old.store place)
             × (high_of self.old.store ≡ u64.MAX)) }
         ensures without_memory { IsErrOf result EditFault.Memory → ⊥ }
         ensures err { OnErr result (self.new ≡ self.old) }
@@ -178,11 +182,15 @@ impl Replica {
     /// Fails only if memory runs out. The store then lies between what it was and the join, and the same call can be
     /// repeated; if the other store has just one entry, the replica is unchanged.
     pub fn merge(&mut self, other: &Store) -> Result<u64, AllocError>
-        ensures ok { OnOk result (self.new ≡ record self.old { store = join self.old.store other.now }) }
-        ensures changed { IfOk result (λ changed. changed ≡ changed_places self.old.store self.new.store) }
+        ensures ok { OnOk result
+            (self.new ≡ record self.old { store = join self.old.store other.now }) }
+        ensures changed { IfOk result
+            (λ changed. changed ≡ changed_places self.old.store self.new.store) }
         ensures kept { OnErr result (IsStoreBelow self.old.store self.new.store) }
-        ensures within { OnErr result (IsStoreBelow self.new.store (join self.old.store other.now)) }
-        ensures again { OnErr result (join self.new.store other.now ≡ join self.old.store other.now) }
+        ensures within { OnErr result
+            (IsStoreBelow self.new.store (join self.old.store other.now)) }
+        ensures again { OnErr result
+            (join self.new.store other.now ≡ join self.old.store other.now) }
         ensures single { OnErr result (finmap.len other.now ≡ 1 → self.new ≡ self.old) }
         ensures writer { self.new.writer ≡ self.old.writer }
     {
@@ -195,11 +203,14 @@ impl Replica {
     /// Fails only if memory runs out. The store then lies between what it was and the join, and joining the returned
     /// rest gives that join; if the other store has just one entry, the replica is unchanged.
     pub fn absorb(&mut self, other: Store) -> Result<u64, Rest<Store>>
-        ensures ok { OnOk result (self.new ≡ record self.old { store = join self.old.store other }) }
-        ensures changed { IfOk result (λ changed. changed ≡ changed_places self.old.store self.new.store) }
+        ensures ok { OnOk result
+            (self.new ≡ record self.old { store = join self.old.store other }) }
+        ensures changed { IfOk result
+            (λ changed. changed ≡ changed_places self.old.store self.new.store) }
         ensures kept { OnErr result (IsStoreBelow self.old.store self.new.store) }
         ensures within { OnErr result (IsStoreBelow self.new.store (join self.old.store other)) }
-        ensures rest { IfErr result (λ fault. join self.new.store fault.rest ≡ join self.old.store other) }
+        ensures rest { IfErr result
+            (λ fault. join self.new.store fault.rest ≡ join self.old.store other) }
         ensures single { OnErr result (finmap.len other ≡ 1 → self.new ≡ self.old) }
         ensures writer { self.new.writer ≡ self.old.writer }
     {

@@ -13,6 +13,7 @@ crowds_are_rendered_once seats edits s a b (inr p) (inl q) = absurd (p.0 q.0)
 crowds_are_rendered_once seats edits s a b (inr p) (inr q) = p.1 ∙ sym q.1
 
 -- and it is never that counters are spent
-pub crowds_spend_nothing : (seats edits : ℕ) (s : EntryMap) (outcome : Outcome) → RendersCrowd seats edits s outcome → is_spent outcome ≡ false
+pub crowds_spend_nothing : (seats edits : ℕ) (s : EntryMap) (outcome : Outcome) → RendersCrowd seats edits s outcome
+    → is_spent outcome ≡ false
 crowds_spend_nothing seats edits s outcome (inl p) = ap is_spent p.1
 crowds_spend_nothing seats edits s outcome (inr p) = ap is_spent p.1

@@ -56,7 +56,8 @@ module _ (s t : HostViewMap) (same : HaveTheSameFiles s t) (outcome : Outcome) w
       chosen : (place : PlaceParts) → Some fragment ≡ Some place → (resolution s n).choice ≡ choice.Fragment place
       chosen place e = is ∙ ap (λ (p : PlaceParts). choice.Fragment p) (one_place fragment place e)
 
-  choice_there : (n main : Name) (c : Choice) → (resolution s n).choice ≡ c → RendersChoice s main c outcome → RendersChoice t main c outcome
+  choice_there : (n main : Name) (c : Choice) → (resolution s n).choice ≡ c → RendersChoice s main c outcome
+      → RendersChoice t main c outcome
   choice_there n main choice.NotFound is rendered = rendered
   choice_there n main choice.Masked is rendered = rendered
   choice_there n main (choice.Fragment place) is rendered = (rendered.0, cat_there n main place is rendered.0 rendered.1, rendered.2)

@@ -10,7 +10,8 @@ abbrev pub FilesAreRenderedOnce : Type 0
 FilesAreRenderedOnce = (asked : Option (List ℕ)) (word : List ℕ) (s : EntryMap) (a b : Outcome) → RendersFiles asked word s a → RendersFiles asked word s b → a ≡ b
 
 -- a unit has one text of its files
-one_cat : (s : HostViewMap) (main : Name) (fragment : PlaceParts) (text other : List ℕ) → IsCat s main fragment text → IsCat s main fragment other → text ≡ other
+one_cat : (s : HostViewMap) (main : Name) (fragment : PlaceParts) (text other : List ℕ) → IsCat s main fragment text
+    → IsCat s main fragment other → text ≡ other
 one_cat s main fragment text other a b =
     let names = one_list_of_names s main a.names b.names a.names_are b.names_are in
     let dropins = one_order a.dropins b.dropins a.ascending b.ascending (λ p. (
@@ -43,7 +44,9 @@ module _ (s : HostViewMap) (a b : Outcome) where
   choice_rendered_once main (choice.Alias other) p q = absurd p
   choice_rendered_once main (choice.Bad cause) p q = p ∙ sym q
 
-  rendered_once : (r : Result Name NameFault) → MatchResult r (λ n. RendersChoice s (resolution s n).main (resolution s n).choice a) (λ fault. RefusesName fault a)
+  rendered_once : (r : Result Name NameFault)
+      → MatchResult r (λ n. RendersChoice s (resolution s n).main (resolution s n).choice a)
+      (λ fault. RefusesName fault a)
       → MatchResult r (λ n. RendersChoice s (resolution s n).main (resolution s n).choice b) (λ fault. RefusesName fault b) → a ≡ b
   rendered_once (Ok n) p q = choice_rendered_once (resolution s n).main (resolution s n).choice p q
   rendered_once (Err fault) p q = name_refused_once a b fault p q
@@ -60,9 +63,12 @@ module _ (s : HostViewMap) (outcome : Outcome) where
   choice_unspent main (choice.Alias other) p = absurd p
   choice_unspent main (choice.Bad cause) p = ap is_spent p
 
-  rendered_unspent : (r : Result Name NameFault) → MatchResult r (λ n. RendersChoice s (resolution s n).main (resolution s n).choice outcome) (λ fault. RefusesName fault outcome) → is_spent outcome ≡ false
+  rendered_unspent : (r : Result Name NameFault)
+      → MatchResult r (λ n. RendersChoice s (resolution s n).main (resolution s n).choice outcome)
+      (λ fault. RefusesName fault outcome) → is_spent outcome ≡ false
   rendered_unspent (Ok n) p = choice_unspent (resolution s n).main (resolution s n).choice p
   rendered_unspent (Err fault) p = name_unspent outcome fault p
 
-pub files_spend_nothing : (asked : Option (List ℕ)) (word : List ℕ) (s : EntryMap) (outcome : Outcome) → RendersFiles asked word s outcome → is_spent outcome ≡ false
+pub files_spend_nothing : (asked : Option (List ℕ)) (word : List ℕ) (s : EntryMap) (outcome : Outcome)
+    → RendersFiles asked word s outcome → is_spent outcome ≡ false
 files_spend_nothing asked word s = for_host_unspent (λ host t. RendersFilesOf word (host_view_of t (by_files host))) asked s (λ host outcome t. rendered_unspent (host_view_of s (by_files host)) outcome (name_of word) t)

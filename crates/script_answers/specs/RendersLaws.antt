@@ -40,7 +40,8 @@ refusal_unspent plan.Memory r e = absurd (memory_is_not_rendered r e)
 
 -- ---- one outcome
 
-written_once : (form : Form) (s : EntryMap) (viewer : Viewer) (all : List LinkedUnit) (a b : List ℕ) → AreWritten form s viewer all a → AreWritten form s viewer all b → a ≡ b
+written_once : (form : Form) (s : EntryMap) (viewer : Viewer) (all : List LinkedUnit) (a b : List ℕ)
+    → AreWritten form s viewer all a → AreWritten form s viewer all b → a ≡ b
 written_once form.Units s viewer all a b p q = p ∙ sym q
 written_once form.Tree s viewer all a b p q = tree_text_once s viewer all a b p q
 
@@ -60,7 +61,8 @@ question_rendered_once form question s a b p q =
     one_outcome form s (viewer_asked question) q.0 a b
     (subst (λ (rendered : Answer). IsOutcomeOf form s (viewer_asked question) rendered a) (one_answer s [] question p.0 q.0 p.1 q.1) p.2) q.2
 
-words_rendered_once : (form : Form) (read : Result Question NameFault) (s : EntryMap) (a b : Outcome) → RendersWords form read s a → RendersWords form read s b → a ≡ b
+words_rendered_once : (form : Form) (read : Result Question NameFault) (s : EntryMap) (a b : Outcome)
+    → RendersWords form read s a → RendersWords form read s b → a ≡ b
 words_rendered_once form (Ok question) s a b p q = question_rendered_once form question s a b p q
 words_rendered_once form (Err fault) s a b p q = name_refused_once a b fault p q
 
@@ -80,11 +82,13 @@ outcome_unspent form s viewer (answer.Planned plan) outcome p = ap is_spent p
 outcome_unspent form s viewer (answer.Units all) outcome p = ap is_spent p.2
 outcome_unspent form s viewer (answer.Refused cause) outcome p = ap is_spent p.outcome_is ∙ refusal_unspent cause p.refusal p.rendered
 
-words_unspent : (form : Form) (read : Result Question NameFault) (s : EntryMap) (outcome : Outcome) → RendersWords form read s outcome → is_spent outcome ≡ false
+words_unspent : (form : Form) (read : Result Question NameFault) (s : EntryMap) (outcome : Outcome)
+    → RendersWords form read s outcome → is_spent outcome ≡ false
 words_unspent form (Ok question) s outcome t = outcome_unspent form s (viewer_asked question) t.0 outcome t.2
 words_unspent form (Err fault) s outcome t = name_unspent outcome fault t
 
-pub questions_spend_nothing : (form : Form) (asks_for : Option (List ℕ) → Result Question NameFault) (asked : Option (List ℕ)) (s : EntryMap) (outcome : Outcome)
+pub questions_spend_nothing : (form : Form) (asks_for : Option (List ℕ) → Result Question NameFault)
+    (asked : Option (List ℕ)) (s : EntryMap) (outcome : Outcome)
     → RendersFor form asks_for asked s outcome → is_spent outcome ≡ false
 questions_spend_nothing form asks_for asked s =
     for_host_unspent (λ host. RendersWords form (asks_for host)) asked s (λ host. words_unspent form (asks_for host) s)

@@ -86,7 +86,8 @@ fn answer_text(
     viewer: &Viewer,
     answer: Answer,
 ) -> Result<Vec<u8>, Fault>
-    ensures rendered { IsSaid (λ text. text.items) result (IsOutcomeOf form store.now viewer.now answer) }
+    ensures rendered { IsSaid (λ text. text.items) result
+        (IsOutcomeOf form store.now viewer.now answer) }
 {
     match answer {
         Answer::Template => Err(Fault::Refused(LineRefusal::Template)),
@@ -107,7 +108,8 @@ fn written(
     viewer: &Viewer,
     all: &[LinkedUnit],
 ) -> Result<Vec<u8>, AllocError>
-    ensures written { IfOk result (λ text. AreWritten form store.now viewer.now all.now text.items) }
+    ensures written { IfOk result
+        (λ text. AreWritten form store.now viewer.now all.now text.items) }
 {
     match form {
         Form::Units => units_text(alloc, all),

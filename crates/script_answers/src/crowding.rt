@@ -23,7 +23,8 @@ pub fn render_crowd<R: Threads + Wait + Sync>(
     seats: u32,
     edits: EditCount,
 ) -> Result<Vec<u8>, Fault>
-    ensures rendered { IsSaid (λ text. text.items) result (RendersCrowd seats edits replica.now.store) }
+    ensures rendered { IsSaid (λ text. text.items) result
+        (RendersCrowd seats edits replica.now.store) }
 {
     if replica.high() > u64::MAX - ROOM {
         return Err(Fault::Memory);

@@ -34,7 +34,8 @@ fn append_entry(
     placed: &HostViewEntry,
 ) -> Result<(), AllocError>
     requires file { IsFile (shown placed.now.1) }
-    ensures appended { OnOk result (out.new.items ≡ out.old.items ++ entry_lines view.now placed.now) }
+    ensures appended { OnOk result
+        (out.new.items ≡ out.old.items ++ entry_lines view.now placed.now) }
 {
     append_file(out, &view.place(placed)?, bytes_of(placed.visible()))
 }
@@ -49,7 +50,8 @@ fn files_text(
 ) -> Result<Vec<u8>, AllocError>
     requires file { IsFileAt view.now fragment.now }
     requires files { AreFiles dropins.now }
-    ensures lines { IfOk result (λ text. text.items ≡ borrowed_text view.now fragment.now dropins.now) }
+    ensures lines { IfOk result
+        (λ text. text.items ≡ borrowed_text view.now fragment.now dropins.now) }
 {
     let mut out = Vec::new(alloc);
     append_file(&mut out, fragment, bytes_of(view.visible(fragment)))?;
@@ -70,7 +72,8 @@ fn files_of_unit(
 ) -> Result<Vec<u8>, AllocError>
     requires main { main (host_view_of store.now viewer.now) unit.now ≡ unit.now }
     requires file { IsFileAt (host_view_of store.now viewer.now) fragment.now }
-    ensures files { IfOk result (λ text. IsCat (host_view_of store.now viewer.now) unit.now fragment.now text.items) }
+    ensures files { IfOk result
+        (λ text. IsCat (host_view_of store.now viewer.now) unit.now fragment.now text.items) }
 {
     let names = names_of(alloc, store, viewer, unit)?;
     let folders = UnitFolders::of(alloc, &names)?;
@@ -90,7 +93,8 @@ pub fn render_files(
     host: Option<Word<'_>>,
     unit: &[u8],
 ) -> Result<Vec<u8>, Fault>
-    ensures rendered { IsSaid (λ text. text.items) result (RendersFiles host.entry unit.now store.now) }
+    ensures rendered { IsSaid (λ text. text.items) result
+        (RendersFiles host.entry unit.now store.now) }
 {
     let host = read_host(alloc, host)?;
     let viewer = Viewer {
@@ -107,7 +111,8 @@ fn render_files_for(
     viewer: &Viewer,
     unit: &[u8],
 ) -> Result<Vec<u8>, Fault>
-    ensures rendered { IsSaid (λ text. text.items) result (RendersFilesOf unit.now (host_view_of store.now viewer.now)) }
+    ensures rendered { IsSaid (λ text. text.items) result
+        (RendersFilesOf unit.now (host_view_of store.now viewer.now)) }
 {
     let name = match UnitName::parse(alloc, unit) {
         Ok(name) => name,

@@ -29,7 +29,8 @@ fn append_stops(out: &mut Vec<u8>, names: &[UnitName]) -> Result<(), AllocError>
 
 // Appends a line for each unit that starts.
 fn append_starts(out: &mut Vec<u8>, names: &[UnitName]) -> Result<(), AllocError>
-    ensures appended { OnOk result (out.new.items ≡ out.old.items ++ flat_map start_line names.now) }
+    ensures appended { OnOk result
+        (out.new.items ≡ out.old.items ++ flat_map start_line names.now) }
 {
     for name in names {
         append_line(out, b"start ", name)?;

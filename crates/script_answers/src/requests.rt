@@ -18,7 +18,8 @@ pub(crate) fn read_question(
     viewer: Viewer,
     inquiry: Inquiry<'_>,
 ) -> Result<Question, Fault>
-    ensures read { MatchResult result (λ question. question_asked inquiry.entry viewer ≡ Ok question)
+    ensures read { MatchResult result
+        (λ question. question_asked inquiry.entry viewer ≡ Ok question)
         (IsNameFault (question_asked inquiry.entry viewer)) }
 {
     match inquiry {
@@ -46,7 +47,8 @@ fn read_request(
     unit: &[u8],
     running: Words<'_>,
 ) -> Result<Request, Fault>
-    ensures read { MatchResult result (λ request. request_of viewer unit.now running.entry ≡ Ok request)
+    ensures read { MatchResult result
+        (λ request. request_of viewer unit.now running.entry ≡ Ok request)
         (IsNameFault (request_of viewer unit.now running.entry)) }
 {
     let target = read_name(alloc, unit)?;
@@ -60,7 +62,8 @@ fn read_request(
 
 /// Returns the unit's name that a word is. Fails with the first thing wrong with it.
 pub(crate) fn read_name(alloc: Global, word: &[u8]) -> Result<UnitName, Fault>
-    ensures read { MatchResult result (λ name. name_of word.now ≡ Ok name) (IsNameFault (name_of word.now)) }
+    ensures read { MatchResult result (λ name. name_of word.now ≡ Ok name)
+        (IsNameFault (name_of word.now)) }
 {
     match UnitName::parse(alloc, word) {
         Ok(name) => Ok(name),

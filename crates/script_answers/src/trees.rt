@@ -62,7 +62,8 @@ fn append_crossed(
     all: &[LinkedUnit],
 ) -> Result<(), AllocError>
     requires tree { ShowsTree tree.now store.now viewer.now.host }
-    ensures appended { OnOk result (AppendsCrossed store.now viewer.now all.now out.old.items out.new.items) }
+    ensures appended { OnOk result
+        (AppendsCrossed store.now viewer.now all.now out.old.items out.new.items) }
 {
     for linked in all {
         let unit = linked.unit.get();

@@ -32,7 +32,8 @@ impl WorkerCount {
 
     /// Returns this number of workers, or none if it isn't 1 to 64.
     pub fn of(count: u32) -> Option<WorkerCount>
-        ensures worker_count { MatchOption result (¬ IsWorkerCount count) (λ worker_count. worker_count ≡ count) }
+        ensures worker_count { MatchOption result (¬ IsWorkerCount count)
+            (λ worker_count. worker_count ≡ count) }
     {
         if is_worker_count(count as usize) {
             Some(WorkerCount { count })

@@ -39,7 +39,8 @@ node_word-other b node (Some host) = refl
 
 -- The laws.
 
-both_in-node_word : (node : List ℕ) (host : Option (List ℕ)) → AllByRecursion (λ b. b ≢ 64) node → (node_in (node_word node host) ≡ node) × (host_in (node_word node host) ≡ host)
+both_in-node_word : (node : List ℕ) (host : Option (List ℕ)) → AllByRecursion (λ b. b ≢ 64) node
+    → (node_in (node_word node host) ≡ node) × (host_in (node_word node host) ≡ host)
 both_in-node_word [] None all = (refl, refl)
 both_in-node_word [] (Some host) all = (node_in-at 64 host refl, host_in-at 64 host refl)
 both_in-node_word (b ∷ node) host all =

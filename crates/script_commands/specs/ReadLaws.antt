@@ -89,7 +89,8 @@ module _ (c : Command) (line : List ℕ) where
   plan_read words e = absurd (never Arguments c e)
 
   node_read_alone : (verb : List ℕ) (command : List ℕ → Option (List ℕ) → Command)
-      → ((node : List ℕ) (host : Option (List ℕ)) (words : List (List ℕ)) → words ≡ verb ∷ node_word node host ∷ [] → IsName node → AreWordsOf (command node host) words line)
+      → ((node : List ℕ) (host : Option (List ℕ)) (words : List (List ℕ)) → words ≡ verb ∷ node_word node host ∷ []
+      → IsName node → AreWordsOf (command node host) words line)
       → (words : List (List ℕ)) → with_node command words ≡ Ok c → AreWordsOf c (verb ∷ words) line
   node_read_alone verb command are (first ∷ []) e =
       read_where (is_name (node_in first)) (command (node_in first) (host_in first)) (verb ∷ first ∷ [])
@@ -117,7 +118,8 @@ module _ (c : Command) (line : List ℕ) where
   crowd_read : (words : List (List ℕ)) → crowd_command words ≡ Ok c → AreWordsOf c (codes "crowd" ∷ words) line
   crowd_read (node ∷ first ∷ second ∷ []) e = by (number_of first) (number_of second) refl refl e
     where
-      by : (a b : Option ℕ) → number_of first ≡ a → number_of second ≡ b → crowd_with node a b ≡ Ok c → AreWordsOf c (codes "crowd" ∷ node ∷ first ∷ second ∷ []) line
+      by : (a b : Option ℕ) → number_of first ≡ a → number_of second ≡ b → crowd_with node a b ≡ Ok c
+          → AreWordsOf c (codes "crowd" ∷ node ∷ first ∷ second ∷ []) line
       by None b is and e = absurd (never Arguments c e)
       by (Some seats) None is and e = absurd (never Arguments c e)
       by (Some seats) (Some edits) is and e =
@@ -128,7 +130,8 @@ module _ (c : Command) (line : List ℕ) where
 
   -- the first word is the tested verb, or the next test decides
   verb_or : (verb name : List ℕ) (words : List (List ℕ)) (here later : Result Command LineRefusal) → ◌≡◌ {A = Result Command LineRefusal} (cond (bytes_eq verb name) here later) (Ok c)
-      → (here ≡ Ok c → AreWordsOf c (name ∷ words) line) → (later ≡ Ok c → AreWordsOf c (verb ∷ words) line) → AreWordsOf c (verb ∷ words) line
+      → (here ≡ Ok c → AreWordsOf c (name ∷ words) line) → (later ≡ Ok c → AreWordsOf c (verb ∷ words) line)
+      → AreWordsOf c (verb ∷ words) line
   verb_or verb name words here later e is other = by (bytes_eq verb name) refl e
     where
       by : (b : Bool) → bytes_eq verb name ≡ b → ◌≡◌ {A = Result Command LineRefusal} (cond b here later) (Ok c) → AreWordsOf c (verb ∷ words) line
@@ -265,7 +268,8 @@ module _ (r : LineRefusal) (line : List ℕ) where
   plan_refused (first ∷ unit ∷ running) e = refused_where (is_name (node_in first)) (Ask (node_in first) (host_in first) (inquiry.Plan unit running)) r e
   plan_refused words e = same_refusal r Arguments e
 
-  node_refused_alone : (command : List ℕ → Option (List ℕ) → Command) (words : List (List ℕ)) → with_node command words ≡ Err r → r ≡ Arguments
+  node_refused_alone : (command : List ℕ → Option (List ℕ) → Command) (words : List (List ℕ))
+      → with_node command words ≡ Err r → r ≡ Arguments
   node_refused_alone command (first ∷ []) e = refused_where (is_name (node_in first)) (command (node_in first) (host_in first)) r e
   node_refused_alone command words e = same_refusal r Arguments e
 

@@ -147,7 +147,8 @@ AreWordsOf (Workers count) words line = (number : List ℕ) × (words ≡ codes 
 AreWordsOf (command.Profile profile) words line = words ≡ codes "profile" ∷ profile_word profile ∷ []
 AreWordsOf (Same left right) words line = (words ≡ codes "same" ∷ left ∷ right ∷ []) × IsName left × IsName right
 AreWordsOf (Crowd node seats edits) words line =
-    (first : List ℕ) × (second : List ℕ) × (words ≡ codes "crowd" ∷ node ∷ first ∷ second ∷ []) × (number_of first ≡ Some seats) × (number_of second ≡ Some edits) × IsName node × (edits ≤ 1000)
+    (first : List ℕ) × (second : List ℕ) × (words ≡ codes "crowd" ∷ node ∷ first ∷ second ∷ [])
+    × (number_of first ≡ Some seats) × (number_of second ≡ Some edits) × IsName node × (edits ≤ 1000)
 
 -- a line is read as a command exactly if it has that command's words
 abbrev pub JustItsWordsAreRead : Type 0

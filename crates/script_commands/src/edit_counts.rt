@@ -25,7 +25,8 @@ impl Model for EditCount {
 impl EditCount {
     /// Makes a number of edits; `None` for more than 1,000.
     pub fn of(count: u32) -> Option<EditCount>
-        ensures edits { MatchOption result (1000 < count) (λ edits. (edits ≡ count) × (count ≤ 1000)) }
+        ensures edits { MatchOption result (1000 < count)
+            (λ edits. (edits ≡ count) × (count ≤ 1000)) }
     {
         if count > MOST_EDITS {
             return None;

@@ -28,7 +28,8 @@ fn first_at(word: &[u8]) -> Option<usize>
 /// Parses the host, if one is asked for, or returns that these bytes aren't a host. `Memory` if memory runs out, which
 /// happens only for a valid host.
 pub fn read_host(alloc: Global, asked: Option<Word<'_>>) -> Result<Option<HostName>, Fault>
-    ensures read { MatchResult result (λ host. host_asked asked.entry ≡ Ok host) (IsHostFault (host_asked asked.entry)) }
+    ensures read { MatchResult result (λ host. host_asked asked.entry ≡ Ok host)
+        (IsHostFault (host_asked asked.entry)) }
 {
     let Some(name) = asked else {
         return Ok(None);

@@ -19,7 +19,8 @@ pub fn parse(line: &[u8]) -> Result<Command<'_>, LineRefusal>
 
 // Returns the command that this word begins.
 fn change<'a>(verb: &[u8], mut fields: Fields<'a>) -> Result<Command<'a>, LineRefusal>
-    ensures command { result ≡ change_of verb.now (words_of fields.entry) (text_after 2 fields.entry) }
+    ensures command { result ≡ change_of verb.now (words_of fields.entry)
+        (text_after 2 fields.entry) }
 {
     if is_same(verb, b"node") {
         Ok(Command::Node {

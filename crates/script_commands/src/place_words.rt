@@ -11,7 +11,8 @@ use std::alloc::Global;
 
 /// Parses a place, or returns the first fault in it. `Memory` if memory runs out, which happens only for a valid place.
 pub fn read_place(alloc: Global, text: &[u8]) -> Result<Place, Fault>
-    ensures read { MatchResult result (λ place. place_of text.now ≡ Ok place) (IsPlaceFault (place_of text.now)) }
+    ensures read { MatchResult result (λ place. place_of text.now ≡ Ok place)
+        (IsPlaceFault (place_of text.now)) }
 {
     match Place::parse(alloc, text) {
         Ok(place) => Ok(place),

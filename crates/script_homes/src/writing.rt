@@ -18,14 +18,18 @@ pub fn write_kept<H: Home, K: Sink>(
     writer: &mut K,
     pending: &[u8],
 ) -> Result<(), KeptFault>
-    ensures written { OnOk result (Appends (K.contents writer.old) (K.contents writer.new) pending.now) }
-    ensures prefix { OnErr result (AppendsPrefix (K.contents writer.old) (K.contents writer.new) pending.now) }
+    ensures written { OnOk result
+        (Appends (K.contents writer.old) (K.contents writer.new) pending.now) }
+    ensures prefix { OnErr result
+        (AppendsPrefix (K.contents writer.old) (K.contents writer.new) pending.now) }
 
     // The store is kept before an answer is written.
     ensures held { OnOk result (IsHeldNext store.now (H.holds home.old) (H.holds home.new)) }
-    ensures first { (writer.new ≡ writer.old) ⊎ IsHeldNext store.now (H.holds home.old) (H.holds home.new) }
+    ensures first { (writer.new ≡ writer.old)
+        ⊎ IsHeldNext store.now (H.holds home.old) (H.holds home.new) }
     ensures kept { StaysKept (H.keeps home.old) (H.keeps home.new) }
-    ensures write { IsErrOf result KeptFault.Write → FailedSince (K.refusals writer.old) (K.refusals writer.new) }
+    ensures write { IsErrOf result KeptFault.Write
+        → FailedSince (K.refusals writer.old) (K.refusals writer.new) }
     ensures unrefused { OnOk result (K.refusals writer.new ≡ K.refusals writer.old) }
     ensures read { IsErrOf result KeptFault.Read → ⊥ }
 {

@@ -27,16 +27,19 @@ Appends-keeps (Some a) (Some b) None xs p q = absurd q
 Appends-keeps (Some a) (Some b) (Some c) xs p q = q ∙ p
 
 -- if a write accepted nothing, what was written before is a prefix of everything to write
-pub AppendsPrefix-keeps : (old mid new : Option (List ℕ)) (xs ys : List ℕ) → Appends old mid xs → Keeps mid new → AppendsPrefix old new (xs ++ ys)
+pub AppendsPrefix-keeps : (old mid new : Option (List ℕ)) (xs ys : List ℕ) → Appends old mid xs → Keeps mid new
+    → AppendsPrefix old new (xs ++ ys)
 AppendsPrefix-keeps old mid new xs ys p q =
     (length xs, subst (λ v. Appends old new v) (sym (take_at xs ys (length xs) refl)) (Appends-keeps old mid new xs p q))
 
 -- a prefix written later is appended to what was written before
-pub AppendsPrefix-append : (old mid new : Option (List ℕ)) (xs ys : List ℕ) → Appends old mid xs → AppendsPrefix mid new ys → AppendsPrefix old new (xs ++ ys)
+pub AppendsPrefix-append : (old mid new : Option (List ℕ)) (xs ys : List ℕ) → Appends old mid xs
+    → AppendsPrefix mid new ys → AppendsPrefix old new (xs ++ ys)
 AppendsPrefix-append old mid new xs ys p q = (length xs + q.0, subst (λ v. Appends old new v) (sym (take-append-add xs ys q.0)) (Appends-append old mid new xs (take q.0 ys) p q.1))
 
 -- bytes read later followed those read before
-pub Consumes-append : (old mid new : Option (List ℕ)) (xs ys : List ℕ) → Consumes old mid xs → Consumes mid new ys → Consumes old new (xs ++ ys)
+pub Consumes-append : (old mid new : Option (List ℕ)) (xs ys : List ℕ) → Consumes old mid xs → Consumes mid new ys
+    → Consumes old new (xs ++ ys)
 Consumes-append None mid new xs ys p q = tt
 Consumes-append (Some a) None new xs ys p q = absurd p
 Consumes-append (Some a) (Some b) None xs ys p q = absurd q

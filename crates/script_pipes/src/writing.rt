@@ -32,7 +32,8 @@ pub struct WriteFault;
 pub fn write_all<K: Sink>(sink: &mut K, bytes: &[u8]) -> Result<(), WriteFault>
     ensures ok { OnOk result (Appends (K.contents sink.old) (K.contents sink.new) bytes.now) }
     ensures unrefused { OnOk result (K.refusals sink.new ≡ K.refusals sink.old) }
-    ensures prefix { OnErr result (AppendsPrefix (K.contents sink.old) (K.contents sink.new) bytes.now) }
+    ensures prefix { OnErr result
+        (AppendsPrefix (K.contents sink.old) (K.contents sink.new) bytes.now) }
     ensures failed { OnErr result (FailedSince (K.refusals sink.old) (K.refusals sink.new)) }
 {
     let mut rest = bytes;
@@ -47,7 +48,8 @@ pub fn write_all<K: Sink>(sink: &mut K, bytes: &[u8]) -> Result<(), WriteFault>
 fn write_some<K: Sink>(sink: &mut K, bytes: &[u8]) -> Result<usize, WriteFault>
     ensures some { IfOk result (λ n. 0 < n) }
     ensures within { IfOk result (λ n. n ≤ length bytes.now) }
-    ensures ok { IfOk result (λ n. Appends (K.contents sink.old) (K.contents sink.new) (take n bytes.now)) }
+    ensures ok { IfOk result
+        (λ n. Appends (K.contents sink.old) (K.contents sink.new) (take n bytes.now)) }
     ensures unrefused { OnOk result (K.refusals sink.new ≡ K.refusals sink.old) }
     ensures err { OnErr result (Keeps (K.contents sink.old) (K.contents sink.new)) }
     ensures failed { OnErr result (K.refusals sink.new ≡ count_with true (K.refusals sink.old)) }

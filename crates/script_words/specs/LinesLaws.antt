@@ -8,12 +8,14 @@ unfolding lines_of
 lines_of-nil = refl
 
 -- Lines that are each followed by a line feed are the first lines of the script.
-pub lines_of-line_feeds : (lines : List (List ℕ)) (rest : List ℕ) → AllByRecursion IsPlainLine lines → lines_of (flat_map (λ line. line ++ 10 ∷ []) lines ++ rest) ≡ lines ++ lines_of rest
+pub lines_of-line_feeds : (lines : List (List ℕ)) (rest : List ℕ) → AllByRecursion IsPlainLine lines
+    → lines_of (flat_map (λ line. line ++ 10 ∷ []) lines ++ rest) ≡ lines ++ lines_of rest
 unfolding lines_of
 lines_of-line_feeds lines rest plain = lines-line_feeds lines rest plain
 
 -- Lines that are each followed by a carriage return and a line feed are the first lines of the script.
-pub lines_of-returns : (lines : List (List ℕ)) (rest : List ℕ) → AllByRecursion HasNoLineFeed lines → lines_of (flat_map (λ line. line ++ 13 ∷ 10 ∷ []) lines ++ rest) ≡ lines ++ lines_of rest
+pub lines_of-returns : (lines : List (List ℕ)) (rest : List ℕ) → AllByRecursion HasNoLineFeed lines
+    → lines_of (flat_map (λ line. line ++ 13 ∷ 10 ∷ []) lines ++ rest) ≡ lines ++ lines_of rest
 unfolding lines_of
 lines_of-returns lines rest none = lines-returns lines rest none
 

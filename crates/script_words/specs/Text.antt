@@ -9,7 +9,8 @@ pub data IsSpelling (part : List ℕ) (byte : ℕ) : Type 0 where
   line_feed : part ≡ codes "\\n" → byte ≡ 10 → IsSpelling part byte
   tab : part ≡ codes "\\t" → byte ≡ 9 → IsSpelling part byte
   backslash : part ≡ codes "\\\\" → byte ≡ 92 → IsSpelling part byte
-  two_digits : (high low : ℕ) → part ≡ codes "\\x" ++ high ∷ low ∷ [] → digit_value high < 16 → digit_value low < 16 → byte ≡ 16 * digit_value high + digit_value low → IsSpelling part byte
+  two_digits : (high low : ℕ) → part ≡ codes "\\x" ++ high ∷ low ∷ [] → digit_value high < 16 → digit_value low < 16
+      → byte ≡ 16 * digit_value high + digit_value low → IsSpelling part byte
 
 -- A text spells these bytes: it is the concatenation of their spellings.
 unfoldable pub Spells : List ℕ → List ℕ → Type 0

@@ -21,7 +21,8 @@ pub none_read : (p : ℕ × List ℕ) → None ≡ Some p → ⊥
 none_read p e = cc
 
 -- The bytes that a text spells are the byte that is read first, and those that the rest spells.
-pub spells_read : (text rest bytes : List ℕ) (byte : ℕ) → byte_read text ≡ Some (byte, rest) → Spells text bytes → (later : List ℕ) × (bytes ≡ byte ∷ later) × Spells rest later
+pub spells_read : (text rest bytes : List ℕ) (byte : ℕ) → byte_read text ≡ Some (byte, rest) → Spells text bytes
+    → (later : List ℕ) × (bytes ≡ byte ∷ later) × Spells rest later
 unfolding Spells
 spells_read text rest [] byte read spells = absurd (none_read (byte, rest) (sym (ap byte_read spells) ∙ read))
 spells_read text rest (b ∷ bytes) byte read spells =

@@ -28,7 +28,8 @@ words_of-word word is =
     ∙ cond-true _ _ _ (lt-ltb 0 (length word) is.0)
 
 -- Words that are each followed by a space are the first words of their line.
-pub words_of-spaced : (words : List (List ℕ)) (line : List ℕ) → AllByRecursion IsWord words → words_of (spaced words ++ line) ≡ words ++ words_of line
+pub words_of-spaced : (words : List (List ℕ)) (line : List ℕ) → AllByRecursion IsWord words
+    → words_of (spaced words ++ line) ≡ words ++ words_of line
 words_of-spaced [] line all = refl
 words_of-spaced (word ∷ words) line all =
     let parts : (word ++ 32 ∷ [] ++ spaced words) ++ line ≡ word ++ 32 ∷ (spaced words ++ line) = simp append_assoc in
@@ -75,12 +76,14 @@ unfolding after_word
 after_word-word word is =
     ap after_word (sym (append-nil word)) ∙ ap skip_word (skip_spaces-word word [] is ∙ append-nil word) ∙ skip_word-word word is.1
 
-after_word-spaced : (word : List ℕ) (words : List (List ℕ)) (text : List ℕ) → IsWord word → after_word (spaced (word ∷ words) ++ text) ≡ 32 ∷ (spaced words ++ text)
+after_word-spaced : (word : List ℕ) (words : List (List ℕ)) (text : List ℕ) → IsWord word
+    → after_word (spaced (word ∷ words) ++ text) ≡ 32 ∷ (spaced words ++ text)
 after_word-spaced word words text is =
     let parts : (word ++ 32 ∷ [] ++ spaced words) ++ text ≡ word ++ 32 ∷ (spaced words ++ text) = simp append_assoc in
     ap after_word parts ∙ after_word-word_space word (spaced words ++ text) is
 
-text_after-space : (words : List (List ℕ)) (text : List ℕ) → AllByRecursion IsWord words → text_after (length words) (32 ∷ (spaced words ++ text)) ≡ text
+text_after-space : (words : List (List ℕ)) (text : List ℕ) → AllByRecursion IsWord words
+    → text_after (length words) (32 ∷ (spaced words ++ text)) ≡ text
 text_after-space [] text all = refl
 text_after-space (word ∷ words) text all =
     ap (λ v. text_after (length words) v) (after_word-space (spaced (word ∷ words) ++ text) ∙ after_word-spaced word words text all.0)
@@ -93,7 +96,8 @@ text_after-spaced word words text all =
     ap (λ v. text_after (length words) v) (after_word-spaced word words text all.0) ∙ text_after-space words text all.1
 
 -- After the last word of a line, without a space, there is no text.
-pub text_after-last : (words : List (List ℕ)) (word : List ℕ) → AllByRecursion IsWord words → IsWord word → text_after (suc (length words)) (spaced words ++ word) ≡ []
+pub text_after-last : (words : List (List ℕ)) (word : List ℕ) → AllByRecursion IsWord words → IsWord word
+    → text_after (suc (length words)) (spaced words ++ word) ≡ []
 text_after-last [] word all is = ap (drop 1) (after_word-word word is)
 text_after-last (first ∷ words) word all is =
     ap (λ v. text_after (suc (length words)) v) (after_word-spaced first words word all.0)

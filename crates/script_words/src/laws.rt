@@ -12,8 +12,10 @@ pub fn script_laws()
     ensures line_feeds { (lines : List (List ℕ)) (rest : List ℕ) → All IsPlainLine lines
         → lines_of (flat_map (λ line. line ++ 10 ∷ []) lines ++ rest) ≡ lines ++ lines_of rest }
     ensures returns { (lines : List (List ℕ)) (rest : List ℕ) → All HasNoLineFeed lines
-        → lines_of (flat_map (λ line. line ++ 13 ∷ 10 ∷ []) lines ++ rest) ≡ lines ++ lines_of rest }
-    ensures last_line { (line : List ℕ) → 0 < length line → HasNoLineFeed line → lines_of line ≡ line ∷ [] }
+        → lines_of (flat_map (λ line. line ++ 13 ∷ 10 ∷ []) lines ++ rest)
+        ≡ lines ++ lines_of rest }
+    ensures last_line { (line : List ℕ) → 0 < length line → HasNoLineFeed line
+        → lines_of line ≡ line ∷ [] }
     ensures no_words { words_of [] ≡ [] }
     ensures spaces { (line : List ℕ) → words_of (32 ∷ line) ≡ words_of line }
     ensures words { (words : List (List ℕ)) (line : List ℕ) → All IsWord words
@@ -25,7 +27,8 @@ pub fn script_laws()
         → text_after (length words + 1) (spaced words ++ word) ≡ [] }
     ensures decimal { (n zeros : ℕ) → n < 2 ^ 32 → zeros + length (decimal n) ≤ 10
         → number_of (replicate zeros 48 ++ decimal n) ≡ Some n }
-    ensures one { (text first second : List ℕ) → Spells text first → Spells text second → first ≡ second }
+    ensures one { (text first second : List ℕ) → Spells text first → Spells text second
+        → first ≡ second }
     ensures plain { (bytes : List ℕ) → HasNoBackslash bytes → Spells bytes bytes }
     ensures doubled { (bytes : List ℕ) → Spells (with_doubled bytes) bytes }
 {}

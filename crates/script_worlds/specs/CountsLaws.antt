@@ -6,7 +6,8 @@ use Rattle.world_law.specs.Worlds as worlds
 
 -- What a node took was put.
 
-sound_after : (n : ℕ) (all history : List Event) → AreToldApart (puts_of n all) → ((e : Edit) → IsAmong e (puts_of n history) → IsAmong e (puts_of n all))
+sound_after : (n : ℕ) (all history : List Event) → AreToldApart (puts_of n all)
+    → ((e : Edit) → IsAmong e (puts_of n history) → IsAmong e (puts_of n all))
     → IsSound n (λ e. IsAmong e (puts_of n all)) (world_of n history)
 sound_after n all [] told within = blank_sound n (λ e. IsAmong e (puts_of n all))
 sound_after n all (event ∷ history) told within =
@@ -40,7 +41,8 @@ pub put_same : (n : ℕ) (old new : ScriptWorld) → puts new ≡ puts old → I
 put_same n old new same up e a = let most = up e (subst (λ (es : List Edit). IsAmong e es) same a) in omega arith
 
 -- a node put its next edit
-pub put_next : (n : ℕ) (world : ScriptWorld) (i : ℕ) (place : PlaceParts) (content : Content) → IsValid world → i < length world.nodes → IsPutUpTo n world
+pub put_next : (n : ℕ) (world : ScriptWorld) (i : ℕ) (place : PlaceParts) (content : Content) → IsValid world
+    → i < length world.nodes → IsPutUpTo n world
     → IsPutUpTo (suc n) (happened world (Put i (next_edit world i place content)))
 put_next n world i place content valid lt up f a = by (subst (λ (es : List Edit). IsAmong f es) (puts_of-Put (length world.nodes) world.events i e lt) a)
   where

@@ -9,12 +9,14 @@ or_else None other = other
 or_else (Some k) other = Some k
 
 module _ {X : Type 0} (p : X → Bool) where
-  position_from-push : (xs : List X) (x : X) (i : ℕ) → position_from p i (xs ++ x ∷ []) ≡ or_else (position_from p i xs) (cond (p x) (Some (i + length xs)) None)
+  position_from-push : (xs : List X) (x : X) (i : ℕ)
+      → position_from p i (xs ++ x ∷ []) ≡ or_else (position_from p i xs) (cond (p x) (Some (i + length xs)) None)
   position_from-push [] x i = let same : i ≡ i + 0 = omega arith in ap (λ k. cond (p x) (Some k) None) same
   position_from-push (y ∷ xs) x i = by (position_from-push xs x (i + 1)) (p y)
     where
       by : position_from p (i + 1) (xs ++ x ∷ []) ≡ or_else (position_from p (i + 1) xs) (cond (p x) (Some (i + 1 + length xs)) None)
-          → (b : Bool) → cond b (Some i) (position_from p (i + 1) (xs ++ x ∷ [])) ≡ or_else (cond b (Some i) (position_from p (i + 1) xs)) (cond (p x) (Some (i + suc (length xs))) None)
+          → (b : Bool) → cond b (Some i) (position_from p (i + 1) (xs ++ x ∷ []))
+          ≡ or_else (cond b (Some i) (position_from p (i + 1) xs)) (cond (p x) (Some (i + suc (length xs))) None)
       by later true = refl
       by later false = let same : i + 1 + length xs ≡ i + suc (length xs) = omega arith in later ∙ ap (λ k. or_else (position_from p (i + 1) xs) (cond (p x) (Some k) None)) same
 
@@ -30,7 +32,8 @@ pub node_named-push : (nodes : List Member) (m : Member) (name : List ℕ) → n
     → node_named (nodes ++ m ∷ []) name ≡ cond (bytes_eq m.name name) (Some (length nodes)) (node_named nodes name)
 node_named-push nodes m name fresh = position-push (λ (member : Member). bytes_eq member.name name) nodes m ∙ by (bytes_eq m.name name) refl
   where
-    by : (b : Bool) → bytes_eq m.name name ≡ b → or_else (node_named nodes name) (cond b (Some (length nodes)) None) ≡ cond b (Some (length nodes)) (node_named nodes name)
+    by : (b : Bool) → bytes_eq m.name name ≡ b → or_else (node_named nodes name) (cond b (Some (length nodes)) None)
+        ≡ cond b (Some (length nodes)) (node_named nodes name)
     by true e =
         let same : m.name ≡ name = (bytes_eq-Decides m.name name).0 e in
         ap (λ o. or_else o (Some (length nodes))) (ap (node_named nodes) (sym same) ∙ fresh)
@@ -41,7 +44,8 @@ node_named-push nodes m name fresh = position-push (λ (member : Member). bytes_
         none (Some k) = refl
 
 -- and its writer number is taken
-pub has_writer-push : (nodes : List Member) (m : Member) (writer : ℕ) → has_writer (nodes ++ m ∷ []) writer ≡ cond (m.writer == writer) true (has_writer nodes writer)
+pub has_writer-push : (nodes : List Member) (m : Member) (writer : ℕ)
+    → has_writer (nodes ++ m ∷ []) writer ≡ cond (m.writer == writer) true (has_writer nodes writer)
 has_writer-push nodes m writer = list_any-append (λ (member : Member). member.writer == writer) nodes (m ∷ []) ∙ by (has_writer nodes writer) (m.writer == writer)
   where
     by : (a b : Bool) → (a || (b || false)) ≡ cond b true a
@@ -54,7 +58,8 @@ has_writer-push nodes m writer = list_any-append (λ (member : Member). member.w
 pub named_within : (nodes : List Member) (name : List ℕ) (k : ℕ) → node_named nodes name ≡ Some k → k < length nodes
 named_within nodes name k e = by (nat_lt (position_or_len (λ (m : Member). bytes_eq m.name name) nodes) (length nodes)) refl e
   where
-    by : (b : Bool) → nat_lt (position_or_len (λ (m : Member). bytes_eq m.name name) nodes) (length nodes) ≡ b → cond b (Some (position_or_len (λ (m : Member). bytes_eq m.name name) nodes)) None ≡ Some k → k < length nodes
+    by : (b : Bool) → nat_lt (position_or_len (λ (m : Member). bytes_eq m.name name) nodes) (length nodes) ≡ b
+        → cond b (Some (position_or_len (λ (m : Member). bytes_eq m.name name) nodes)) None ≡ Some k → k < length nodes
     by true lt e =
         let same : position_or_len (λ (m : Member). bytes_eq m.name name) nodes ≡ k = cc in
         let within : position_or_len (λ (m : Member). bytes_eq m.name name) nodes < length nodes = grind (arith, nat_tests) in

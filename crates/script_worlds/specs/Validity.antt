@@ -16,5 +16,6 @@ is_used world writer = has_writer world.nodes writer || list_any (λ e. e.versio
 pub record IsValid (world : ScriptWorld) : Type 0 where
   pub within : AreWithin (length world.nodes) world.events
   pub apart : (j k : ℕ) → j < length world.nodes → k < length world.nodes → writer_at world.nodes j ≡ writer_at world.nodes k → j ≡ k
-  pub own : (e : Edit) → IsAmong e (puts world) → (k : ℕ) → k < length world.nodes → e.version.writer ≡ writer_at world.nodes k → e.version.counter ≤ high_of (held world k)
+  pub own : (e : Edit) → IsAmong e (puts world) → (k : ℕ) → k < length world.nodes
+      → e.version.writer ≡ writer_at world.nodes k → e.version.counter ≤ high_of (held world k)
   pub told : AreToldApart (puts world)

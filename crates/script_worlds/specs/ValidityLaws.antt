@@ -29,10 +29,12 @@ module _ (world : ScriptWorld) where
   held_past = ap (λ (o : Option worlds.Node). sum_of (took_by o)) (slice_get_past (state world).nodes (length world.nodes) (omega (arith, node_count (length world.nodes) world.events)))
 
   module _ (valid : IsValid world) where
-    pub held_given : (p k : ℕ) (piece : worlds.Piece) → slice_get (state world).pieces p ≡ Some piece → k < length world.nodes → held (happened world (Give p k)) k ≡ join (held world k) piece.entries
+    pub held_given : (p k : ℕ) (piece : worlds.Piece) → slice_get (state world).pieces p ≡ Some piece
+        → k < length world.nodes → held (happened world (Give p k)) k ≡ join (held world k) piece.entries
     held_given p k piece is lt = given_is_joined (length world.nodes) world.events valid.told p k piece is lt
 
-    pub held_merged : (from to : ℕ) → from < length world.nodes → to < length world.nodes → held (merged world from to) to ≡ join (held world to) (held world from)
+    pub held_merged : (from to : ℕ) → from < length world.nodes → to < length world.nodes
+        → held (merged world from to) to ≡ join (held world to) (held world from)
     held_merged from to lt_from lt_to = merge_is_joined (length world.nodes) world.events valid.told from to lt_from lt_to
 
 pub held_merged_elsewhere : (world : ScriptWorld) (from to k : ℕ) → k ≢ to → held (merged world from to) k ≡ held world k
@@ -50,7 +52,9 @@ high_stays : (world : ScriptWorld) (event : Event) (k : ℕ) → high_of (held w
 high_stays world event k = high_grows (took (state world) k) (took (state (happened world event)) k) (λ f a. took_stays (state world) event k f a)
 
 -- no edit is put
-pub valid_quiet : (world : ScriptWorld) (event : Event) → IsValid world → AreWithin (length world.nodes) (event ∷ world.events) → puts (happened world event) ≡ puts world → IsValid (happened world event)
+pub valid_quiet : (world : ScriptWorld) (event : Event) → IsValid world
+    → AreWithin (length world.nodes) (event ∷ world.events) → puts (happened world event) ≡ puts world
+    → IsValid (happened world event)
 valid_quiet world event valid within same = record {
   within = within;
   apart = valid.apart;
@@ -94,7 +98,8 @@ module _ (world : ScriptWorld) (i : ℕ) (place : PlaceParts) (content : Content
       by f g (inr a) (inl b) here same = absurd (fresh f a (ap (λ (h : Edit). h.version) b ∙ sym same))
       by f g (inr a) (inr b) here same = valid.told f g a b here same
 
-  own_put : (f : Edit) → IsAmong f (next ∷ puts world) → (k : ℕ) → k < length world.nodes → f.version.writer ≡ writer_at world.nodes k → f.version.counter ≤ high_of (held (happened world (Put i next)) k)
+  own_put : (f : Edit) → IsAmong f (next ∷ puts world) → (k : ℕ) → k < length world.nodes
+      → f.version.writer ≡ writer_at world.nodes k → f.version.counter ≤ high_of (held (happened world (Put i next)) k)
   own_put f (inl same) k lt_k mine =
       let one : i ≡ k = valid.apart i k lt lt_k (ap (λ (e : Edit). e.version.writer) same ∙ mine) in
       let took_it : IsAmong next (took (state (happened world (Put i next))) i) =
@@ -115,14 +120,16 @@ module _ (world : ScriptWorld) (i : ℕ) (place : PlaceParts) (content : Content
     told = told_put;
   }
 
-pub valid_answered : (world : ScriptWorld) (from to : ℕ) (places : Option (List PlaceParts)) → IsValid world → from < length world.nodes → to < length world.nodes → IsValid (answered world from to places)
+pub valid_answered : (world : ScriptWorld) (from to : ℕ) (places : Option (List PlaceParts)) → IsValid world
+    → from < length world.nodes → to < length world.nodes → IsValid (answered world from to places)
 valid_answered world from to places valid lt_from lt_to =
     valid_quiet (happened world (Ask to)) (Cut from (next_ask world) places) (valid_quiet world (Ask to) valid (lt_to, valid.within) refl) (lt_from, (lt_to, valid.within)) refl
 
 pub valid_given : (world : ScriptWorld) (p k : ℕ) → IsValid world → k < length world.nodes → IsValid (happened world (Give p k))
 valid_given world p k valid lt = valid_quiet world (Give p k) valid (lt, valid.within) refl
 
-pub valid_merged : (world : ScriptWorld) (from to : ℕ) → IsValid world → from < length world.nodes → to < length world.nodes → IsValid (merged world from to)
+pub valid_merged : (world : ScriptWorld) (from to : ℕ) → IsValid world → from < length world.nodes
+    → to < length world.nodes → IsValid (merged world from to)
 valid_merged world from to valid lt_from lt_to = valid_given (answered world from to None) (next_piece world) to (valid_answered world from to None valid lt_from lt_to) lt_to
 
 -- the profile is none of the nodes'
@@ -150,7 +157,8 @@ module _ (world : ScriptWorld) (name : List ℕ) (writer : ℕ) where
   pub state_with_node : AreWithin (length world.nodes) world.events → state (with_node world name writer) ≡ with_new_node (state world)
   state_with_node within = ap (λ n. world_of n world.events) count_is ∙ one_node_more (length world.nodes) world.events within
 
-  pub took_with_node : AreWithin (length world.nodes) world.events → (k : ℕ) → took (state (with_node world name writer)) k ≡ took (state world) k
+  pub took_with_node : AreWithin (length world.nodes) world.events → (k : ℕ)
+      → took (state (with_node world name writer)) k ≡ took (state world) k
   took_with_node within k = ap (λ (w : worlds.EventWorld). took w k) (state_with_node within) ∙ took-with_new_node (state world) k
 
   pub held_with_node : AreWithin (length world.nodes) world.events → (k : ℕ) → held (with_node world name writer) k ≡ held world k
@@ -178,12 +186,14 @@ not_taken [] writer k free lt same = absurd (omega arith)
 not_taken (n ∷ nodes) writer zero free lt same = true≢false (sym (eq-eqb n.writer writer same) ∙ (or_false (n.writer == writer) (has_writer nodes writer) free).0)
 not_taken (n ∷ nodes) writer (suc k) free lt same = not_taken nodes writer k (or_false (n.writer == writer) (has_writer nodes writer) free).1 (omega arith) same
 
-not_written : (es : List Edit) (writer : ℕ) (e : Edit) → list_any (λ e. e.version.writer == writer) es ≡ false → IsAmong e es → e.version.writer ≡ writer → ⊥
+not_written : (es : List Edit) (writer : ℕ) (e : Edit) → list_any (λ e. e.version.writer == writer) es ≡ false
+    → IsAmong e es → e.version.writer ≡ writer → ⊥
 not_written [] writer e free a same = a
 not_written (f ∷ es) writer e free (inl is) same = true≢false (sym (eq-eqb f.version.writer writer (ap (λ (g : Edit). g.version.writer) is ∙ same)) ∙ (or_false (f.version.writer == writer) (list_any (λ e. e.version.writer == writer) es) free).0)
 not_written (f ∷ es) writer e free (inr a) same = not_written es writer e (or_false (f.version.writer == writer) (list_any (λ e. e.version.writer == writer) es) free).1 a same
 
-pub valid_with_node : (world : ScriptWorld) (name : List ℕ) (writer : ℕ) → IsValid world → is_used world writer ≡ false → IsValid (with_node world name writer)
+pub valid_with_node : (world : ScriptWorld) (name : List ℕ) (writer : ℕ) → IsValid world → is_used world writer ≡ false
+    → IsValid (with_node world name writer)
 valid_with_node world name writer valid unused = record {
   within = subst (λ n. AreWithin n world.events) (sym (count_is world name writer)) (within_more (length world.nodes) world.events valid.within);
   apart = λ j k lt_j lt_k same. apart j k (omega (arith, count_is world name writer)) (omega (arith, count_is world name writer)) same;
@@ -200,7 +210,9 @@ valid_with_node world name writer valid unused = record {
     puts_are : puts (with_node world name writer) ≡ puts world
     puts_are = puts_with_node world name writer valid.within
 
-    owned : (e : Edit) → IsAmong e (puts world) → (k : ℕ) → (k < length world.nodes) ⊎ (k ≡ length world.nodes) → e.version.writer ≡ writer_at (world.nodes ++ m ∷ []) k → e.version.counter ≤ high_of (held (with_node world name writer) k)
+    owned : (e : Edit) → IsAmong e (puts world) → (k : ℕ) → (k < length world.nodes) ⊎ (k ≡ length world.nodes)
+        → e.version.writer ≡ writer_at (world.nodes ++ m ∷ []) k
+        → e.version.counter ≤ high_of (held (with_node world name writer) k)
     owned e a k (inl lt) mine =
         subst (λ (s : EntryMap). e.version.counter ≤ high_of s) (sym (held_with_node world name writer valid.within k))
         (valid.own e a k lt (mine ∙ writer_before world.nodes m k lt))
@@ -214,7 +226,8 @@ valid_with_node world name writer valid unused = record {
         by true e = inr (eqb-true k (length world.nodes) e)
         by false e = inl (let ne : k ≢ length world.nodes = λ same. true≢false (sym (eq-eqb k (length world.nodes) same) ∙ e) in omega arith)
 
-    apart : (j k : ℕ) → j < suc (length world.nodes) → k < suc (length world.nodes) → writer_at (world.nodes ++ m ∷ []) j ≡ writer_at (world.nodes ++ m ∷ []) k → j ≡ k
+    apart : (j k : ℕ) → j < suc (length world.nodes) → k < suc (length world.nodes)
+        → writer_at (world.nodes ++ m ∷ []) j ≡ writer_at (world.nodes ++ m ∷ []) k → j ≡ k
     apart j k lt_j lt_k same = by (last_or_before j lt_j) (last_or_before k lt_k)
       where
         by : (j < length world.nodes) ⊎ (j ≡ length world.nodes) → (k < length world.nodes) ⊎ (k ≡ length world.nodes) → j ≡ k
@@ -227,19 +240,22 @@ valid_with_node world name writer valid unused = record {
 
 module _ (world : ScriptWorld) where
   -- an edit of a node's own uses no other number
-  pub used_put : (i : ℕ) (place : PlaceParts) (content : Content) → i < length world.nodes → (writer : ℕ) → is_used (happened world (Put i (next_edit world i place content))) writer ≡ is_used world writer
+  pub used_put : (i : ℕ) (place : PlaceParts) (content : Content) → i < length world.nodes → (writer : ℕ)
+      → is_used (happened world (Put i (next_edit world i place content))) writer ≡ is_used world writer
   used_put i place content lt writer =
       let e = next_edit world i place content in
       ap (λ (es : List Edit). has_writer world.nodes writer || list_any (λ e. e.version.writer == writer) es) (puts_of-Put (length world.nodes) world.events i e lt)
       ∙ by (has_writer world.nodes writer) (writer_at world.nodes i == writer) refl refl
     where
       by : (t mine : Bool) → has_writer world.nodes writer ≡ t → (writer_at world.nodes i == writer) ≡ mine
-          → (t || (mine || list_any (λ e. e.version.writer == writer) (puts world))) ≡ (t || list_any (λ e. e.version.writer == writer) (puts world))
+          → (t || (mine || list_any (λ e. e.version.writer == writer) (puts world)))
+          ≡ (t || list_any (λ e. e.version.writer == writer) (puts world))
       by true mine taken is = refl
       by false true taken is = absurd (not_taken world.nodes writer i taken lt (eqb-true (writer_at world.nodes i) writer is))
       by false false taken is = refl
 
-  pub used_with_node : (name : List ℕ) (number writer : ℕ) → AreWithin (length world.nodes) world.events → is_used (with_node world name number) writer ≡ cond (number == writer) true (is_used world writer)
+  pub used_with_node : (name : List ℕ) (number writer : ℕ) → AreWithin (length world.nodes) world.events
+      → is_used (with_node world name number) writer ≡ cond (number == writer) true (is_used world writer)
   used_with_node name number writer within =
       let m : Member = record { name = name; writer = number } in
       (λ j. has_writer-push world.nodes m writer j || list_any (λ e. e.version.writer == writer) (puts_with_node world name number within j))
@@ -304,7 +320,8 @@ module _ (name : List ℕ) (writer : ℕ) (s : EntryMap) where
     told = subst (λ (es : List Edit). AreToldApart es) (sym puts_begun) told_by_a_store;
   }
 
-  pub used_begun : (number : ℕ) → is_used (begun name writer s) number ≡ cond (writer == number) true (list_any (λ e. e.version.writer == number) (edits_of s))
+  pub used_begun : (number : ℕ) → is_used (begun name writer s) number
+      ≡ cond (writer == number) true (list_any (λ e. e.version.writer == number) (edits_of s))
   used_begun number = ap (λ (es : List Edit). (writer == number || false) || list_any (λ e. e.version.writer == number) es) puts_begun ∙ by (writer == number) (list_any (λ e. e.version.writer == number) (edits_of s))
     where
       by : (a b : Bool) → ((a || false) || b) ≡ cond a true b

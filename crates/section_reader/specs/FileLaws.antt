@@ -66,7 +66,8 @@ WhitespaceIsBlank = (white : List ℕ) → list_all is_white white ≡ true → 
 -- A byte order mark at the very start changes nothing.
 abbrev pub MarksChangeNothing : Type 0
 MarksChangeNothing =
-    (bytes : List ℕ) → HasNoMark bytes → (assignments_of (byte_order_mark ++ bytes) ≡ assignments_of bytes) × (notes_of (byte_order_mark ++ bytes) ≡ notes_of bytes)
+    (bytes : List ℕ) → HasNoMark bytes → (assignments_of (byte_order_mark ++ bytes) ≡ assignments_of bytes)
+    × (notes_of (byte_order_mark ++ bytes) ≡ notes_of bytes)
 
 -- a file's physical lines are those that it is put together from
 pub physical_lines-file : (texts : List (List ℕ)) → ArePlainLines texts → physical_lines (text_of_lines texts) ≡ numbered 1 texts

@@ -23,7 +23,8 @@ unfolding going_on
 going_on-line f line rest is = rw (is, going_on) refl
 
 pub joined_lines-line : (f : LineForm) (line : Line) (rest : List Line) → form line.text ≡ f
-    → joined_lines (line ∷ rest) ≡ by_form f (joined_lines rest) (joined_lines rest) (joined line rest ∷ lines_following rest) (line ∷ joined_lines rest)
+    → joined_lines (line ∷ rest) ≡ by_form f (joined_lines rest) (joined_lines rest)
+    (joined line rest ∷ lines_following rest) (line ∷ joined_lines rest)
 unfolding joined_lines
 joined_lines-line f line rest is = rw (is, joined_lines) refl
 
@@ -48,7 +49,8 @@ unfolding logical_of
 logical_of-comment line rest is = ap (λ v. filter has_text (map trimmed_line v)) (joined_lines-line Comment line rest is)
 
 -- a whole line is a logical line by itself
-pub logical_of-whole : (line : Line) (rest : List Line) → form line.text ≡ Whole → logical_of (line ∷ rest) ≡ kept (trimmed_line line) (logical_of rest)
+pub logical_of-whole : (line : Line) (rest : List Line) → form line.text ≡ Whole
+    → logical_of (line ∷ rest) ≡ kept (trimmed_line line) (logical_of rest)
 unfolding logical_of
 logical_of-whole line rest is = ap (λ v. filter has_text (map trimmed_line v)) (joined_lines-line Whole line rest is)
 
@@ -64,5 +66,6 @@ unfolding logical_of
 logical_of-nil = ap (λ v. filter has_text (map trimmed_line v)) none_joined.0
 
 -- blank lines and comments are left out
-pub logical_of-passed : (line : Line) (rest : List Line) → (form line.text ≡ Blank) ⊎ (form line.text ≡ Comment) → logical_of (line ∷ rest) ≡ logical_of rest
+pub logical_of-passed : (line : Line) (rest : List Line) → (form line.text ≡ Blank) ⊎ (form line.text ≡ Comment)
+    → logical_of (line ∷ rest) ≡ logical_of rest
 logical_of-passed line rest is = ⊎_elim (logical_of-blank line rest) (logical_of-comment line rest) is

@@ -85,4 +85,5 @@ LinesAreReadOneByOne = (n : ℕ) (texts : List (List ℕ)) → All IsOneLine tex
 -- Sections that are written are read back, each assignment with its line number, and there are no notes.
 abbrev pub SectionsAreReadBack : Type 0
 SectionsAreReadBack =
-    (sections : List Section) → All IsSection sections → (assignments_of (written sections) ≡ sections_from 1 sections) × (notes_of (written sections) ≡ [])
+    (sections : List Section) → All IsSection sections
+    → (assignments_of (written sections) ≡ sections_from 1 sections) × (notes_of (written sections) ≡ [])

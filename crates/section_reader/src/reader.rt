@@ -64,12 +64,16 @@ impl Reader {
 
     // Reads a logical line, which is joined and trimmed.
     fn read_line(&mut self, alloc: Global, number: usize, text: &[u8]) -> Result<(), AllocError>
-        ensures items { OnOk result ((rest : List Line)
+        ensures items { OnOk result
+            ((rest : List Line)
             → self.new.sections.items ++ items_from self.new.place rest
-            ≡ self.old.sections.items ++ items_from self.old.place (kept (record { number = number; text = text.now }) rest)) }
-        ensures notes { OnOk result ((rest : List Line)
+            ≡ self.old.sections.items ++ items_from self.old.place
+            (kept (record { number = number; text = text.now }) rest)) }
+        ensures notes { OnOk result
+            ((rest : List Line)
             → self.new.sections.notes ++ notes_from self.new.place rest
-            ≡ self.old.sections.notes ++ notes_from self.old.place (kept (record { number = number; text = text.now }) rest)) }
+            ≡ self.old.sections.notes ++ notes_from self.old.place
+            (kept (record { number = number; text = text.now }) rest)) }
     {
         if text.is_empty() {
             Ok(())
@@ -83,8 +87,9 @@ impl Reader {
     // Reads a line that begins with a bracket.
     fn read_header(&mut self, alloc: Global, number: usize, text: &[u8]) -> Result<(), AllocError>
         ensures items { OnOk result (self.new.sections.items ≡ self.old.sections.items) }
-        ensures notes { OnOk result (self.new.sections.notes
-            ≡ self.old.sections.notes ++ header_notes (record { number = number; text = text.now })) }
+        ensures notes { OnOk result
+            (self.new.sections.notes ≡ self.old.sections.notes ++ header_notes
+            (record { number = number; text = text.now })) }
         ensures place { OnOk result (self.new.place ≡ place_following text.now) }
     {
         match header_name(text) {
@@ -101,10 +106,12 @@ impl Reader {
 
     // Reads any other line.
     fn read_entry(&mut self, alloc: Global, number: usize, text: &[u8]) -> Result<(), AllocError>
-        ensures items { OnOk result (self.new.sections.items
-            ≡ self.old.sections.items ++ items_at self.old.place (record { number = number; text = text.now } ∷ [])) }
-        ensures notes { OnOk result (self.new.sections.notes
-            ≡ self.old.sections.notes ++ notes_at self.old.place (record { number = number; text = text.now } ∷ [])) }
+        ensures items { OnOk result
+            (self.new.sections.items ≡ self.old.sections.items ++ items_at self.old.place
+            (record { number = number; text = text.now } ∷ [])) }
+        ensures notes { OnOk result
+            (self.new.sections.notes ≡ self.old.sections.notes ++ notes_at self.old.place
+            (record { number = number; text = text.now } ∷ [])) }
         ensures place { OnOk result (self.new.place ≡ self.old.place) }
     {
         let section = match &self.place {

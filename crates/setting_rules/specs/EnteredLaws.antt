@@ -22,11 +22,14 @@ abbrev pub others : SettingKey → List SettingKey → List SettingKey
 others x ks = filter (λ q. not (same_key q x)) ks
 
 -- any other key is among them if it was before
-pub any_others : (k x : SettingKey) → same_key k x ≡ false → (ks : List SettingKey) → list_any (same_key k) (others x ks) ≡ list_any (same_key k) ks
+pub any_others : (k x : SettingKey) → same_key k x ≡ false → (ks : List SettingKey)
+    → list_any (same_key k) (others x ks) ≡ list_any (same_key k) ks
 any_others k x h [] = refl
 any_others k x h (y ∷ ks) = by (same_key y x) refl (any_others k x h ks)
   where
-    by : (b : Bool) → same_key y x ≡ b → list_any (same_key k) (others x ks) ≡ list_any (same_key k) ks → list_any (same_key k) (cond (not b) (y ∷ others x ks) (others x ks)) ≡ (same_key k y || list_any (same_key k) ks)
+    by : (b : Bool) → same_key y x ≡ b → list_any (same_key k) (others x ks) ≡ list_any (same_key k) ks
+        → list_any (same_key k) (cond (not b) (y ∷ others x ks) (others x ks))
+        ≡ (same_key k y || list_any (same_key k) ks)
     by true e rest = rest ∙ sym (ap (λ b. b || list_any (same_key k) ks) (ap (same_key k) (same_key_is y x e) ∙ h))
     by false e rest = ap (λ b. same_key k y || b) rest
 
@@ -41,10 +44,13 @@ firsts-append (x ∷ ks) ls =
     ∙ ap (λ l. x ∷ l) (filter-append (λ q. not (same_key q x)) (firsts ks) (not_among (firsts ks) (firsts ls)))
     ∙ ap (λ l. x ∷ (others x (firsts ks) ++ l)) (filter_twice (λ q. not (same_key q x)) (λ k. not (list_any (same_key k) (firsts ks))) (firsts ls) ∙ filter_agree _ _ both (firsts ls))
   where
-    both : (k : SettingKey) → cond (not (list_any (same_key k) (firsts ks))) (not (same_key k x)) false ≡ not (list_any (same_key k) (x ∷ others x (firsts ks)))
+    both : (k : SettingKey) → cond (not (list_any (same_key k) (firsts ks))) (not (same_key k x)) false
+        ≡ not (list_any (same_key k) (x ∷ others x (firsts ks)))
     both k = by (same_key k x) (list_any (same_key k) (firsts ks)) refl refl
       where
-        by : (s a : Bool) → same_key k x ≡ s → list_any (same_key k) (firsts ks) ≡ a → cond (not (list_any (same_key k) (firsts ks))) (not (same_key k x)) false ≡ not (same_key k x || list_any (same_key k) (others x (firsts ks)))
+        by : (s a : Bool) → same_key k x ≡ s → list_any (same_key k) (firsts ks) ≡ a
+            → cond (not (list_any (same_key k) (firsts ks))) (not (same_key k x)) false
+            ≡ not (same_key k x || list_any (same_key k) (others x (firsts ks)))
         by true true e g = ap (λ a. cond (not a) (not (same_key k x)) false) g ∙ sym (ap (λ s. not (s || list_any (same_key k) (others x (firsts ks)))) e)
         by true false e g = ap (λ a. cond (not a) (not (same_key k x)) false) g ∙ ap not e ∙ sym (ap (λ s. not (s || list_any (same_key k) (others x (firsts ks)))) e)
         by false a e g =

@@ -32,19 +32,25 @@ assertion_words Files rest = refl
 assertion_words Manager rest = refl
 
 -- if the keys that begin with a word have a rule by which an empty value empties all of them
-module _ (profile : Profile) (word : Text) (rule : KeyRule) (ruled : (rest : Text) → rule_of profile (codes "Unit") (word ++ rest) ≡ rule) (empties : (itself : Bool) → emptied_by rule rule itself ≡ true) (all : (values : List Text) → counted rule values ≡ values) where
+module _ (profile : Profile) (word : Text) (rule : KeyRule)
+    (ruled : (rest : Text) → rule_of profile (codes "Unit") (word ++ rest) ≡ rule)
+    (empties : (itself : Bool) → emptied_by rule rule itself ≡ true)
+    (all : (values : List Text) → counted rule values ≡ values) where
   rule_is : (k : SettingKey) → BeginsWith word k → rule_at profile k ≡ rule
   rule_is k h = ap (λ s. rule_of profile s k.key) h.0 ∙ ap (rule_of profile (codes "Unit")) h.1.1 ∙ ruled h.1.0
 
-  none_given : (k : SettingKey) → BeginsWith word k → (after : List Assignment) → All (λ b. ¬ BeginsWith word (key_of b)) after → list_any (gives profile k) after ≡ false
+  none_given : (k : SettingKey) → BeginsWith word k → (after : List Assignment)
+      → All (λ b. ¬ BeginsWith word (key_of b)) after → list_any (gives profile k) after ≡ false
   none_given k h [] apart = refl
   none_given k h (b ∷ after) apart = by (same_key k (key_of b)) refl (none_given k h after (All-tail (λ b. ¬ BeginsWith word (key_of b)) b after apart))
     where
-      by : (same : Bool) → same_key k (key_of b) ≡ same → list_any (gives profile k) after ≡ false → (gives profile k b || list_any (gives profile k) after) ≡ false
+      by : (same : Bool) → same_key k (key_of b) ≡ same → list_any (gives profile k) after ≡ false
+          → (gives profile k b || list_any (gives profile k) after) ≡ false
       by true e more = absurd (All-head (λ b. ¬ BeginsWith word (key_of b)) b after apart (subst (λ q. BeginsWith word q) (same_key_is k (key_of b) e) h))
       by false e more = ap (λ s. (s && counts profile b && not (is_empty b.value)) || list_any (gives profile k) after) e ∙ more
 
-  nothing_following : (k : SettingKey) → BeginsWith word k → (after : List Assignment) → All (λ b. ¬ BeginsWith word (key_of b)) after → values_of profile k after ≡ []
+  nothing_following : (k : SettingKey) → BeginsWith word k → (after : List Assignment)
+      → All (λ b. ¬ BeginsWith word (key_of b)) after → values_of profile k after ≡ []
   unfolding values_of
   nothing_following k h after apart =
       ap (λ l. counted (rule_at profile k) (map (λ b. b.value) l)) (filter-following_last-none (gives profile k) (resets profile k) after (none_given k h after apart))

@@ -42,7 +42,10 @@ unfolding values_of
 lists_join profile k first second =
     ap (λ l. counted (rule_at profile k) (given profile k l)) (following_last-append (resets profile k) first second) ∙ by (list_any (resets profile k) second) refl
   where
-    by : (b : Bool) → list_any (resets profile k) second ≡ b → counted (rule_at profile k) (given profile k (cond b (following_last (resets profile k) second) (following_last (resets profile k) first ++ second)))
+    by : (b : Bool) → list_any (resets profile k) second ≡ b
+        → counted (rule_at profile k)
+        (given profile k
+        (cond b (following_last (resets profile k) second) (following_last (resets profile k) first ++ second)))
         ≡ cond b (counted (rule_at profile k) (given profile k (following_last (resets profile k) second))) (counted (rule_at profile k) (counted (rule_at profile k) (given profile k (following_last (resets profile k) first)) ++ counted (rule_at profile k) (given profile k (following_last (resets profile k) second))))
     by true e = refl
     by false e =

@@ -9,7 +9,8 @@ pub IsAmong-from_any : (z : Name) (xs : List Name) → list_any (eq_by_cmp name_
 IsAmong-from_any z [] h = true≢false (sym h)
 IsAmong-from_any z (y ∷ xs) h = by (eq_by_cmp name_cmp z y) refl h (IsAmong-from_any z xs)
   where
-    by : (b : Bool) → eq_by_cmp name_cmp z y ≡ b → (b || list_any (eq_by_cmp name_cmp z) xs) ≡ true → (list_any (eq_by_cmp name_cmp z) xs ≡ true → IsAmong z xs) → (y ≡ z) ⊎ IsAmong z xs
+    by : (b : Bool) → eq_by_cmp name_cmp z y ≡ b → (b || list_any (eq_by_cmp name_cmp z) xs) ≡ true
+        → (list_any (eq_by_cmp name_cmp z) xs ≡ true → IsAmong z xs) → (y ≡ z) ⊎ IsAmong z xs
     by true e h more = inl (sym (name_cmp-IsAntisymmetric z y (is_equal _ e)))
     by false e h more = inr (more h)
 
@@ -27,14 +28,16 @@ firsts_are [] = refl
 firsts_are (n ∷ names) = ap (λ l. n ∷ l) (firsts_are names)
 
 -- sorting keeps the set of names
-pub any-in_byte_order : (z : Name) (names : List Name) → list_any (eq_by_cmp name_cmp z) (in_byte_order names) ≡ list_any (eq_by_cmp name_cmp z) names
+pub any-in_byte_order : (z : Name) (names : List Name)
+    → list_any (eq_by_cmp name_cmp z) (in_byte_order names) ≡ list_any (eq_by_cmp name_cmp z) names
 any-in_byte_order z names =
     let es = map (λ name. let p : Name × Unit {0} = (name, tt) in p) names in
     sym (contains_key-keys (finmap.from_entries {X = Unit {0}} {R = name_cmp} es) z)
     ∙ ap is_some (get-from_entries nat_list_cmp_total es z)
     ∙ is_some-find name_cmp z es ∙ ap (list_any (eq_by_cmp name_cmp z)) (firsts_are names)
 
-above : (x : Name) (es : List (Name × Unit {0})) → IsTrue (below_all name_cmp x es) → AllByRecursion (λ y. name_cmp x y ≡ Less) (map (λ e. e.0) es)
+above : (x : Name) (es : List (Name × Unit {0})) → IsTrue (below_all name_cmp x es)
+    → AllByRecursion (λ y. name_cmp x y ≡ Less) (map (λ e. e.0) es)
 above x [] h = tt
 above x (e ∷ es) h = (is_less _ (and_parts _ _ h).0, above x es (and_parts _ _ h).1)
 

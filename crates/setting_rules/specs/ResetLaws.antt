@@ -15,7 +15,8 @@ module _ {X : Type 0} (p : X → Bool) where
       by false false e = refl
 
   -- for two lists, the last match in the second counts, if there is one
-  pub following_last-append : (xs ys : List X) → following_last p (xs ++ ys) ≡ cond (list_any p ys) (following_last p ys) (following_last p xs ++ ys)
+  pub following_last-append : (xs ys : List X)
+      → following_last p (xs ++ ys) ≡ cond (list_any p ys) (following_last p ys) (following_last p xs ++ ys)
   following_last-append [] ys = by (list_any p ys) refl
     where
       by : (b : Bool) → list_any p ys ≡ b → following_last p ys ≡ cond b (following_last p ys) ys
@@ -47,7 +48,8 @@ module _ {X : Type 0} (p : X → Bool) where
   filter-none [] h = refl
   filter-none (x ∷ xs) h = by (p x) h (filter-none xs)
     where
-      by : (b : Bool) → (b || list_any p xs) ≡ false → (list_any p xs ≡ false → filter p xs ≡ []) → cond b (x ∷ filter p xs) (filter p xs) ≡ []
+      by : (b : Bool) → (b || list_any p xs) ≡ false → (list_any p xs ≡ false → filter p xs ≡ [])
+          → cond b (x ∷ filter p xs) (filter p xs) ≡ []
       by true e more = absurd (true≢false e)
       by false e more = more e
 
@@ -60,7 +62,8 @@ module _ {X : Type 0} (p : X → Bool) where
       rest true e = absurd (true≢false e)
       rest false e = e
 
-      by : (b a : Bool) → (list_any p xs ≡ false → filter p (following_last q xs) ≡ []) → filter p (cond b (following_last q xs) (cond a xs (x ∷ xs))) ≡ []
+      by : (b a : Bool) → (list_any p xs ≡ false → filter p (following_last q xs) ≡ [])
+          → filter p (cond b (following_last q xs) (cond a xs (x ∷ xs))) ≡ []
       by true a more = more (rest (p x) h)
       by false true more = filter-none xs (rest (p x) h)
       by false false more = filter-none (x ∷ xs) h
@@ -75,7 +78,8 @@ module _ {X : Type 0} (p : X → Bool) where
       rest true e = absurd (true≢false e)
       rest false e = e
 
-pub given-append : (profile : Profile) (k : SettingKey) (xs ys : List Assignment) → given profile k (xs ++ ys) ≡ given profile k xs ++ given profile k ys
+pub given-append : (profile : Profile) (k : SettingKey) (xs ys : List Assignment)
+    → given profile k (xs ++ ys) ≡ given profile k xs ++ given profile k ys
 given-append profile k xs ys = ap (map (λ a. a.value)) (filter-append (gives profile k) xs ys) ∙ map-append (λ a. a.value) (filter (gives profile k) xs) (filter (gives profile k) ys)
 
 -- A key that no assignment empties keeps all its values.
@@ -98,7 +102,8 @@ resets_forget profile k before after a h =
     ∙ ap (λ b. cond (b || list_any (resets profile k) after) (cond (list_any (resets profile k) after) (following_last (resets profile k) after) (cond b after (a ∷ after))) (following_last (resets profile k) before ++ a ∷ after)) h
     ∙ by (list_any (resets profile k) after) refl)
   where
-    by : (b : Bool) → list_any (resets profile k) after ≡ b → cond b (following_last (resets profile k) after) after ≡ following_last (resets profile k) after
+    by : (b : Bool) → list_any (resets profile k) after ≡ b
+        → cond b (following_last (resets profile k) after) after ≡ following_last (resets profile k) after
     by true e = refl
     by false e = sym (following_last-none (resets profile k) after e)
 
@@ -118,7 +123,11 @@ others_change_nothing profile k before after a none stays =
     passed : given profile k (a ∷ after) ≡ given profile k after
     passed = ap (λ b. map (λ y. y.value) (cond b (a ∷ filter (gives profile k) after) (filter (gives profile k) after))) none
 
-    by : (b : Bool) → given profile k (cond b (cond b (following_last (resets profile k) after) (a ∷ after)) (following_last (resets profile k) before ++ a ∷ after)) ≡ given profile k (cond b (following_last (resets profile k) after) (following_last (resets profile k) before ++ after))
+    by : (b : Bool)
+        → given profile k
+        (cond b (cond b (following_last (resets profile k) after) (a ∷ after))
+        (following_last (resets profile k) before ++ a ∷ after)) ≡ given profile k
+        (cond b (following_last (resets profile k) after) (following_last (resets profile k) before ++ after))
     by true = refl
     by false = given-append profile k (following_last (resets profile k) before) (a ∷ after) ∙ ap (λ l. given profile k (following_last (resets profile k) before) ++ l) passed ∙ sym (given-append profile k (following_last (resets profile k) before) after)
 
@@ -133,14 +142,20 @@ other_keys_change_nothing profile k before after a other apart =
     (ap (λ b. is_empty a.value && emptied_by (rule_of profile a.section a.key) (rule_at profile k) b) other ∙ ap (λ b. is_empty a.value && b) apart ∙ and-false (is_empty a.value))
 
 -- a key that isn't entered gets no value from any assignment
-none_given : (profile : Profile) (k : SettingKey) (l : List Assignment) → list_any (same_key k) (map key_of (filter (counts profile) l)) ≡ false → list_any (gives profile k) l ≡ false
+none_given : (profile : Profile) (k : SettingKey) (l : List Assignment)
+    → list_any (same_key k) (map key_of (filter (counts profile) l)) ≡ false → list_any (gives profile k) l ≡ false
 none_given profile k [] h = refl
 none_given profile k (y ∷ l) h = by (counts profile y) (same_key k (key_of y)) refl refl h (none_given profile k l)
   where
-    by : (b s : Bool) → counts profile y ≡ b → same_key k (key_of y) ≡ s → list_any (same_key k) (map key_of (cond b (y ∷ filter (counts profile) l) (filter (counts profile) l))) ≡ false → (list_any (same_key k) (map key_of (filter (counts profile) l)) ≡ false → list_any (gives profile k) l ≡ false) → (gives profile k y || list_any (gives profile k) l) ≡ false
+    by : (b s : Bool) → counts profile y ≡ b → same_key k (key_of y) ≡ s
+        → list_any (same_key k) (map key_of (cond b (y ∷ filter (counts profile) l) (filter (counts profile) l)))
+        ≡ false → (list_any (same_key k) (map key_of (filter (counts profile) l)) ≡ false
+        → list_any (gives profile k) l ≡ false) → (gives profile k y || list_any (gives profile k) l) ≡ false
     by b false e d h more = ap (λ s. (s && counts profile y && not (is_empty y.value)) || list_any (gives profile k) l) d ∙ more (rest b h)
       where
-        rest : (b : Bool) → list_any (same_key k) (map key_of (cond b (y ∷ filter (counts profile) l) (filter (counts profile) l))) ≡ false → list_any (same_key k) (map key_of (filter (counts profile) l)) ≡ false
+        rest : (b : Bool)
+            → list_any (same_key k) (map key_of (cond b (y ∷ filter (counts profile) l) (filter (counts profile) l)))
+            ≡ false → list_any (same_key k) (map key_of (filter (counts profile) l)) ≡ false
         rest false h = h
         rest true h = sym (ap (λ s. s || list_any (same_key k) (map key_of (filter (counts profile) l))) d) ∙ h
     by true true e d h more = absurd (true≢false (sym (ap (λ s. s || list_any (same_key k) (map key_of (filter (counts profile) l))) d) ∙ h))
@@ -150,17 +165,23 @@ any_firsts : (k : SettingKey) (ks : List SettingKey) → list_any (same_key k) k
 any_firsts k [] h = h
 any_firsts k (x ∷ ks) h = by (same_key k x) refl h (any_firsts k ks)
   where
-    left : (q : List SettingKey) → same_key k x ≡ false → list_any (same_key k) q ≡ true → list_any (same_key k) (filter (λ y. not (same_key y x)) q) ≡ true
+    left : (q : List SettingKey) → same_key k x ≡ false → list_any (same_key k) q ≡ true
+        → list_any (same_key k) (filter (λ y. not (same_key y x)) q) ≡ true
     left [] e h = h
     left (y ∷ q) e h = at (same_key y x) (same_key k y) refl refl h (left q e)
       where
-        at : (b s : Bool) → same_key y x ≡ b → same_key k y ≡ s → (s || list_any (same_key k) q) ≡ true → (list_any (same_key k) q ≡ true → list_any (same_key k) (filter (λ y. not (same_key y x)) q) ≡ true) → list_any (same_key k) (cond (not b) (y ∷ filter (λ y. not (same_key y x)) q) (filter (λ y. not (same_key y x)) q)) ≡ true
+        at : (b s : Bool) → same_key y x ≡ b → same_key k y ≡ s → (s || list_any (same_key k) q) ≡ true
+            → (list_any (same_key k) q ≡ true → list_any (same_key k) (filter (λ y. not (same_key y x)) q) ≡ true)
+            → list_any (same_key k)
+            (cond (not b) (y ∷ filter (λ y. not (same_key y x)) q) (filter (λ y. not (same_key y x)) q)) ≡ true
         at true true d f h more = absurd (true≢false (sym f ∙ ap (same_key k) (same_key_is y x d) ∙ e))
         at true false d f h more = more h
         at false true d f h more = ap (λ b. b || list_any (same_key k) (filter (λ y. not (same_key y x)) q)) f
         at false false d f h more = ap (λ b. b || list_any (same_key k) (filter (λ y. not (same_key y x)) q)) f ∙ more h
 
-    by : (b : Bool) → same_key k x ≡ b → (b || list_any (same_key k) ks) ≡ true → (list_any (same_key k) ks ≡ true → list_any (same_key k) (firsts ks) ≡ true) → (same_key k x || list_any (same_key k) (filter (λ y. not (same_key y x)) (firsts ks))) ≡ true
+    by : (b : Bool) → same_key k x ≡ b → (b || list_any (same_key k) ks) ≡ true
+        → (list_any (same_key k) ks ≡ true → list_any (same_key k) (firsts ks) ≡ true)
+        → (same_key k x || list_any (same_key k) (filter (λ y. not (same_key y x)) (firsts ks))) ≡ true
     by true e h more = ap (λ b. b || list_any (same_key k) (filter (λ y. not (same_key y x)) (firsts ks))) e
     by false e h more = ap (λ b. b || list_any (same_key k) (filter (λ y. not (same_key y x)) (firsts ks))) e ∙ left (firsts ks) e (more h)
 
@@ -172,11 +193,18 @@ pub settings_show_values : SettingsShowValues
 unfolding settings_of keys_of values_of
 settings_show_values profile k items = by (list_any (same_key k) (keys_of profile items)) refl
   where
-    found : (ks : List SettingKey) → list_any (same_key k) ks ≡ true → values_at (map (λ q. (q, values_of profile q items)) ks) k ≡ values_of profile k items
+    found : (ks : List SettingKey) → list_any (same_key k) ks ≡ true
+        → values_at (map (λ q. (q, values_of profile q items)) ks) k ≡ values_of profile k items
     found [] h = absurd (true≢false (sym h))
     found (q ∷ ks) h = at (same_key k q) refl h (found ks)
       where
-        at : (b : Bool) → same_key k q ≡ b → (b || list_any (same_key k) ks) ≡ true → (list_any (same_key k) ks ≡ true → values_at (map (λ q. (q, values_of profile q items)) ks) k ≡ values_of profile k items) → texts_or_none (cond (same_key k q) (Some (q, values_of profile q items)) (find (λ e. same_key k e.0) (map (λ q. (q, values_of profile q items)) ks))) ≡ values_of profile k items
+        at : (b : Bool) → same_key k q ≡ b → (b || list_any (same_key k) ks) ≡ true
+            → (list_any (same_key k) ks ≡ true
+            → values_at (map (λ q. (q, values_of profile q items)) ks) k ≡ values_of profile k items)
+            → texts_or_none
+            (cond (same_key k q) (Some (q, values_of profile q items))
+            (find (λ e. same_key k e.0) (map (λ q. (q, values_of profile q items)) ks)))
+            ≡ values_of profile k items
         at true e h more = ap (λ b. texts_or_none (cond b (Some (q, values_of profile q items)) (find (λ e. same_key k e.0) (map (λ q. (q, values_of profile q items)) ks)))) e ∙ sym (ap (λ q. values_of profile q items) (same_key_is k q e))
         at false e h more = ap (λ b. texts_or_none (cond b (Some (q, values_of profile q items)) (find (λ e. same_key k e.0) (map (λ q. (q, values_of profile q items)) ks)))) e ∙ more h
 
@@ -184,7 +212,11 @@ settings_show_values profile k items = by (list_any (same_key k) (keys_of profil
     absent [] h = refl
     absent (q ∷ ks) h = at (same_key k q) refl h (absent ks)
       where
-        at : (b : Bool) → same_key k q ≡ b → (b || list_any (same_key k) ks) ≡ false → (list_any (same_key k) ks ≡ false → values_at (map (λ q. (q, values_of profile q items)) ks) k ≡ []) → texts_or_none (cond (same_key k q) (Some (q, values_of profile q items)) (find (λ e. same_key k e.0) (map (λ q. (q, values_of profile q items)) ks))) ≡ []
+        at : (b : Bool) → same_key k q ≡ b → (b || list_any (same_key k) ks) ≡ false
+            → (list_any (same_key k) ks ≡ false → values_at (map (λ q. (q, values_of profile q items)) ks) k ≡ [])
+            → texts_or_none
+            (cond (same_key k q) (Some (q, values_of profile q items))
+            (find (λ e. same_key k e.0) (map (λ q. (q, values_of profile q items)) ks))) ≡ []
         at true e h more = absurd (true≢false h)
         at false e h more = ap (λ b. texts_or_none (cond b (Some (q, values_of profile q items)) (find (λ e. same_key k e.0) (map (λ q. (q, values_of profile q items)) ks)))) e ∙ more h
 
@@ -202,11 +234,13 @@ settings_show_values profile k items = by (list_any (same_key k) (keys_of profil
         ap (λ l. counted (rule_at profile k) (map (λ y. y.value) l)) (filter-following_last-none (gives profile k) (resets profile k) items (none_given profile k items (not_first (list_any (same_key k) (map key_of (filter (counts profile) items))) refl)))
         ∙ counted_none (rule_at profile k)
       where
-        not_first : (b : Bool) → list_any (same_key k) (map key_of (filter (counts profile) items)) ≡ b → list_any (same_key k) (map key_of (filter (counts profile) items)) ≡ false
+        not_first : (b : Bool) → list_any (same_key k) (map key_of (filter (counts profile) items)) ≡ b
+            → list_any (same_key k) (map key_of (filter (counts profile) items)) ≡ false
         not_first true e = absurd (true≢false (sym (any_firsts k (map key_of (filter (counts profile) items)) e) ∙ h))
         not_first false e = e
 
-    by : (b : Bool) → list_any (same_key k) (keys_of profile items) ≡ b → values_at (map (λ q. (q, values_of profile q items)) (keys_of profile items)) k ≡ values_of profile k items
+    by : (b : Bool) → list_any (same_key k) (keys_of profile items) ≡ b
+        → values_at (map (λ q. (q, values_of profile q items)) (keys_of profile items)) k ≡ values_of profile k items
     by true h = found (keys_of profile items) h
     by false h = absent (keys_of profile items) h ∙ sym (nothing h)
 
@@ -225,7 +259,8 @@ never_emptied Plain Plain itself h = absurd (true≢false (sym h))
 never_emptied by rule itself h = refl
 
 -- so no assignment empties such a key
-pub none_resets : (profile : Profile) (k : SettingKey) (items : List Assignment) → is_never_emptied (rule_at profile k) ≡ true → list_any (resets profile k) items ≡ false
+pub none_resets : (profile : Profile) (k : SettingKey) (items : List Assignment)
+    → is_never_emptied (rule_at profile k) ≡ true → list_any (resets profile k) items ≡ false
 none_resets profile k [] h = refl
 none_resets profile k (a ∷ items) h =
     ap (λ b. (is_empty a.value && b) || list_any (resets profile k) items)

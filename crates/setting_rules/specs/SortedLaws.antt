@@ -22,7 +22,8 @@ few_ascend (n ∷ m ∷ names) few = absurd (omega arith)
 pub few_in_order : (names : List Name) → length names < 2 → in_byte_order names ≡ names
 few_in_order names few = ascending_in_order names (few_ascend names few)
 
-pub sorted_is : (names s d : List Name) → IsPermutation names s → IsSorted name_cmp s → d ≡ dedup (eq_by_cmp name_cmp) s → d ≡ in_byte_order names
+pub sorted_is : (names s d : List Name) → IsPermutation names s → IsSorted name_cmp s → d ≡ dedup (eq_by_cmp name_cmp) s
+    → d ≡ in_byte_order names
 sorted_is names s d permutation sorted is =
     one_ascending_list name_cmp nat_list_cmp_total d (in_byte_order names)
     (subst (IsStrictlySortedBy name_cmp) (sym is) (IsStrictlySortedBy-dedup nat_list_cmp_total (λ x y. refl) s sorted)) (names_ascend names)

@@ -28,7 +28,8 @@ switch_rule Files = refl
 switch_rule Manager = refl
 
 -- nothing empties the switch, so its value is the last one given
-switch_values : (profile : Profile) (items : List Assignment) → values_at (settings_of profile items) manual_start_key ≡ last_alone (given profile manual_start_key items)
+switch_values : (profile : Profile) (items : List Assignment)
+    → values_at (settings_of profile items) manual_start_key ≡ last_alone (given profile manual_start_key items)
 switch_values profile items =
     settings_keep_all profile manual_start_key items (ap is_never_emptied (switch_rule profile))
     ∙ ap (λ r. counted r (given profile manual_start_key items)) (switch_rule profile)
@@ -37,11 +38,13 @@ switch_values profile items =
 counts_where_good : (profile : Profile) (a : Assignment) → key_of a ≡ manual_start_key → counts profile a ≡ is_some (boolean a.value)
 counts_where_good profile a e = ap (λ k. counts_by (rule_at profile k) a.value) e ∙ ap (λ r. counts_by r a.value) (switch_rule profile)
 
-none_given : (profile : Profile) (items : List Assignment) → All GivesNoBoolean items → list_any (gives profile manual_start_key) items ≡ false
+none_given : (profile : Profile) (items : List Assignment) → All GivesNoBoolean items
+    → list_any (gives profile manual_start_key) items ≡ false
 none_given profile [] h = refl
 none_given profile (a ∷ items) h = by (same_key manual_start_key (key_of a)) refl (none_given profile items (All-tail GivesNoBoolean a items h))
   where
-    by : (same : Bool) → same_key manual_start_key (key_of a) ≡ same → list_any (gives profile manual_start_key) items ≡ false → (gives profile manual_start_key a || list_any (gives profile manual_start_key) items) ≡ false
+    by : (same : Bool) → same_key manual_start_key (key_of a) ≡ same → list_any (gives profile manual_start_key) items
+        ≡ false → (gives profile manual_start_key a || list_any (gives profile manual_start_key) items) ≡ false
     by false e more = ap (λ s. (s && counts profile a && not (is_empty a.value)) || list_any (gives profile manual_start_key) items) e ∙ more
     by true e more =
         let is : key_of a ≡ manual_start_key = sym (same_key_is manual_start_key (key_of a) e) in

@@ -6,7 +6,8 @@ use Rattle.setting_rules.specs.Words.{argument, for_unit, named_at}
 
 -- a template that the unit names means its instance with this i; none if that name has more than 255 bytes
 pub record Takes (unit template i : Name) : Type 0 where
-  pub short : length (instance_name (prefix template) i (suffix template)) ≤ 255 → for_unit unit template ≡ Some (instance_name (prefix template) i (suffix template))
+  pub short : length (instance_name (prefix template) i (suffix template)) ≤ 255
+      → for_unit unit template ≡ Some (instance_name (prefix template) i (suffix template))
   pub long : 255 < length (instance_name (prefix template) i (suffix template)) → for_unit unit template ≡ None
 
 -- From an instance a template gets the instance.
@@ -34,7 +35,9 @@ takes unit template i of_template is fit = record {
         ∙ ap (instance_at Template template) is
         ∙ ap (λ b. cond b (if_short (instance_name (prefix template) i (suffix template))) None) fit
 
-    by : (b : Bool) → leb (length (instance_name (prefix template) i (suffix template))) 255 ≡ b → 255 < length (instance_name (prefix template) i (suffix template)) → cond b (Some (instance_name (prefix template) i (suffix template))) None ≡ None
+    by : (b : Bool) → leb (length (instance_name (prefix template) i (suffix template))) 255 ≡ b
+        → 255 < length (instance_name (prefix template) i (suffix template))
+        → cond b (Some (instance_name (prefix template) i (suffix template))) None ≡ None
     by true e h = absurd (omega (arith, leb-true (length (instance_name (prefix template) i (suffix template))) 255 e))
     by false e h = refl
 

@@ -18,7 +18,8 @@ pub fn boolean(text: &[u8]) -> Option<bool>
 
 // Returns whether a text is one of these words, ignoring case.
 fn is_word_of(text: &[u8], words: &[&[u8]]) -> bool
-    ensures word { result ≡ list_any (λ word. str_eq_ignore_ascii_case text.now word.now) words.now }
+    ensures word { result ≡ list_any
+        (λ word. str_eq_ignore_ascii_case text.now word.now) words.now }
 {
     words.iter().any(|word| text.eq_ignore_ascii_case(word))
 }

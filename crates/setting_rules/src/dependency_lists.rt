@@ -68,8 +68,11 @@ impl Dependencies {
         values: &[Bytes],
         unit: &UnitName,
     ) -> Result<(), AllocError>
-        ensures lists { OnOk result (self.new.lists ≡ self.old.lists
-            ++ record { kind = kind; names = in_byte_order (names_by unit.now (flat_map words_of values.now)) } ∷ []) }
+        ensures lists { OnOk result
+            (self.new.lists ≡ self.old.lists ++ record {
+              kind = kind;
+              names = in_byte_order (names_by unit.now (flat_map words_of values.now));
+            } ∷ []) }
         ensures notes { OnOk result (self.new.notes ≡ self.old.notes
             ++ map (note_on (key_for kind)) (faults_by unit.now (flat_map words_of values.now))) }
     {
@@ -98,9 +101,12 @@ impl Dependencies {
         words: &[&[u8]],
         unit: &UnitName,
     ) -> Result<(), AllocError>
-        ensures names { OnOk result (names.new.items ≡ names.old.items ++ names_by unit.now (map (λ word. word.now) words.now)) }
-        ensures notes { OnOk result (self.new.notes ≡ self.old.notes
-            ++ map (note_on (key_for kind)) (faults_by unit.now (map (λ word. word.now) words.now))) }
+        ensures names { OnOk result
+            (names.new.items
+            ≡ names.old.items ++ names_by unit.now (map (λ word. word.now) words.now)) }
+        ensures notes { OnOk result
+            (self.new.notes ≡ self.old.notes ++ map (note_on (key_for kind))
+            (faults_by unit.now (map (λ word. word.now) words.now))) }
         ensures lists { OnOk result (self.new.lists ≡ self.old.lists) }
     {
         for word in words {
@@ -118,7 +124,8 @@ impl Dependencies {
         word: &[u8],
         unit: &UnitName,
     ) -> Result<(), AllocError>
-        ensures names { OnOk result (names.new.items ≡ names.old.items ++ names_by unit.now (word.now ∷ [])) }
+        ensures names { OnOk result
+            (names.new.items ≡ names.old.items ++ names_by unit.now (word.now ∷ [])) }
         ensures notes { OnOk result (self.new.notes ≡ self.old.notes
             ++ map (note_on (key_for kind)) (faults_by unit.now (word.now ∷ []))) }
         ensures lists { OnOk result (self.new.lists ≡ self.old.lists) }
@@ -137,7 +144,8 @@ impl Dependencies {
         kind: DepKind,
         fault: SettingNoteKind,
     ) -> Result<(), AllocError>
-        ensures notes { OnOk result (self.new.notes ≡ self.old.notes ++ note_on (key_for kind) fault ∷ []) }
+        ensures notes { OnOk result
+            (self.new.notes ≡ self.old.notes ++ note_on (key_for kind) fault ∷ []) }
         ensures lists { OnOk result (self.new.lists ≡ self.old.lists) }
     {
         self.notes.push(SettingNote {

@@ -18,8 +18,10 @@ use unit_name::{ExpandFault, UnitName, expand as expand_bytes};
 ///
 /// Linear in the bytes of the values and of their expansions. A value without a percent sign isn't copied.
 pub fn values(alloc: Global, settings: &Settings, unit: &UnitName) -> Result<Values, AllocError>
-    ensures rows { IfOk result (λ values. values.rows ≡ rows_of settings.now.profile settings.now.map unit.now) }
-    ensures notes { IfOk result (λ values. values.notes ≡ escape_notes settings.now.profile settings.now.map unit.now) }
+    ensures rows { IfOk result
+        (λ values. values.rows ≡ rows_of settings.now.profile settings.now.map unit.now) }
+    ensures notes { IfOk result
+        (λ values. values.notes ≡ escape_notes settings.now.profile settings.now.map unit.now) }
 {
     let mut values = Values::new(alloc);
     for place in 0..settings.map.len() {

@@ -40,7 +40,8 @@ impl SettingKey {
 
     /// Returns whether this is the key with this name in this section. Allocates nothing.
     pub(crate) fn is(&self, section: &[u8], key: &[u8]) -> bool
-        ensures test { result ≡ same_key (record { section = section.now; key = key.now }) self.now }
+        ensures test { result ≡ same_key
+            (record { section = section.now; key = key.now }) self.now }
     {
         key == self.key.as_slice() && section == self.section.as_slice()
     }

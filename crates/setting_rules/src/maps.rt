@@ -62,7 +62,8 @@ impl SettingMap {
 
     /// Returns the values of a key, or an empty slice if it is absent. Linear in the keys. Allocates nothing.
     pub fn values_of(&self, section: &[u8], key: &[u8]) -> &[Bytes]
-        ensures values { result.now ≡ values_at self.now (record { section = section.now; key = key.now }) }
+        ensures values { result.now
+            ≡ values_at self.now (record { section = section.now; key = key.now }) }
     {
         for place in 0..self.len() {
             let (entered, values) = self.entry(place);
@@ -103,7 +104,8 @@ impl SettingMap {
         key: SettingKey,
         value: Bytes,
     ) -> Result<(), AllocError>
-        ensures map { OnOk result (self.new ≡ changed (λ values. values ++ value ∷ []) self.old key) }
+        ensures map { OnOk result
+            (self.new ≡ changed (λ values. values ++ value ∷ []) self.old key) }
     {
         let place = self.place(alloc, key)?;
         self.entries[place].push(value)?;

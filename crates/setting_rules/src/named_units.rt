@@ -25,8 +25,10 @@ pub fn dependencies(
     settings: &Settings,
     unit: &UnitName,
 ) -> Result<Dependencies, AllocError>
-    ensures lists { IfOk result (λ all. all.lists ≡ lists_of settings.now.profile settings.now.map unit.now) }
-    ensures notes { IfOk result (λ all. all.notes ≡ word_notes settings.now.profile settings.now.map unit.now) }
+    ensures lists { IfOk result
+        (λ all. all.lists ≡ lists_of settings.now.profile settings.now.map unit.now) }
+    ensures notes { IfOk result
+        (λ all. all.notes ≡ word_notes settings.now.profile settings.now.map unit.now) }
 {
     let kinds = DepKind::naming();
     let mut all = Dependencies::with_room(alloc, kinds.len())?;
@@ -38,7 +40,8 @@ pub fn dependencies(
 
 // Returns the values of the key that sets a kind; none if no key sets it by the settings' profile.
 fn values_for(settings: &Settings, kind: DepKind) -> &[Bytes]
-    ensures values { flat_map words_of result.now ≡ words_for settings.now.profile settings.now.map kind }
+    ensures values { flat_map words_of result.now
+        ≡ words_for settings.now.profile settings.now.map kind }
 {
     if kind.is_settable(settings.profile) {
         settings.map.values_of(UNIT, kind.word().as_bytes())

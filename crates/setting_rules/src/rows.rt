@@ -72,10 +72,14 @@ impl Values {
         texts: &[Bytes],
         unit: &UnitName,
     ) -> Result<(), AllocError>
-        ensures rows { OnOk result (self.new.rows
-            ≡ self.old.rows ++ (if is_dependency profile key.now then [] else rows_at unit.now key.now texts.now)) }
-        ensures notes { OnOk result (self.new.notes
-            ≡ self.old.notes ++ (if is_dependency profile key.now then [] else escape_notes_at unit.now key.now texts.now)) }
+        ensures rows { OnOk result
+            (self.new.rows ≡ self.old.rows
+            ++ (if is_dependency profile key.now then [] else rows_at unit.now key.now texts.now)) }
+        ensures notes { OnOk result
+            (self.new.notes
+            ≡ self.old.notes
+            ++ (if is_dependency profile key.now then [] else escape_notes_at unit.now key.now
+            texts.now)) }
     {
         if key.sets_dependencies(profile) {
             return Ok(());
@@ -94,8 +98,10 @@ impl Values {
         text: &Bytes,
         unit: &UnitName,
     ) -> Result<(), AllocError>
-        ensures rows { OnOk result (self.new.rows ≡ self.old.rows ++ rows_at unit.now key.now (text.now ∷ [])) }
-        ensures notes { OnOk result (self.new.notes ≡ self.old.notes ++ escape_notes_at unit.now key.now (text.now ∷ [])) }
+        ensures rows { OnOk result
+            (self.new.rows ≡ self.old.rows ++ rows_at unit.now key.now (text.now ∷ [])) }
+        ensures notes { OnOk result
+            (self.new.notes ≡ self.old.notes ++ escape_notes_at unit.now key.now (text.now ∷ [])) }
     {
         let SettingKey { section, key } = key.try_clone()?;
         match expanded(alloc, text, unit)? {

@@ -56,7 +56,8 @@ pub fn apply(
 ) -> Result<Settings, AllocError>
     ensures profile { IfOk result (λ settings. settings.profile ≡ profile) }
     ensures map { IfOk result (λ settings. settings.map ≡ settings_of profile assignments.now) }
-    ensures notes { IfOk result (λ settings. settings.notes ≡ boolean_notes profile assignments.now) }
+    ensures notes { IfOk result
+        (λ settings. settings.notes ≡ boolean_notes profile assignments.now) }
 {
     let starts = FamilyStarts::of(profile, assignments);
     let mut settings = Settings::with_room(alloc, profile, assignments.len())?;
@@ -120,7 +121,8 @@ impl FamilyStarts {
 
 // Returns the index from which the values of a family count.
 fn family_start(profile: Profile, assignments: &[Assignment], family: KeyRule) -> usize
-    ensures start { drop result assignments.now ≡ following_last (resets_family profile family) assignments.now }
+    ensures start { drop result assignments.now
+        ≡ following_last (resets_family profile family) assignments.now }
 {
     let mut start = 0;
     for (index, assignment) in assignments.iter().enumerate() {
@@ -162,10 +164,14 @@ impl Settings {
         rule: KeyRule,
         live: bool,
     ) -> Result<(), AllocError>
-        ensures map { OnOk result (self.new.map
-            ≡ changed_by (effect rule live assignment.now.value) self.old.map (key_of assignment.now)) }
-        ensures notes { OnOk result (self.new.notes ≡ self.old.notes
-            ++ (if is_bad_by rule assignment.now.value then note_on (key_of assignment.now) BadBoolean ∷ [] else [])) }
+        ensures map { OnOk result
+            (self.new.map ≡ changed_by (effect rule live assignment.now.value) self.old.map
+            (key_of assignment.now)) }
+        ensures notes { OnOk result
+            (self.new.notes
+            ≡ self.old.notes
+            ++ (if is_bad_by rule assignment.now.value then note_on
+            (key_of assignment.now) BadBoolean ∷ [] else [])) }
         ensures profile { OnOk result (self.new.profile ≡ self.old.profile) }
     {
         let is_empty = assignment.value.as_slice().is_empty();
@@ -193,8 +199,9 @@ impl Settings {
 
     // Appends the value of an assignment to those of its key.
     fn add(&mut self, alloc: Global, assignment: &Assignment) -> Result<(), AllocError>
-        ensures map { OnOk result (self.new.map
-            ≡ changed (λ values. values ++ assignment.now.value ∷ []) self.old.map (key_of assignment.now)) }
+        ensures map { OnOk result
+            (self.new.map ≡ changed (λ values. values ++ assignment.now.value ∷ []) self.old.map
+            (key_of assignment.now)) }
         ensures notes { OnOk result (self.new.notes ≡ self.old.notes) }
         ensures profile { OnOk result (self.new.profile ≡ self.old.profile) }
     {
@@ -209,8 +216,10 @@ impl Settings {
         assignment: &Assignment,
         live: bool,
     ) -> Result<(), AllocError>
-        ensures map { OnOk result (self.new.map
-            ≡ changed_by (effect KeyRule.Condition live assignment.now.value) self.old.map (key_of assignment.now)) }
+        ensures map { OnOk result
+            (self.new.map
+            ≡ changed_by (effect KeyRule.Condition live assignment.now.value) self.old.map
+            (key_of assignment.now)) }
         ensures notes { OnOk result (self.new.notes ≡ self.old.notes) }
         ensures profile { OnOk result (self.new.profile ≡ self.old.profile) }
     {
@@ -224,10 +233,15 @@ impl Settings {
 
     // Evaluates an assignment of a switch: a valid boolean replaces the one before, an invalid one is noted.
     fn switch(&mut self, alloc: Global, assignment: &Assignment) -> Result<(), AllocError>
-        ensures map { OnOk result (self.new.map
-            ≡ changed_by (effect KeyRule.Switch false assignment.now.value) self.old.map (key_of assignment.now)) }
-        ensures notes { OnOk result (self.new.notes ≡ self.old.notes
-            ++ (if is_bad_by KeyRule.Switch assignment.now.value then note_on (key_of assignment.now) BadBoolean ∷ [] else [])) }
+        ensures map { OnOk result
+            (self.new.map
+            ≡ changed_by (effect KeyRule.Switch false assignment.now.value) self.old.map
+            (key_of assignment.now)) }
+        ensures notes { OnOk result
+            (self.new.notes
+            ≡ self.old.notes
+            ++ (if is_bad_by KeyRule.Switch assignment.now.value then note_on
+            (key_of assignment.now) BadBoolean ∷ [] else [])) }
         ensures profile { OnOk result (self.new.profile ≡ self.old.profile) }
     {
         let key = SettingKey::of(assignment)?;

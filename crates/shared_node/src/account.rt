@@ -37,7 +37,8 @@ impl<N: NodeName> Model for Account<N> {
     ghost view = { λ a. record { takes = a.prefix; seats = length a.counts.items } };
 
     ghost invariant = { λ a. (a.counter ≡ counter_of a.prefix)
-        × ((s : ℕ) → s < length a.counts.items → slice_index a.counts.items s ≡ takes_of s a.prefix) };
+        × ((s : ℕ) → s < length a.counts.items
+        → slice_index a.counts.items s ≡ takes_of s a.prefix) };
 }
 
 impl<N: NodeName> Account<N> {
@@ -79,7 +80,8 @@ impl<N: NodeName> Account<N> {
 
     // Counts one take of this seat: the one that the published copy's history has more.
     pub(crate) fn add(&mut self, seat: usize, published_copy: &PublishedCopy)
-        requires published_copy { (published_copy.now.seen.book ≡ N.book) × (opening_of published_copy.now.seen.log ≡ N.opening) }
+        requires published_copy { (published_copy.now.seen.book ≡ N.book)
+            × (opening_of published_copy.now.seen.log ≡ N.opening) }
         requires seat { seat < self.old.seats }
         requires room { takes_in self.old.takes < 2 ^ 64 - 1 }
         requires taken { IsTakenAfter self.old.takes seat published_copy.now.seen.log }

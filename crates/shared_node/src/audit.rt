@@ -17,7 +17,8 @@ impl<N: NodeName> Keeper<N> {
         ensures takes { IfOk result (λ n. n ≡ takes_in self.now.accepted) }
         ensures sum { IfOk result (λ n. n ≡ sum_by (λ s. s.calls) seats.now.items) }
         ensures agree { IfOk result (λ _. AllAgree self.now.accepted seats.now.items) }
-        ensures cause { IfErr result (λ cause. AtCause self.now.given (length seats.now.items) cause) }
+        ensures cause { IfErr result
+            (λ cause. AtCause self.now.given (length seats.now.items) cause) }
     {
         let here = seats.len();
         if here < self.given {
@@ -40,9 +41,11 @@ impl<N: NodeName> Keeper<N> {
         seats: &Vec<Seat<N>>,
     ) -> Result<Replica, CloseCause>
         ensures agree { IfOk result (λ _. AllAgree self.new.shown seats.now.items) }
-        ensures sum { IfOk result (λ _. takes_in self.new.shown ≡ sum_by (λ s. s.calls) seats.now.items) }
+        ensures sum { IfOk result
+            (λ _. takes_in self.new.shown ≡ sum_by (λ s. s.calls) seats.now.items) }
         ensures replica { IfOk result (λ replica. replica ≡ replica_of self.new.shown) }
-        ensures cause { IfErr result (λ cause. AtCause self.old.given (length seats.now.items) cause) }
+        ensures cause { IfErr result
+            (λ cause. AtCause self.old.given (length seats.now.items) cause) }
         ensures accepted { self.new.accepted ≡ self.old.accepted }
         ensures given { self.new.given ≡ self.old.given }
         ensures shown { MatchResult result
@@ -63,7 +66,8 @@ fn takes_of_others<N: NodeName>(
     seats: &Vec<Seat<N>>,
 ) -> Result<u64, CloseCause>
     requires seats { account.now.seats ≡ N.seats }
-    ensures sum { IfOk result (λ n. n + sum_by (λ s. s.calls) seats.now.items ≡ takes_in account.now.takes) }
+    ensures sum { IfOk result
+        (λ n. n + sum_by (λ s. s.calls) seats.now.items ≡ takes_in account.now.takes) }
     ensures agree { IfOk result (λ _. AllAgree account.now.takes seats.now.items) }
     ensures cause { IfErr result IsDisagreement }
 {

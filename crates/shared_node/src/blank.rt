@@ -36,14 +36,19 @@ impl Model for Blank {
 
     ghost coded = { coded_blank };
 
-    ghost view = { λ b. record { book = b.seen.book; opening = opening_of b.seen.log; seats = length b.counts.items } };
+    ghost view = { λ b. record {
+      book = b.seen.book;
+      opening = opening_of b.seen.log;
+      seats = length b.counts.items;
+    } };
 
     ghost invariant = { λ b.
         (b.seen.log ≡ Opening (opening_of b.seen.log) ∷ [])
         × (b.head ≡ head_of b.seen.book)
         × ((s : ℕ) → s < length b.counts.items → slice_index b.counts.items s ≡ 0)
         × (b.writer.desk.shown.value.seen ≡ b.seen)
-        × (latest (λ p. p.seen) b.writer.desk.shown.value.seen (drop b.writer.behind b.writer.log.items)
+        × (latest (λ p. p.seen) b.writer.desk.shown.value.seen
+        (drop b.writer.behind b.writer.log.items)
         ≡ b.writer.desk.shown.value.seen)
         × (reader_view b.writer.desk.place
         ≡ reader_view_of b.writer.desk.shown.value.seen.book b.writer.desk.shown.value.seen.log) };
@@ -71,7 +76,8 @@ fn shown_pair<R: Wait>(
     requires seats { (0 < seats) × (seats ≤ 64) }
     requires opened { seen.now.log ≡ Opening replica.now ∷ [] }
     ensures shown { IfOk result (λ w. w.desk.shown.value.seen ≡ seen.now) }
-    ensures due { IfOk result (λ w. latest (λ p. p.seen) w.desk.shown.value.seen (drop w.behind w.log.items)
+    ensures due { IfOk result
+        (λ w. latest (λ p. p.seen) w.desk.shown.value.seen (drop w.behind w.log.items)
         ≡ w.desk.shown.value.seen) }
     ensures reader_view { IfOk result (λ w. view w.desk.place
         ≡ reader_view_of w.desk.shown.value.seen.book w.desk.shown.value.seen.log) }

@@ -30,9 +30,14 @@ impl<N: NodeName> Model for Keeper<N> {
 
     ghost coded = { coded_keeper };
 
-    ghost view = { λ k. record { accepted = k.account.takes; shown = k.post.shown; given = k.given } };
+    ghost view = { λ k. record {
+      accepted = k.account.takes;
+      shown = k.post.shown;
+      given = k.given;
+    } };
 
-    ghost invariant = { λ k. (k.head ≡ head_of N.book) × (k.post.due ≡ k.account.takes) × (k.account.seats ≡ N.seats)
+    ghost invariant = { λ k. (k.head ≡ head_of N.book) × (k.post.due ≡ k.account.takes)
+        × (k.account.seats ≡ N.seats)
         × (k.given ≤ N.seats) × (takes_in k.account.takes ≤ takes_in k.post.shown + 1) };
 }
 

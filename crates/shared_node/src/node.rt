@@ -149,7 +149,8 @@ impl<N: NodeName> Node<N> {
         seat: &mut Seat<N>,
         piece: Piece,
     ) -> Result<(u64, Told<N>), NodeFault<N>>
-        ensures taken { IfOk result (λ r. EndsChanging seat.old.seen r.1 (Absorbed seat.old.number piece) r.0) }
+        ensures taken { IfOk result
+            (λ r. EndsChanging seat.old.seen r.1 (Absorbed seat.old.number piece) r.0) }
         ensures token { IfOk result (λ r. IsLegal N.opening r.1 × (seat.new.seen ≡ r.1)) }
         ensures counted { IfOk result (λ _. CountsOneMore seat.old seat.new) }
         ensures fault { IfErr result (λ f. AtFault N.opening f seat.old seat.new) }

@@ -32,8 +32,8 @@ impl<N: NodeName> Model for Post<N> {
 
     ghost view = { λ p. record {
       shown = p.writer.desk.shown.value.seen.log;
-      due = (newest
-          (λ q. q.seen) p.writer.desk.shown.value.seen (drop p.writer.behind p.writer.log.items) p.pending).log;
+      due = (newest (λ q. q.seen) p.writer.desk.shown.value.seen
+          (drop p.writer.behind p.writer.log.items) p.pending).log;
     } };
 
     ghost invariant = { λ p.
@@ -44,7 +44,8 @@ impl<N: NodeName> Model for Post<N> {
         × (opening_of p.writer.desk.shown.value.seen.log ≡ N.opening)
         × (opening_of (newest (λ q. q.seen) p.writer.desk.shown.value.seen
         (drop p.writer.behind p.writer.log.items) p.pending).log ≡ N.opening)
-        × IsPrefix p.writer.desk.shown.value.seen.log (newest (λ q. q.seen) p.writer.desk.shown.value.seen
+        × IsPrefix p.writer.desk.shown.value.seen.log
+        (newest (λ q. q.seen) p.writer.desk.shown.value.seen
         (drop p.writer.behind p.writer.log.items) p.pending).log };
 }
 
@@ -96,11 +97,14 @@ pub(crate) fn publish<R: Wait>(writer: CopyWriter, rt: &R) -> (CopyWriter, Resul
     ensures values { MatchResult result.1
         (λ _. (result.0.desk.shown.value.seen
         ≡ latest (λ p. p.seen) writer.desk.shown.value.seen (drop writer.behind writer.log.items))
-        × (latest (λ p. p.seen) result.0.desk.shown.value.seen (drop result.0.behind result.0.log.items)
+        × (latest (λ p. p.seen) result.0.desk.shown.value.seen
+        (drop result.0.behind result.0.log.items)
         ≡ result.0.desk.shown.value.seen))
         (λ _. (result.0.desk.shown.value.seen ≡ writer.desk.shown.value.seen)
-        × (latest (λ p. p.seen) result.0.desk.shown.value.seen (drop result.0.behind result.0.log.items)
-        ≡ latest (λ p. p.seen) writer.desk.shown.value.seen (drop writer.behind writer.log.items))) }
+        × (latest (λ p. p.seen) result.0.desk.shown.value.seen
+        (drop result.0.behind result.0.log.items)
+        ≡ latest (λ p. p.seen) writer.desk.shown.value.seen
+        (drop writer.behind writer.log.items))) }
     ensures reader_view { MatchResult result.1
         (λ _. view result.0.desk.place
         ≡ reader_view_of result.0.desk.shown.value.seen.book result.0.desk.shown.value.seen.log)
@@ -134,8 +138,8 @@ impl<N: NodeName> Post<N> {
     // A publishing side with nothing to publish.
     pub(crate) fn new(writer: CopyWriter) -> Post<N>
         requires book { writer.desk.shown.value.seen.book ≡ N.book }
-        requires due { latest (λ p. p.seen) writer.desk.shown.value.seen (drop writer.behind writer.log.items)
-            ≡ writer.desk.shown.value.seen }
+        requires due { latest (λ p. p.seen) writer.desk.shown.value.seen
+            (drop writer.behind writer.log.items) ≡ writer.desk.shown.value.seen }
         requires opening { opening_of writer.desk.shown.value.seen.log ≡ N.opening }
         requires reader_view { view writer.desk.place
             ≡ reader_view_of writer.desk.shown.value.seen.book writer.desk.shown.value.seen.log }
@@ -201,7 +205,8 @@ impl<N: NodeName> Post<N> {
     // A reader that has seen what is published.
     pub(crate) fn reader(&mut self) -> Result<CopyReader, AllocError>
         ensures same { self.new ≡ self.old }
-        ensures reader_view { IfOk result (λ r. view r.place ≡ reader_view_of N.book self.old.shown) }
+        ensures reader_view { IfOk result
+            (λ r. view r.place ≡ reader_view_of N.book self.old.shown) }
     {
         let mut reader = self.writer.factory().reader()?;
         let note = self.writer.tell::<Same>();

@@ -39,7 +39,8 @@ impl<N: NodeName> Model for Seat<N> {
 
     ghost view = { λ s. record { seen = s.prefix; calls = s.calls; number = s.number } };
 
-    ghost invariant = { λ s. ((reader_view s.reader.place).known ≡ true) × (book_of (reader_view s.reader.place) ≡ N.book)
+    ghost invariant = { λ s. ((reader_view s.reader.place).known ≡ true)
+        × (book_of (reader_view s.reader.place) ≡ N.book)
         × (s.number < N.seats) };
 }
 
@@ -58,7 +59,8 @@ impl<N: NodeName> Model for View<N> {
 
     ghost view = { λ s. record { seen = s.prefix; calls = s.calls; number = s.number } };
 
-    ghost invariant = { λ s. ((reader_view s.reading.place).known ≡ true) × (book_of (reader_view s.reading.place) ≡ N.book)
+    ghost invariant = { λ s. ((reader_view s.reading.place).known ≡ true)
+        × (book_of (reader_view s.reading.place) ≡ N.book)
         × (s.reading.part.value.seen.log ≡ s.prefix) × (s.number < N.seats) };
 }
 

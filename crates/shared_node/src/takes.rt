@@ -60,7 +60,8 @@ impl<N: NodeName> Keeper<N> {
     fn accept(&mut self, seat: usize, published_copy: PublishedCopy)
         requires seat { seat < N.seats }
         requires flushed { self.old.shown ≡ self.old.accepted }
-        requires published_copy { (published_copy.seen.book ≡ N.book) × (opening_of published_copy.seen.log ≡ N.opening) }
+        requires published_copy { (published_copy.seen.book ≡ N.book)
+            × (opening_of published_copy.seen.log ≡ N.opening) }
         requires room { takes_in self.old.accepted < 2 ^ 64 - 1 }
         requires taken { IsTakenAfter self.old.accepted seat published_copy.seen.log }
         ensures given { self.new.given ≡ self.old.given }
@@ -130,8 +131,9 @@ impl<N: NodeName> Keeper<N> {
         ensures given { self.new.given ≡ self.old.given }
         ensures accepted { self.new.accepted ≡ self.old.accepted }
         ensures counted { CountsOneMore seat.old seat.new }
-        ensures shown { MatchOption result (seat.new.seen ≡ seat.old.seen) (λ token.
-            (token ≡ self.old.accepted) × (seat.new.seen ≡ token) × (self.new.shown ≡ token) × IsLegal N.opening token) }
+        ensures shown { MatchOption result (seat.new.seen ≡ seat.old.seen)
+            (λ token. (token ≡ self.old.accepted) × (seat.new.seen ≡ token)
+            × (self.new.shown ≡ token) × IsLegal N.opening token) }
     {
         seat.calls += 1;
         self.flush(rt).ok()?;
@@ -182,13 +184,15 @@ impl<N: NodeName> Keeper<N> {
         piece: Piece,
     ) -> Result<(u64, Told<N>), NodeFault<N>>
         ensures given { self.new.given ≡ self.old.given }
-        ensures taken { IfOk result (λ r. EndsChanging seat.old.seen r.1 (Absorbed seat.old.number piece) r.0) }
+        ensures taken { IfOk result
+            (λ r. EndsChanging seat.old.seen r.1 (Absorbed seat.old.number piece) r.0) }
         ensures token { IfOk result (λ r. IsLegal N.opening r.1 × (seat.new.seen ≡ r.1)) }
         ensures counted { IfOk result (λ _. CountsOneMore seat.old seat.new) }
         ensures shown { IfOk result (λ r. (self.new.shown ≡ r.1) × (self.new.accepted ≡ r.1)) }
         ensures fault { IfErr result (λ f. AtFault N.opening f seat.old seat.new) }
         ensures kind { IfErr result (λ f. IsPieceFault f) }
-        ensures accepted { IfErr result (λ f. AcceptsPiece f seat.old.number piece self.old.accepted self.new.accepted) }
+        ensures accepted { IfErr result
+            (λ f. AcceptsPiece f seat.old.number piece self.old.accepted self.new.accepted) }
         ensures early { IfErr result (λ f. IsEarly f → self.new ≡ self.old) }
     {
         self.may_take(seat)?;

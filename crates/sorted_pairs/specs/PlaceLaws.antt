@@ -61,15 +61,18 @@ module _ {K V : Type 0} (R : K → K → Ordering) (k : K) where
   below_append (x ∷ xs) ys b c = (b.0, below_append xs ys b.1 c)
 
 -- pairs below a key are below every greater key
-pub below_further : {K V : Type 0} (R : K → K → Ordering) (o : IsTotalOrder R) (k m : K) → R k m ≡ Less → (xs : List (K × V)) → AreBelow R k xs → AreBelow R m xs
+pub below_further : {K V : Type 0} (R : K → K → Ordering) (o : IsTotalOrder R) (k m : K) → R k m ≡ Less
+    → (xs : List (K × V)) → AreBelow R k xs → AreBelow R m xs
 below_further R o k m h [] b = tt
 below_further R o k m h (x ∷ xs) b = (o.trans x.0 k m b.0 h, below_further R o k m h xs b.1)
 
 -- a key above the first pair is above the list of that pair alone
-pub below_first : {K V : Type 0} (R : K → K → Ordering) (k : K) (xs : List (K × V)) (d : K × V) → R (get_or xs 0 d).0 k ≡ Less → AreBelow R k (take 1 xs)
+pub below_first : {K V : Type 0} (R : K → K → Ordering) (k : K) (xs : List (K × V)) (d : K × V)
+    → R (get_or xs 0 d).0 k ≡ Less → AreBelow R k (take 1 xs)
 below_first R k [] d h = tt
 below_first R k (x ∷ xs) d h = (h, tt)
 
-pub not_below_first : {K V : Type 0} (R : K → K → Ordering) (k : K) (xs : List (K × V)) (d : K × V) → is_lt (R (get_or xs 0 d).0 k) ≡ false → IsNotBelow R k xs
+pub not_below_first : {K V : Type 0} (R : K → K → Ordering) (k : K) (xs : List (K × V)) (d : K × V)
+    → is_lt (R (get_or xs 0 d).0 k) ≡ false → IsNotBelow R k xs
 not_below_first R k [] d h = tt
 not_below_first R k (x ∷ xs) d h = λ e. let f = ap is_lt e in cc (f, h)

@@ -16,7 +16,8 @@ pub fn pass_below<K: Ord + Drop, V: Drop>(
     ensures pairs { passed.new.items ++ rest.new.items ≡ passed.old.items ++ rest.old.items }
     ensures below { AreBelow K.cmp key.now passed.new.items }
     ensures next { IsNotBelow K.cmp key.now rest.new.items }
-    ensures len { vec_len passed.new + deque_len rest.new ≡ vec_len passed.old + deque_len rest.old }
+    ensures len { vec_len passed.new + deque_len rest.new
+        ≡ vec_len passed.old + deque_len rest.old }
     ensures capacity { vec_capacity passed.old ≤ vec_capacity passed.new }
 {
     while let Some(pair) = rest.front() {
@@ -45,7 +46,8 @@ fn pass_one<K: Drop, V: Drop>(passed: &mut Vec<(K, V)>, rest: &mut VecDeque<(K, 
     ensures pairs { passed.new.items ++ rest.new.items ≡ passed.old.items ++ rest.old.items }
     ensures first { passed.new.items ≡ passed.old.items ++ take 1 rest.old.items }
     ensures left { rest.new.items ≡ drop 1 rest.old.items }
-    ensures len { vec_len passed.new + deque_len rest.new ≡ vec_len passed.old + deque_len rest.old }
+    ensures len { vec_len passed.new + deque_len rest.new
+        ≡ vec_len passed.old + deque_len rest.old }
     ensures shorter { deque_len rest.new + 1 ≡ deque_len rest.old }
     ensures capacity { vec_capacity passed.old ≤ vec_capacity passed.new }
 {

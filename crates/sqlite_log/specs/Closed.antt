@@ -17,7 +17,8 @@ use Rattle.sqlite_log.specs.States.{heads_in, heads_of, held_in, peers_in, peers
 
 -- The database file holds a log with this head, these rows and these peers, with the file beside it or without, as the two
 -- read now and after a crash.
-pub record HoldsLog {D : Type 0} (g : Ghosts D) (files : Files D) (head : LogHead) (rows : List LogRow) (peers : List LogPeer) : Type 0 where
+pub record HoldsLog {D : Type 0} (g : Ghosts D) (files : Files D) (head : LogHead) (rows : List LogRow)
+    (peers : List LogPeer) : Type 0 where
   pub trees : Trees
   pub seen : HoldsAlone (image_of g files) trees
   pub left : (image : Image) → outcomes g files.log files.db image → HoldsAlone image trees

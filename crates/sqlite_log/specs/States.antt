@@ -82,8 +82,11 @@ abbrev pub MayLeave : State → List LogRow → Type 0
 MayLeave s left = (trees : Trees) × s.may_leave trees × (left ≡ held_in trees)
 
 -- while a log stands, a crash leaves its rows
-pub log_lasts : {S : Type 0} (g : Ghosts S) (c : Held S) → ((s : S) (db : Trees) → IsTrue (g.view s).is_open → g.recovers s db → db ≡ (g.view s).committed) → (head : LogHead)
-    → Stands head (state g c) → HasCleanDisk (state g c) → (left : List LogRow) → MayLeave (state g c) left → IsPermutation (held_in (state g c).committed.trees) left
+pub log_lasts : {S : Type 0} (g : Ghosts S) (c : Held S)
+    → ((s : S) (db : Trees) → IsTrue (g.view s).is_open → g.recovers s db → db ≡ (g.view s).committed)
+    → (head : LogHead)
+    → Stands head (state g c) → HasCleanDisk (state g c) → (left : List LogRow) → MayLeave (state g c) left
+    → IsPermutation (held_in (state g c).committed.trees) left
 log_lasts g c settled head stands clean left may =
     let same : may.0 ≡ (state g c).committed.trees = settled c.store may.0 (stands clean).0.is_open may.1 in
     subst (IsPermutation (held_in (state g c).committed.trees)) (sym (may.2 ∙ ap held_in same)) (IsPermutation-refl (held_in (state g c).committed.trees))

@@ -21,11 +21,14 @@ fn insert_cells<'a, S: Alter>(
     content: (u32, &'a [u8]),
     time: u32,
 ) -> Result<usize, Error>
-    requires inside { HasCleanDisk (state S.Store tx.old.conn.now) → IsInside (state S.Store tx.old.conn.now) }
+    requires inside { HasCleanDisk (state S.Store tx.old.conn.now)
+        → IsInside (state S.Store tx.old.conn.now) }
     requires counter { version.counter < 2 ^ 63 }
     ensures same_reference { tx.new.conn.ghost_name ≡ tx.old.conn.ghost_name }
-    ensures inside { HasCleanDisk (state S.Store tx.new.conn.now) → OnOk result (IsInside (state S.Store tx.new.conn.now)) }
-    ensures added { HasCleanDisk (state S.Store tx.new.conn.now) → OnOk result (Grows (state S.Store tx.old.conn.now).now.trees
+    ensures inside { HasCleanDisk (state S.Store tx.new.conn.now)
+        → OnOk result (IsInside (state S.Store tx.new.conn.now)) }
+    ensures added { HasCleanDisk (state S.Store tx.new.conn.now)
+        → OnOk result (Grows (state S.Store tx.old.conn.now).now.trees
         (state S.Store tx.new.conn.now).now.trees (record {
           place = place.now;
           counter = version.counter;
@@ -34,8 +37,10 @@ fn insert_cells<'a, S: Alter>(
           content = content.entry.1.now;
           time = time;
         } ∷ [])) }
-    ensures kept { HasCleanDisk (state S.Store tx.new.conn.now) → KeepsCommit (state S.Store tx.old.conn.now) (state S.Store tx.new.conn.now) }
-    ensures survives { Survives (state S.Store tx.old.conn.now) (state S.Store tx.new.conn.now) (λ _. ⊥) }
+    ensures kept { HasCleanDisk (state S.Store tx.new.conn.now)
+        → KeepsCommit (state S.Store tx.old.conn.now) (state S.Store tx.new.conn.now) }
+    ensures survives { Survives (state S.Store tx.old.conn.now) (state S.Store tx.new.conn.now)
+        (λ _. ⊥) }
 {
     let (kind, bytes) = content;
     tx.execute(
@@ -58,14 +63,20 @@ fn add_row<S: Alter>(
     edit: &Edit,
     time: u32,
 ) -> Result<usize, Error>
-    requires inside { HasCleanDisk (state S.Store tx.old.conn.now) → IsInside (state S.Store tx.old.conn.now) }
+    requires inside { HasCleanDisk (state S.Store tx.old.conn.now)
+        → IsInside (state S.Store tx.old.conn.now) }
     requires counter { edit.now.version.counter < 2 ^ 63 }
     ensures same_reference { tx.new.conn.ghost_name ≡ tx.old.conn.ghost_name }
-    ensures inside { HasCleanDisk (state S.Store tx.new.conn.now) → OnOk result (IsInside (state S.Store tx.new.conn.now)) }
-    ensures added { HasCleanDisk (state S.Store tx.new.conn.now) → OnOk result (Grows (state S.Store tx.old.conn.now).now.trees
-        (state S.Store tx.new.conn.now).now.trees (cells_of time edit.now ∷ [])) }
-    ensures kept { HasCleanDisk (state S.Store tx.new.conn.now) → KeepsCommit (state S.Store tx.old.conn.now) (state S.Store tx.new.conn.now) }
-    ensures survives { Survives (state S.Store tx.old.conn.now) (state S.Store tx.new.conn.now) (λ _. ⊥) }
+    ensures inside { HasCleanDisk (state S.Store tx.new.conn.now)
+        → OnOk result (IsInside (state S.Store tx.new.conn.now)) }
+    ensures added { HasCleanDisk (state S.Store tx.new.conn.now)
+        → OnOk result
+        (Grows (state S.Store tx.old.conn.now).now.trees (state S.Store tx.new.conn.now).now.trees
+        (cells_of time edit.now ∷ [])) }
+    ensures kept { HasCleanDisk (state S.Store tx.new.conn.now)
+        → KeepsCommit (state S.Store tx.old.conn.now) (state S.Store tx.new.conn.now) }
+    ensures survives { Survives (state S.Store tx.old.conn.now) (state S.Store tx.new.conn.now)
+        (λ _. ⊥) }
 {
     let text = text_of(alloc, &edit.place)?;
     insert_cells(tx, &text, edit.version, kind_and_bytes(&edit.content), time)
@@ -78,14 +89,20 @@ fn add_rows<S: Alter>(
     edits: &[Edit],
     time: u32,
 ) -> Result<(), Error>
-    requires inside { HasCleanDisk (state S.Store tx.old.conn.now) → IsInside (state S.Store tx.old.conn.now) }
+    requires inside { HasCleanDisk (state S.Store tx.old.conn.now)
+        → IsInside (state S.Store tx.old.conn.now) }
     requires counters { high_among edits.now < 2 ^ 63 }
     ensures same_reference { tx.new.conn.ghost_name ≡ tx.old.conn.ghost_name }
-    ensures inside { HasCleanDisk (state S.Store tx.new.conn.now) → OnOk result (IsInside (state S.Store tx.new.conn.now)) }
-    ensures added { HasCleanDisk (state S.Store tx.new.conn.now) → OnOk result (Grows (state S.Store tx.old.conn.now).now.trees
-        (state S.Store tx.new.conn.now).now.trees (map (cells_of time) edits.now)) }
-    ensures kept { HasCleanDisk (state S.Store tx.new.conn.now) → KeepsCommit (state S.Store tx.old.conn.now) (state S.Store tx.new.conn.now) }
-    ensures survives { Survives (state S.Store tx.old.conn.now) (state S.Store tx.new.conn.now) (λ _. ⊥) }
+    ensures inside { HasCleanDisk (state S.Store tx.new.conn.now)
+        → OnOk result (IsInside (state S.Store tx.new.conn.now)) }
+    ensures added { HasCleanDisk (state S.Store tx.new.conn.now)
+        → OnOk result
+        (Grows (state S.Store tx.old.conn.now).now.trees (state S.Store tx.new.conn.now).now.trees
+        (map (cells_of time) edits.now)) }
+    ensures kept { HasCleanDisk (state S.Store tx.new.conn.now)
+        → KeepsCommit (state S.Store tx.old.conn.now) (state S.Store tx.new.conn.now) }
+    ensures survives { Survives (state S.Store tx.old.conn.now) (state S.Store tx.new.conn.now)
+        (λ _. ⊥) }
 {
     for edit in edits {
         add_row(alloc, tx, edit, time)?;
@@ -102,12 +119,16 @@ pub(crate) fn add_all<S: Alter>(
 ) -> Result<(), Error>
     requires log { HasCleanDisk (state S.Store conn.old) → IsLog (state S.Store conn.old) }
     requires counters { high_among edits.now < 2 ^ 63 }
-    ensures log { HasCleanDisk (state S.Store conn.new) → OnOk result (IsLog (state S.Store conn.new)) }
-    ensures added { HasCleanDisk (state S.Store conn.new) → OnOk result (Grows (state S.Store conn.old).committed.trees
-        (state S.Store conn.new).committed.trees (map (cells_of time) edits.now)) }
+    ensures log { HasCleanDisk (state S.Store conn.new)
+        → OnOk result (IsLog (state S.Store conn.new)) }
+    ensures added { HasCleanDisk (state S.Store conn.new)
+        → OnOk result
+        (Grows (state S.Store conn.old).committed.trees (state S.Store conn.new).committed.trees
+        (map (cells_of time) edits.now)) }
     ensures kept { OnErr result (StandsAs (state S.Store conn.old) (state S.Store conn.new)) }
     ensures crash { Survives (state S.Store conn.old) (state S.Store conn.new)
-        (λ trees. Grows (state S.Store conn.old).committed.trees trees (map (cells_of time) edits.now)) }
+        (λ trees. Grows (state S.Store conn.old).committed.trees trees
+        (map (cells_of time) edits.now)) }
 {
     if !conn.is_autocommit() {
         return Err(Error::SqliteFailure(ErrorCode::TransactionState));

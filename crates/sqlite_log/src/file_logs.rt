@@ -44,8 +44,10 @@ impl<D: Disk + Drop> FileLog<D> {
         requires opened { HasCleanDisk (file_state conn) → Opens (file_state conn) }
         ensures log { IfOk result (λ log. Stands log.inside.head (file_state log.inside.conn)) }
         ensures head { IfOk result (λ log. log.inside.head ≡ head) }
-        ensures empty { IfOk result (λ log. HasCleanDisk (file_state log.inside.conn) → held_in (file_state log.inside.conn).committed.trees ≡ []) }
-        ensures alone { IfOk result (λ log. HasCleanDisk (file_state log.inside.conn) → peers_in (file_state log.inside.conn).committed.trees ≡ []) }
+        ensures empty { IfOk result (λ log. HasCleanDisk (file_state log.inside.conn)
+            → held_in (file_state log.inside.conn).committed.trees ≡ []) }
+        ensures alone { IfOk result (λ log. HasCleanDisk (file_state log.inside.conn)
+            → peers_in (file_state log.inside.conn).committed.trees ≡ []) }
     {
         make_log(&mut conn, &head)?;
         Ok(FileLog {
@@ -60,8 +62,10 @@ impl<D: Disk + Drop> FileLog<D> {
     ) -> Result<FileLog<D>, LogFault>
         requires opened { HasCleanDisk (file_state conn) → Opens (file_state conn) }
         ensures log { IfOk result (λ log. Stands log.inside.head (file_state log.inside.conn)) }
-        ensures same { IfOk result (λ log. HasCleanDisk (file_state log.inside.conn) → (file_state log.inside.conn).committed.trees ≡ (file_state conn).committed.trees) }
-        ensures clean { IfOk result (λ log. HasCleanDisk (file_state log.inside.conn) → HasCleanDisk (file_state conn)) }
+        ensures same { IfOk result (λ log. HasCleanDisk (file_state log.inside.conn)
+            → (file_state log.inside.conn).committed.trees ≡ (file_state conn).committed.trees) }
+        ensures clean { IfOk result
+            (λ log. HasCleanDisk (file_state log.inside.conn) → HasCleanDisk (file_state conn)) }
     {
         let head = open_head(&mut conn)?;
         Ok(FileLog {
@@ -75,9 +79,13 @@ impl<D: Disk + Drop> FileLog<D> {
     /// Fails with what the disk refuses. Then the files hold what they held, and the next open finds that.
     pub fn close(self) -> Result<Files<D>, LogFault>
         requires running { Stands self.inside.head (file_state self.inside.conn) }
-        ensures alone { IfOk result (λ files. AreClean D.Disk files.log files.db →
-            HoldsLog D.Disk files self.inside.head (held_in (file_state self.inside.conn).committed.trees) (peers_in (file_state self.inside.conn).committed.trees)) }
-        ensures clean { IfOk result (λ files. AreClean D.Disk files.log files.db → HasCleanDisk (file_state self.inside.conn)) }
+        ensures alone { IfOk result
+            (λ files. AreClean D.Disk files.log files.db
+            → HoldsLog D.Disk files self.inside.head
+            (held_in (file_state self.inside.conn).committed.trees)
+            (peers_in (file_state self.inside.conn).committed.trees)) }
+        ensures clean { IfOk result (λ files. AreClean D.Disk files.log files.db
+            → HasCleanDisk (file_state self.inside.conn)) }
     {
         let FileLog { inside } = self;
         match inside.into_conn().close_files() {
@@ -92,7 +100,9 @@ impl<D: Disk + Drop> FileLog<D> {
     /// What an open finds is what a crash left: whatever a crash at this moment leaves of the files of a log, an open that
     /// finds these files finds rows and peers that a crash may leave. It touches no file.
     pub fn found_again<E: Disk + Drop>(self, later: &FileLog<E>) -> FileStore<D>
-        ensures found { IsClean (files.view result) → (left : Image) → (files.state result).may_leave left → FindsLog left later.now.inside.conn → IsLeft self.inside.conn later.now.inside.conn }
+        ensures found { IsClean (files.view result) → (left : Image)
+            → (files.state result).may_leave left → FindsLog left later.now.inside.conn
+            → IsLeft self.inside.conn later.now.inside.conn }
     {
         let FileLog { inside } = self;
         inside.into_conn().into_store()
@@ -120,7 +130,8 @@ impl<D: Disk + Drop> EditLog for FileLog<D> {
       is_step = files.IsStep;
       blamed = files.blamed;
       names = files.NamesFault;
-    }) log.inside.conn (λ it. settled_at it D.Disk.seen_may_stay) log.inside.head running honest left may };
+    }) log.inside.conn
+        (λ it. settled_at it D.Disk.seen_may_stay) log.inside.head running honest left may };
 
     fn head(&self) -> LogHead {
         self.inside.head

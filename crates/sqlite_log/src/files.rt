@@ -56,7 +56,8 @@ fn connect<S: Start>(
     start: S,
 ) -> Result<Connection<FileStore<FileFrom<S>>>, LogFault>
     ensures opened { IfOk result (λ c. HasCleanDisk (file_state c) → IsOpened c) }
-    ensures found { IfOk result (λ c. HasCleanDisk (file_state c) → FindsIn (image_at S.Start) (file_state c)) }
+    ensures found { IfOk result
+        (λ c. HasCleanDisk (file_state c) → FindsIn (image_at S.Start) (file_state c)) }
 {
     match Connection::open_from(rt, path, false, start) {
         Ok(conn) => Ok(conn),
@@ -72,7 +73,8 @@ pub fn open<S: Start>(
     start: S,
 ) -> Result<FileLog<FileFrom<S>>, LogFault>
     ensures log { IfOk result (λ log. Stands log.inside.head (file_state log.inside.conn)) }
-    ensures found { IfOk result (λ log. HasCleanDisk (file_state log.inside.conn) → FindsLog (image_at S.Start) log.inside.conn) }
+    ensures found { IfOk result (λ log. HasCleanDisk (file_state log.inside.conn)
+        → FindsLog (image_at S.Start) log.inside.conn) }
 {
     find_file(rt, path)?;
     let conn = connect(rt, path, start)?;
@@ -89,8 +91,10 @@ fn make_in<S: Start>(
 ) -> Result<FileLog<FileFrom<S>>, LogFault>
     ensures log { IfOk result (λ log. Stands log.inside.head (file_state log.inside.conn)) }
     ensures head { IfOk result (λ log. log.inside.head ≡ head) }
-    ensures empty { IfOk result (λ log. HasCleanDisk (file_state log.inside.conn) → held_in (file_state log.inside.conn).committed.trees ≡ []) }
-    ensures alone { IfOk result (λ log. HasCleanDisk (file_state log.inside.conn) → peers_in (file_state log.inside.conn).committed.trees ≡ []) }
+    ensures empty { IfOk result (λ log. HasCleanDisk (file_state log.inside.conn)
+        → held_in (file_state log.inside.conn).committed.trees ≡ []) }
+    ensures alone { IfOk result (λ log. HasCleanDisk (file_state log.inside.conn)
+        → peers_in (file_state log.inside.conn).committed.trees ≡ []) }
 {
     let conn = connect(rt, path, start)?;
     FileLog::make(rt.alloc(), conn, head)
@@ -107,8 +111,10 @@ pub fn create<S: Start>(
 ) -> Result<FileLog<FileFrom<S>>, LogFault>
     ensures log { IfOk result (λ log. Stands log.inside.head (file_state log.inside.conn)) }
     ensures head { IfOk result (λ log. log.inside.head ≡ head) }
-    ensures empty { IfOk result (λ log. HasCleanDisk (file_state log.inside.conn) → held_in (file_state log.inside.conn).committed.trees ≡ []) }
-    ensures alone { IfOk result (λ log. HasCleanDisk (file_state log.inside.conn) → peers_in (file_state log.inside.conn).committed.trees ≡ []) }
+    ensures empty { IfOk result (λ log. HasCleanDisk (file_state log.inside.conn)
+        → held_in (file_state log.inside.conn).committed.trees ≡ []) }
+    ensures alone { IfOk result (λ log. HasCleanDisk (file_state log.inside.conn)
+        → peers_in (file_state log.inside.conn).committed.trees ≡ []) }
 {
     make_file(rt, path)?;
     match make_in(rt, path, head, start) {

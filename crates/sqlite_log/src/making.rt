@@ -13,9 +13,12 @@ use sqlite::{Alter, Connection, Error};
 
 // Makes the table of edits in an empty database.
 fn make_edit_table<S: Alter>(conn: &mut Connection<S>) -> Result<usize, Error>
-    requires blank { HasCleanDisk (state S.Store conn.old) → HasSchema no_schema (state S.Store conn.old) }
-    ensures made { HasCleanDisk (state S.Store conn.new) → OnOk result (HasSchema edit_schema (state S.Store conn.new)) }
-    ensures empty { HasCleanDisk (state S.Store conn.new) → OnOk result (log_of (state S.Store conn.new) ≡ []) }
+    requires blank { HasCleanDisk (state S.Store conn.old)
+        → HasSchema no_schema (state S.Store conn.old) }
+    ensures made { HasCleanDisk (state S.Store conn.new)
+        → OnOk result (HasSchema edit_schema (state S.Store conn.new)) }
+    ensures empty { HasCleanDisk (state S.Store conn.new)
+        → OnOk result (log_of (state S.Store conn.new) ≡ []) }
     ensures clean { HasCleanDisk (state S.Store conn.new) → HasCleanDisk (state S.Store conn.old) }
 {
     conn.execute(
@@ -26,10 +29,14 @@ fn make_edit_table<S: Alter>(conn: &mut Connection<S>) -> Result<usize, Error>
 
 // Makes the table of the head beside that of the edits.
 fn make_meta_table<S: Alter>(conn: &mut Connection<S>) -> Result<usize, Error>
-    requires edits { HasCleanDisk (state S.Store conn.old) → HasSchema edit_schema (state S.Store conn.old) }
-    ensures made { HasCleanDisk (state S.Store conn.new) → OnOk result (HasSchema meta_schema (state S.Store conn.new)) }
-    ensures empty { HasCleanDisk (state S.Store conn.new) → OnOk result (heads_of (state S.Store conn.new) ≡ []) }
-    ensures edits { HasCleanDisk (state S.Store conn.new) → OnOk result (log_of (state S.Store conn.new) ≡ log_of (state S.Store conn.old)) }
+    requires edits { HasCleanDisk (state S.Store conn.old)
+        → HasSchema edit_schema (state S.Store conn.old) }
+    ensures made { HasCleanDisk (state S.Store conn.new)
+        → OnOk result (HasSchema meta_schema (state S.Store conn.new)) }
+    ensures empty { HasCleanDisk (state S.Store conn.new)
+        → OnOk result (heads_of (state S.Store conn.new) ≡ []) }
+    ensures edits { HasCleanDisk (state S.Store conn.new)
+        → OnOk result (log_of (state S.Store conn.new) ≡ log_of (state S.Store conn.old)) }
     ensures clean { HasCleanDisk (state S.Store conn.new) → HasCleanDisk (state S.Store conn.old) }
 {
     conn.execute(
@@ -40,11 +47,16 @@ fn make_meta_table<S: Alter>(conn: &mut Connection<S>) -> Result<usize, Error>
 
 // Makes the table of peers beside the other two.
 fn make_peer_table<S: Alter>(conn: &mut Connection<S>) -> Result<usize, Error>
-    requires both { HasCleanDisk (state S.Store conn.old) → HasSchema meta_schema (state S.Store conn.old) }
-    ensures made { HasCleanDisk (state S.Store conn.new) → OnOk result (IsLog (state S.Store conn.new)) }
-    ensures alone { HasCleanDisk (state S.Store conn.new) → OnOk result (peers_of (state S.Store conn.new) ≡ []) }
-    ensures heads { HasCleanDisk (state S.Store conn.new) → OnOk result (heads_of (state S.Store conn.new) ≡ heads_of (state S.Store conn.old)) }
-    ensures edits { HasCleanDisk (state S.Store conn.new) → OnOk result (log_of (state S.Store conn.new) ≡ log_of (state S.Store conn.old)) }
+    requires both { HasCleanDisk (state S.Store conn.old)
+        → HasSchema meta_schema (state S.Store conn.old) }
+    ensures made { HasCleanDisk (state S.Store conn.new)
+        → OnOk result (IsLog (state S.Store conn.new)) }
+    ensures alone { HasCleanDisk (state S.Store conn.new)
+        → OnOk result (peers_of (state S.Store conn.new) ≡ []) }
+    ensures heads { HasCleanDisk (state S.Store conn.new)
+        → OnOk result (heads_of (state S.Store conn.new) ≡ heads_of (state S.Store conn.old)) }
+    ensures edits { HasCleanDisk (state S.Store conn.new)
+        → OnOk result (log_of (state S.Store conn.new) ≡ log_of (state S.Store conn.old)) }
     ensures clean { HasCleanDisk (state S.Store conn.new) → HasCleanDisk (state S.Store conn.old) }
 {
     conn.execute(
@@ -56,11 +68,16 @@ fn make_peer_table<S: Alter>(conn: &mut Connection<S>) -> Result<usize, Error>
 // Adds the head to a log that has none.
 fn add_head<S: Alter>(conn: &mut Connection<S>, head: &LogHead) -> Result<usize, Error>
     requires log { HasCleanDisk (state S.Store conn.old) → IsLog (state S.Store conn.old) }
-    requires empty { HasCleanDisk (state S.Store conn.old) → heads_of (state S.Store conn.old) ≡ [] }
-    ensures log { HasCleanDisk (state S.Store conn.new) → OnOk result (IsLog (state S.Store conn.new)) }
-    ensures head { HasCleanDisk (state S.Store conn.new) → OnOk result (heads_of (state S.Store conn.new) ≡ head.now ∷ []) }
-    ensures peers { HasCleanDisk (state S.Store conn.new) → OnOk result (peers_of (state S.Store conn.new) ≡ peers_of (state S.Store conn.old)) }
-    ensures edits { HasCleanDisk (state S.Store conn.new) → OnOk result (log_of (state S.Store conn.new) ≡ log_of (state S.Store conn.old)) }
+    requires empty { HasCleanDisk (state S.Store conn.old)
+        → heads_of (state S.Store conn.old) ≡ [] }
+    ensures log { HasCleanDisk (state S.Store conn.new)
+        → OnOk result (IsLog (state S.Store conn.new)) }
+    ensures head { HasCleanDisk (state S.Store conn.new)
+        → OnOk result (heads_of (state S.Store conn.new) ≡ head.now ∷ []) }
+    ensures peers { HasCleanDisk (state S.Store conn.new)
+        → OnOk result (peers_of (state S.Store conn.new) ≡ peers_of (state S.Store conn.old)) }
+    ensures edits { HasCleanDisk (state S.Store conn.new)
+        → OnOk result (log_of (state S.Store conn.new) ≡ log_of (state S.Store conn.old)) }
     ensures clean { HasCleanDisk (state S.Store conn.new) → HasCleanDisk (state S.Store conn.old) }
 {
     conn.execute(
@@ -72,11 +89,16 @@ fn add_head<S: Alter>(conn: &mut Connection<S>, head: &LogHead) -> Result<usize,
 // Makes a log with this head, no edits and no peers in an empty database. A crash may leave part of it, which no open takes for a
 // log.
 fn make<S: Alter>(conn: &mut Connection<S>, head: &LogHead) -> Result<(), Error>
-    requires blank { HasCleanDisk (state S.Store conn.old) → HasSchema no_schema (state S.Store conn.old) }
-    ensures log { HasCleanDisk (state S.Store conn.new) → OnOk result (IsLog (state S.Store conn.new)) }
-    ensures head { HasCleanDisk (state S.Store conn.new) → OnOk result (heads_of (state S.Store conn.new) ≡ head.now ∷ []) }
-    ensures empty { HasCleanDisk (state S.Store conn.new) → OnOk result (log_of (state S.Store conn.new) ≡ []) }
-    ensures alone { HasCleanDisk (state S.Store conn.new) → OnOk result (peers_of (state S.Store conn.new) ≡ []) }
+    requires blank { HasCleanDisk (state S.Store conn.old)
+        → HasSchema no_schema (state S.Store conn.old) }
+    ensures log { HasCleanDisk (state S.Store conn.new)
+        → OnOk result (IsLog (state S.Store conn.new)) }
+    ensures head { HasCleanDisk (state S.Store conn.new)
+        → OnOk result (heads_of (state S.Store conn.new) ≡ head.now ∷ []) }
+    ensures empty { HasCleanDisk (state S.Store conn.new)
+        → OnOk result (log_of (state S.Store conn.new) ≡ []) }
+    ensures alone { HasCleanDisk (state S.Store conn.new)
+        → OnOk result (peers_of (state S.Store conn.new) ≡ []) }
 {
     make_edit_table(conn)?;
     make_meta_table(conn)?;
@@ -89,8 +111,10 @@ fn make<S: Alter>(conn: &mut Connection<S>, head: &LogHead) -> Result<(), Error>
 pub(crate) fn make_log<S: Alter>(conn: &mut Connection<S>, head: &LogHead) -> Result<(), LogFault>
     requires opened { HasCleanDisk (state S.Store conn.old) → Opens (state S.Store conn.old) }
     ensures log { OnOk result (Stands head.now (state S.Store conn.new)) }
-    ensures empty { HasCleanDisk (state S.Store conn.new) → OnOk result (held_in (state S.Store conn.new).committed.trees ≡ []) }
-    ensures alone { HasCleanDisk (state S.Store conn.new) → OnOk result (peers_in (state S.Store conn.new).committed.trees ≡ []) }
+    ensures empty { HasCleanDisk (state S.Store conn.new)
+        → OnOk result (held_in (state S.Store conn.new).committed.trees ≡ []) }
+    ensures alone { HasCleanDisk (state S.Store conn.new)
+        → OnOk result (peers_in (state S.Store conn.new).committed.trees ≡ []) }
 {
     if !is_blank(conn.schema()) {
         return Err(LogFault::Exists);

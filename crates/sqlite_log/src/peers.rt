@@ -13,13 +13,19 @@ use std::alloc::Global;
 
 // Adds a peer inside a transaction.
 fn insert_peer<S: Alter>(tx: &mut Transaction<'_, S>, peer: &LogPeer) -> Result<usize, Error>
-    requires inside { HasCleanDisk (state S.Store tx.old.conn.now) → IsInside (state S.Store tx.old.conn.now) }
+    requires inside { HasCleanDisk (state S.Store tx.old.conn.now)
+        → IsInside (state S.Store tx.old.conn.now) }
     ensures same_reference { tx.new.conn.ghost_name ≡ tx.old.conn.ghost_name }
-    ensures inside { HasCleanDisk (state S.Store tx.new.conn.now) → OnOk result (IsInside (state S.Store tx.new.conn.now)) }
-    ensures added { HasCleanDisk (state S.Store tx.new.conn.now) → OnOk result (Meets (state S.Store tx.old.conn.now).now.trees
-        (state S.Store tx.new.conn.now).now.trees (peer.now ∷ [])) }
-    ensures kept { HasCleanDisk (state S.Store tx.new.conn.now) → KeepsCommit (state S.Store tx.old.conn.now) (state S.Store tx.new.conn.now) }
-    ensures survives { Survives (state S.Store tx.old.conn.now) (state S.Store tx.new.conn.now) (λ _. ⊥) }
+    ensures inside { HasCleanDisk (state S.Store tx.new.conn.now)
+        → OnOk result (IsInside (state S.Store tx.new.conn.now)) }
+    ensures added { HasCleanDisk (state S.Store tx.new.conn.now)
+        → OnOk result
+        (Meets (state S.Store tx.old.conn.now).now.trees (state S.Store tx.new.conn.now).now.trees
+        (peer.now ∷ [])) }
+    ensures kept { HasCleanDisk (state S.Store tx.new.conn.now)
+        → KeepsCommit (state S.Store tx.old.conn.now) (state S.Store tx.new.conn.now) }
+    ensures survives { Survives (state S.Store tx.old.conn.now) (state S.Store tx.new.conn.now)
+        (λ _. ⊥) }
 {
     tx.execute(
         "INSERT INTO peer (mark, writer, seen) VALUES (?1, ?2, ?3)",
@@ -29,13 +35,19 @@ fn insert_peer<S: Alter>(tx: &mut Transaction<'_, S>, peer: &LogPeer) -> Result<
 
 // Adds peers inside a transaction.
 fn insert_peers<S: Alter>(tx: &mut Transaction<'_, S>, met: &[LogPeer]) -> Result<(), Error>
-    requires inside { HasCleanDisk (state S.Store tx.old.conn.now) → IsInside (state S.Store tx.old.conn.now) }
+    requires inside { HasCleanDisk (state S.Store tx.old.conn.now)
+        → IsInside (state S.Store tx.old.conn.now) }
     ensures same_reference { tx.new.conn.ghost_name ≡ tx.old.conn.ghost_name }
-    ensures inside { HasCleanDisk (state S.Store tx.new.conn.now) → OnOk result (IsInside (state S.Store tx.new.conn.now)) }
-    ensures added { HasCleanDisk (state S.Store tx.new.conn.now) → OnOk result (Meets (state S.Store tx.old.conn.now).now.trees
+    ensures inside { HasCleanDisk (state S.Store tx.new.conn.now)
+        → OnOk result (IsInside (state S.Store tx.new.conn.now)) }
+    ensures added { HasCleanDisk (state S.Store tx.new.conn.now)
+        → OnOk result
+        (Meets (state S.Store tx.old.conn.now).now.trees
         (state S.Store tx.new.conn.now).now.trees met.now) }
-    ensures kept { HasCleanDisk (state S.Store tx.new.conn.now) → KeepsCommit (state S.Store tx.old.conn.now) (state S.Store tx.new.conn.now) }
-    ensures survives { Survives (state S.Store tx.old.conn.now) (state S.Store tx.new.conn.now) (λ _. ⊥) }
+    ensures kept { HasCleanDisk (state S.Store tx.new.conn.now)
+        → KeepsCommit (state S.Store tx.old.conn.now) (state S.Store tx.new.conn.now) }
+    ensures survives { Survives (state S.Store tx.old.conn.now) (state S.Store tx.new.conn.now)
+        (λ _. ⊥) }
 {
     for peer in met {
         insert_peer(tx, peer)?;
@@ -46,8 +58,11 @@ fn insert_peers<S: Alter>(tx: &mut Transaction<'_, S>, met: &[LogPeer]) -> Resul
 // Adds peers, all of them or none, and commits them.
 pub(crate) fn add_peers<S: Alter>(conn: &mut Connection<S>, met: &[LogPeer]) -> Result<(), Error>
     requires log { HasCleanDisk (state S.Store conn.old) → IsLog (state S.Store conn.old) }
-    ensures log { HasCleanDisk (state S.Store conn.new) → OnOk result (IsLog (state S.Store conn.new)) }
-    ensures added { HasCleanDisk (state S.Store conn.new) → OnOk result (Meets (state S.Store conn.old).committed.trees
+    ensures log { HasCleanDisk (state S.Store conn.new)
+        → OnOk result (IsLog (state S.Store conn.new)) }
+    ensures added { HasCleanDisk (state S.Store conn.new)
+        → OnOk result
+        (Meets (state S.Store conn.old).committed.trees
         (state S.Store conn.new).committed.trees met.now) }
     ensures kept { OnErr result (StandsAs (state S.Store conn.old) (state S.Store conn.new)) }
     ensures crash { Survives (state S.Store conn.old) (state S.Store conn.new)
@@ -64,15 +79,20 @@ pub(crate) fn add_peers<S: Alter>(conn: &mut Connection<S>, met: &[LogPeer]) -> 
 // The rows of the table of peers, in some order.
 fn all_peers<S: Alter>(conn: &mut Connection<S>) -> Result<Vec<Row>, Error>
     requires log { HasCleanDisk (state S.Store conn.old) → IsLog (state S.Store conn.old) }
-    ensures shown { HasCleanDisk (state S.Store conn.new) → IfOk result (λ rows. IsPermutation (peers_of (state S.Store conn.old)) (map peer_shown rows.items)) }
-    ensures same { HasCleanDisk (state S.Store conn.new) → OnOk result (IsUnchanged (state S.Store conn.old) (state S.Store conn.new)) }
+    ensures shown { HasCleanDisk (state S.Store conn.new)
+        → IfOk result
+        (λ rows. IsPermutation (peers_of (state S.Store conn.old)) (map peer_shown rows.items)) }
+    ensures same { HasCleanDisk (state S.Store conn.new)
+        → OnOk result (IsUnchanged (state S.Store conn.old) (state S.Store conn.new)) }
     ensures crash { Survives (state S.Store conn.old) (state S.Store conn.new) (λ _. ⊥) }
 {
     conn.query_all("SELECT mark, writer, seen FROM peer", &[])
 }
 
 fn cells_of_peer(row: &Row) -> Result<(Vec<u8>, u32, u32), Error>
-    ensures peer { IfOk result (λ cells. record { mark = cells.0.items; writer = cells.1; seen = cells.2 } ≡ peer_shown row.now) }
+    ensures peer { IfOk result
+        (λ cells. record { mark = cells.0.items; writer = cells.1; seen = cells.2 }
+        ≡ peer_shown row.now) }
 {
     Ok((row.get(0)?, row.get(1)?, row.get(2)?))
 }
@@ -109,8 +129,10 @@ pub(crate) fn read_peers<S: Alter>(
     conn: &mut Connection<S>,
 ) -> Result<Vec<LogPeer>, LogFault>
     requires log { HasCleanDisk (state S.Store conn.old) → IsLog (state S.Store conn.old) }
-    ensures peers { HasCleanDisk (state S.Store conn.new) → IfOk result (λ peers. IsPermutation (peers_of (state S.Store conn.old)) peers.items) }
-    ensures same { HasCleanDisk (state S.Store conn.new) → OnOk result (IsUnchanged (state S.Store conn.old) (state S.Store conn.new)) }
+    ensures peers { HasCleanDisk (state S.Store conn.new)
+        → IfOk result (λ peers. IsPermutation (peers_of (state S.Store conn.old)) peers.items) }
+    ensures same { HasCleanDisk (state S.Store conn.new)
+        → OnOk result (IsUnchanged (state S.Store conn.old) (state S.Store conn.new)) }
     ensures crash { Survives (state S.Store conn.old) (state S.Store conn.new) (λ _. ⊥) }
 {
     match all_peers(conn) {

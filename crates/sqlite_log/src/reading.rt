@@ -30,8 +30,11 @@ pub(crate) struct EditCells<'a> {
 // The rows of the table of edits, in some order.
 fn all_edits<S: Alter>(conn: &mut Connection<S>) -> Result<Vec<Row>, Error>
     requires log { HasCleanDisk (state S.Store conn.old) → IsLog (state S.Store conn.old) }
-    ensures shown { HasCleanDisk (state S.Store conn.new) → IfOk result (λ rows. IsPermutation (log_of (state S.Store conn.old)) (map cells_shown rows.items)) }
-    ensures same { HasCleanDisk (state S.Store conn.new) → OnOk result (IsUnchanged (state S.Store conn.old) (state S.Store conn.new)) }
+    ensures shown { HasCleanDisk (state S.Store conn.new)
+        → IfOk result
+        (λ rows. IsPermutation (log_of (state S.Store conn.old)) (map cells_shown rows.items)) }
+    ensures same { HasCleanDisk (state S.Store conn.new)
+        → OnOk result (IsUnchanged (state S.Store conn.old) (state S.Store conn.new)) }
     ensures crash { Survives (state S.Store conn.old) (state S.Store conn.new) (λ _. ⊥) }
 {
     conn.query_all(
@@ -43,8 +46,11 @@ fn all_edits<S: Alter>(conn: &mut Connection<S>) -> Result<Vec<Row>, Error>
 // The rows of the table of heads.
 fn all_heads<S: Alter>(conn: &mut Connection<S>) -> Result<Vec<Row>, Error>
     requires log { HasCleanDisk (state S.Store conn.old) → IsLog (state S.Store conn.old) }
-    ensures shown { HasCleanDisk (state S.Store conn.new) → IfOk result (λ rows. IsPermutation (heads_of (state S.Store conn.old)) (map head_shown rows.items)) }
-    ensures same { HasCleanDisk (state S.Store conn.new) → OnOk result (IsUnchanged (state S.Store conn.old) (state S.Store conn.new)) }
+    ensures shown { HasCleanDisk (state S.Store conn.new)
+        → IfOk result
+        (λ rows. IsPermutation (heads_of (state S.Store conn.old)) (map head_shown rows.items)) }
+    ensures same { HasCleanDisk (state S.Store conn.new)
+        → OnOk result (IsUnchanged (state S.Store conn.old) (state S.Store conn.new)) }
     ensures crash { Survives (state S.Store conn.old) (state S.Store conn.new) (λ _. ⊥) }
 {
     conn.query_all("SELECT format, writer, mark FROM meta", &[])
@@ -108,7 +114,8 @@ fn read_row(alloc: Global, row: &Row) -> Result<LogRow, LogFault>
 }
 
 fn read_rows(alloc: Global, rows: &[Row]) -> Result<Vec<LogRow>, LogFault>
-    ensures rows { IfOk result (λ read. map (λ r. row_in (cells_shown r)) rows.now ≡ map Some read.items) }
+    ensures rows { IfOk result
+        (λ read. map (λ r. row_in (cells_shown r)) rows.now ≡ map Some read.items) }
 {
     let mut read = Vec::new(alloc);
     for row in rows {
@@ -125,8 +132,11 @@ pub(crate) fn read_all<S: Alter>(
     conn: &mut Connection<S>,
 ) -> Result<Vec<LogRow>, LogFault>
     requires log { HasCleanDisk (state S.Store conn.old) → IsLog (state S.Store conn.old) }
-    ensures rows { HasCleanDisk (state S.Store conn.new) → IfOk result (λ rows. IsPermutation (held_in (state S.Store conn.old).committed.trees) rows.items) }
-    ensures same { HasCleanDisk (state S.Store conn.new) → OnOk result (IsUnchanged (state S.Store conn.old) (state S.Store conn.new)) }
+    ensures rows { HasCleanDisk (state S.Store conn.new)
+        → IfOk result
+        (λ rows. IsPermutation (held_in (state S.Store conn.old).committed.trees) rows.items) }
+    ensures same { HasCleanDisk (state S.Store conn.new)
+        → OnOk result (IsUnchanged (state S.Store conn.old) (state S.Store conn.new)) }
     ensures crash { Survives (state S.Store conn.old) (state S.Store conn.new) (λ _. ⊥) }
 {
     match all_edits(conn) {
@@ -136,7 +146,9 @@ pub(crate) fn read_all<S: Alter>(
 }
 
 fn head_of_row(row: &Row) -> Result<(u32, u32, Vec<u8>), Error>
-    ensures head { IfOk result (λ head. record { format = head.0; writer = head.1; mark = head.2.items } ≡ head_shown row.now) }
+    ensures head { IfOk result
+        (λ head. record { format = head.0; writer = head.1; mark = head.2.items }
+        ≡ head_shown row.now) }
 {
     Ok((row.get(0)?, row.get(1)?, row.get(2)?))
 }
@@ -162,8 +174,10 @@ fn read_head_row(row: &Row) -> Result<LogHead, LogFault>
 // The head of a log that has one. `NotANode` if it has none or several.
 pub(crate) fn read_head<S: Alter>(conn: &mut Connection<S>) -> Result<LogHead, LogFault>
     requires log { HasCleanDisk (state S.Store conn.old) → IsLog (state S.Store conn.old) }
-    ensures head { HasCleanDisk (state S.Store conn.new) → IfOk result (λ head. heads_of (state S.Store conn.old) ≡ head ∷ []) }
-    ensures same { HasCleanDisk (state S.Store conn.new) → OnOk result (IsUnchanged (state S.Store conn.old) (state S.Store conn.new)) }
+    ensures head { HasCleanDisk (state S.Store conn.new)
+        → IfOk result (λ head. heads_of (state S.Store conn.old) ≡ head ∷ []) }
+    ensures same { HasCleanDisk (state S.Store conn.new)
+        → OnOk result (IsUnchanged (state S.Store conn.old) (state S.Store conn.new)) }
     ensures crash { Survives (state S.Store conn.old) (state S.Store conn.new) (λ _. ⊥) }
 {
     let rows = match all_heads(conn) {
@@ -180,7 +194,9 @@ pub(crate) fn read_head<S: Alter>(conn: &mut Connection<S>) -> Result<LogHead, L
 pub(crate) fn open_head<S: Alter>(conn: &mut Connection<S>) -> Result<LogHead, LogFault>
     requires opened { HasCleanDisk (state S.Store conn.old) → Opens (state S.Store conn.old) }
     ensures head { IfOk result (λ head. Stands head (state S.Store conn.new)) }
-    ensures same { HasCleanDisk (state S.Store conn.new) → OnOk result ((state S.Store conn.new).committed.trees ≡ (state S.Store conn.old).committed.trees) }
+    ensures same { HasCleanDisk (state S.Store conn.new)
+        → OnOk result
+        ((state S.Store conn.new).committed.trees ≡ (state S.Store conn.old).committed.trees) }
     ensures clean { HasCleanDisk (state S.Store conn.new) → HasCleanDisk (state S.Store conn.old) }
 {
     if !is_log(conn.schema()) {

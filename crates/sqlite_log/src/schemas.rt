@@ -21,7 +21,8 @@ fn is_null(value: &Value) -> bool
 
 // Whether a column of a strict table has this name and kind, and no default.
 fn is_strict_column(column: &Column, name: &[u8], kind: Kind) -> bool
-    ensures column { IsTrue result → column.now ≡ record (full_column name.now kind) { not_null = column.now.not_null } }
+    ensures column { IsTrue result
+        → column.now ≡ record (full_column name.now kind) { not_null = column.now.not_null } }
 {
     column.name.as_slice() == name
         && column.kind == kind

@@ -25,19 +25,22 @@ module _ {N : Type 0} (order : N → N → Ordering) (stuck : N → Type 0) (bef
     one_blocker u v w = one_least order total exact (λ x. stuck x × before x w) u v
 
     -- the blocker of a node on a ring is on the ring
-    stays_along : (a : N) (xs : List N) (b z w : N) → IsBlockedAlong order stuck before a xs b → (z ≡ b) ⊎ IsAmong z xs → IsBlocker order stuck before w z → IsAmong w (a ∷ xs)
+    stays_along : (a : N) (xs : List N) (b z w : N) → IsBlockedAlong order stuck before a xs b → (z ≡ b) ⊎ IsAmong z xs
+        → IsBlocker order stuck before w z → IsAmong w (a ∷ xs)
     stays_along a [] b z w ch (inl e) l = let P : N → Type 0 = IsBlocker order stuck before w in inl (one_blocker a w b ch (subst P e l))
     stays_along a [] b z w ch (inr h) l = absurd h
     stays_along a (x ∷ xs) b z w ch (inl e) l = inr (stays_along x xs b z w ch.1 (inl e) l)
     stays_along a (x ∷ xs) b z w ch (inr (inl e)) l = let P : N → Type 0 = IsBlocker order stuck before w in inl (one_blocker a w x ch.0 (subst P (sym e) l))
     stays_along a (x ∷ xs) b z w ch (inr (inr h)) l = inr (stays_along x xs b z w ch.1 (inr h) l)
 
-    stays : (x : N) (xs : List N) (z w : N) → IsBlockedAlong order stuck before x xs x → IsAmong z (x ∷ xs) → IsBlocker order stuck before w z → IsAmong w (x ∷ xs)
+    stays : (x : N) (xs : List N) (z w : N) → IsBlockedAlong order stuck before x xs x → IsAmong z (x ∷ xs)
+        → IsBlocker order stuck before w z → IsAmong w (x ∷ xs)
     stays x xs z w ch (inl e) l = stays_along x xs x z w ch (inl (sym e)) l
     stays x xs z w ch (inr h) l = stays_along x xs x z w ch (inr h) l
 
     -- a chain that begins on a ring ends on it
-    chain_stays : (x : N) (xs : List N) (s : N → Type 0) → ((z : N) → s z → IsAmong z (x ∷ xs)) → IsBlockedAlong order stuck before x xs x → (k : ℕ) (w : N) → IsChain s successors k w → IsAmong w (x ∷ xs)
+    chain_stays : (x : N) (xs : List N) (s : N → Type 0) → ((z : N) → s z → IsAmong z (x ∷ xs))
+        → IsBlockedAlong order stuck before x xs x → (k : ℕ) (w : N) → IsChain s successors k w → IsAmong w (x ∷ xs)
     chain_stays x xs s on ch zero w c = on w c
     chain_stays x xs s on ch (suc k) w c = stays x xs c.0 w ch (chain_stays x xs s on ch k c.0 c.1.0) c.1.1
 
@@ -56,7 +59,8 @@ module _ {N : Type 0} (order : N → N → Ordering) (stuck : N → Type 0) (bef
     equal_or_less (suc j) (suc k) l = elim (equal_or_less j k (omega arith)) [ inl e ↦ inl (ap suc e) | inr m ↦ inr (omega arith) ]
 
     -- the longer of two chains from the least stuck node ends on each ring on which the shorter one ends
-    longer_on : (x : N) (xs : List N) → IsBlockedAlong order stuck before x xs x → (j : ℕ) (u : N) → IsChain (IsLeast order stuck) successors j u → IsAmong u (x ∷ xs)
+    longer_on : (x : N) (xs : List N) → IsBlockedAlong order stuck before x xs x → (j : ℕ) (u : N)
+        → IsChain (IsLeast order stuck) successors j u → IsAmong u (x ∷ xs)
         → (k : ℕ) → j ≤ k → (v : N) → IsChain (IsLeast order stuck) successors k v → IsAmong v (x ∷ xs)
     longer_on x xs ch zero u c on zero l v d = let P : N → Type 0 = λ w. IsAmong w (x ∷ xs) in subst P (one_end zero u v c d) on
     longer_on x xs ch (suc j) u c on zero l v d = absurd (omega arith)
@@ -66,7 +70,8 @@ module _ {N : Type 0} (order : N → N → Ordering) (stuck : N → Type 0) (bef
     ]
 
     -- following blockers from a node on a ring leads to its beginning
-    comes_home : (a : N) (xs : List N) (b z : N) → IsBlockedAlong order stuck before a xs b → IsAmong z xs → IsReached (λ w. w ≡ z) successors a
+    comes_home : (a : N) (xs : List N) (b z : N) → IsBlockedAlong order stuck before a xs b → IsAmong z xs
+        → IsReached (λ w. w ≡ z) successors a
     comes_home a [] b z ch h = absurd h
     comes_home a (x ∷ xs) b z ch (inl e) = record { steps = 1; chain = (x, (e, ch.0)) }
     comes_home a (x ∷ xs) b z ch (inr h) = let r = comes_home x xs b z ch.1 h in record { steps = suc r.steps; chain = (x, (r.chain, ch.0)) }
@@ -79,7 +84,8 @@ module _ {N : Type 0} (order : N → N → Ordering) (stuck : N → Type 0) (bef
     not_before_first x xs u r (inr a) h = less_itself x (total.trans x u x (r.least u a) h)
 
     -- where y is on the ring of x, they are equal
-    same_first_on : (x y : N) (xs ys : List N) → IsRing order stuck before x xs → IsRing order stuck before y ys → IsAmong y (x ∷ xs) → x ≡ y
+    same_first_on : (x y : N) (xs ys : List N) → IsRing order stuck before x xs → IsRing order stuck before y ys
+        → IsAmong y (x ∷ xs) → x ≡ y
     same_first_on x y xs ys p q (inl e) = e
     same_first_on x y xs ys p q (inr h) =
         let home = comes_home x xs x y p.round h in
@@ -161,7 +167,8 @@ module _ {N : Type 0} (order : N → N → Ordering) (stuck : N → Type 0) (bef
         ap (λ z. z ∷ xs) first ∙ ap (λ zs. y ∷ zs) rest
 
 -- a cycle of a set is a cycle of each set with the same members
-module _ {N : Type 0} (order : N → N → Ordering) (s t : N → Type 0) (before : N → N → Type 0) (to : (v : N) → s v → t v) (from : (v : N) → t v → s v) where
+module _ {N : Type 0} (order : N → N → Ordering) (s t : N → Type 0) (before : N → N → Type 0) (to : (v : N) → s v → t v)
+    (from : (v : N) → t v → s v) where
   blocker_along : (v u : N) → IsBlocker order s before v u → IsBlocker order t before v u
   blocker_along v u = least_along order (λ w. s w × before w u) (λ w. t w × before w u) (λ w h. (to w h.0, h.1)) (λ w h. (from w h.0, h.1)) v
 
@@ -169,7 +176,8 @@ module _ {N : Type 0} (order : N → N → Ordering) (s t : N → Type 0) (befor
   blocked_along a [] b h = blocker_along a b h
   blocked_along a (x ∷ xs) b h = (blocker_along a x h.0, blocked_along x xs b h.1)
 
-  chain_along : (k : ℕ) (u : N) → IsChain (IsLeast order s) (λ v w. IsBlocker order s before w v) k u → IsChain (IsLeast order t) (λ v w. IsBlocker order t before w v) k u
+  chain_along : (k : ℕ) (u : N) → IsChain (IsLeast order s) (λ v w. IsBlocker order s before w v) k u
+      → IsChain (IsLeast order t) (λ v w. IsBlocker order t before w v) k u
   chain_along zero u h = least_along order s t to from u h
   chain_along (suc k) u h = (h.0, (chain_along k h.0 h.1.0, blocker_along u h.0 h.1.1))
 

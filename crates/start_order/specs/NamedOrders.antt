@@ -12,7 +12,8 @@ pub record IsCutAs {N : Type 0} (name : ℕ → N) (list : List ℕ) (prefix : L
   pub prefix_is : map name before ≡ prefix
   pub at_is : name at ≡ u
 
-cut_as : {N : Type 0} (name : ℕ → N) (list : List ℕ) (prefix : List N) (u : N) (rest : List N) → map name list ≡ prefix ++ u ∷ rest → IsCutAs name list prefix u rest
+cut_as : {N : Type 0} (name : ℕ → N) (list : List ℕ) (prefix : List N) (u : N) (rest : List N)
+    → map name list ≡ prefix ++ u ∷ rest → IsCutAs name list prefix u rest
 cut_as name [] [] u rest e = cc
 cut_as name [] (v ∷ prefix) u rest e = cc
 cut_as name (i ∷ list) [] u rest e = record { before = []; at = i; after = list; cut = refl; prefix_is = refl; at_is = cc }
@@ -35,7 +36,8 @@ member_cut u [] h = absurd h
 member_cut u (x ∷ xs) (inl e) = ([], (xs, ap (λ y. y ∷ xs) e))
 member_cut u (x ∷ xs) (inr h) = let r = member_cut u xs h in (x ∷ r.0, (r.1.0, ap (λ l. x ∷ l) r.1.1))
 
-module _ {N : Type 0} (count : ℕ) (name : ℕ → N) (order : N → N → Ordering) (total : IsTotalOrder order) (n : IsIndexing count name order) where
+module _ {N : Type 0} (count : ℕ) (name : ℕ → N) (order : N → N → Ordering) (total : IsTotalOrder order)
+    (n : IsIndexing count name order) where
   -- the name of the least index is the least name
   pub least_named : (P : ℕ → Type 0) (Q : N → Type 0) → AreNames count name P Q → AreNames count name (IsLeast nat_cmp P) (IsLeast order Q)
   least_named P Q a = record { within = λ i l. a.within i l.member; named = to; indexed = from }
@@ -63,7 +65,8 @@ module _ {N : Type 0} (count : ℕ) (name : ℕ → N) (order : N → N → Orde
           )
 
   -- what is in two sets
-  pub both_named : (P P' : ℕ → Type 0) (Q Q' : N → Type 0) → AreNames count name P Q → AreNames count name P' Q' → AreNames count name (λ i. P i × P' i) (λ u. Q u × Q' u)
+  pub both_named : (P P' : ℕ → Type 0) (Q Q' : N → Type 0) → AreNames count name P Q → AreNames count name P' Q'
+      → AreNames count name (λ i. P i × P' i) (λ u. Q u × Q' u)
   both_named P P' Q Q' a b = record {
     within = λ i h. a.within i h.0;
     named = λ i h. (a.named i h.0, b.named i h.1);
@@ -119,10 +122,13 @@ module _ {N : Type 0} (count : ℕ) (name : ℕ → N) (order : N → N → Orde
         within : (i : ℕ) → IsAmong i list → i < count
         within i h = let m = member_cut i list h in c.within i (s.each_least m.0 i m.1.0 m.1.1).member.is_chosen
 
-        standing : (prefix : List ℕ) → ((i : ℕ) → IsAmong i prefix → i < count) → AreNames count name (CanStart chosen before (Listed prefix)) (CanStart chosen' before' (Listed (map name prefix)))
+        standing : (prefix : List ℕ) → ((i : ℕ) → IsAmong i prefix → i < count)
+            → AreNames count name (CanStart chosen before (Listed prefix))
+            (CanStart chosen' before' (Listed (map name prefix)))
         standing prefix h = can_start_named (Listed prefix) (Listed (map name prefix)) (listed_names count name prefix h)
 
-        each : (prefix : List N) (u : N) (rest : List N) → map name list ≡ prefix ++ u ∷ rest → IsLeast order (CanStart chosen' before' (Listed prefix)) u
+        each : (prefix : List N) (u : N) (rest : List N) → map name list ≡ prefix ++ u ∷ rest
+            → IsLeast order (CanStart chosen' before' (Listed prefix)) u
         each prefix u rest e =
             let r = cut_as name list prefix u rest e in
             let early : (i : ℕ) → IsAmong i r.before → i < count = λ i h. within i (let Q : List ℕ → Type 0 = λ l. IsAmong i l in subst Q (sym r.cut) (IsAmong-append_left i r.before (r.at ∷ r.after) h)) in
@@ -174,7 +180,8 @@ module _ {N : Type 0} (count : ℕ) (name : ℕ → N) (order : N → N → Orde
   -- ---- cycles
   module _ (stuck : ℕ → Type 0) (before : ℕ → ℕ → Type 0) (stuck' : N → Type 0) (before' : N → N → Type 0)
       (s : AreNames count name stuck stuck') (b : AreNamedSuccessors count name (λ u v. before v u) (λ u v. before' v u)) where
-    blockers_named : (u : ℕ) → u < count → AreNames count name (λ v. IsBlocker nat_cmp stuck before v u) (λ v. IsBlocker order stuck' before' v (name u))
+    blockers_named : (u : ℕ) → u < count
+        → AreNames count name (λ v. IsBlocker nat_cmp stuck before v u) (λ v. IsBlocker order stuck' before' v (name u))
     blockers_named u l =
         least_named (λ w. stuck w × before w u) (λ w. stuck' w × before' w (name u))
         (both_named stuck (λ w. before w u) stuck' (λ w. before' w (name u)) s (b u l))
@@ -183,7 +190,8 @@ module _ {N : Type 0} (count : ℕ) (name : ℕ → N) (order : N → N → Orde
     first_stuck a [] z h = h.member.0
     first_stuck a (x ∷ xs) z h = h.0.member.0
 
-    along_named : (a : ℕ) (xs : List ℕ) (z : ℕ) → z < count → IsBlockedAlong nat_cmp stuck before a xs z → IsBlockedAlong order stuck' before' (name a) (map name xs) (name z)
+    along_named : (a : ℕ) (xs : List ℕ) (z : ℕ) → z < count → IsBlockedAlong nat_cmp stuck before a xs z
+        → IsBlockedAlong order stuck' before' (name a) (map name xs) (name z)
     along_named a [] z l h = (blockers_named z l).named a h
     along_named a (x ∷ xs) z l h = ((blockers_named x (s.within x (first_stuck x xs z h.1))).named a h.0, along_named x xs z l h.1)
 
@@ -209,7 +217,8 @@ module _ {N : Type 0} (count : ℕ) (name : ℕ → N) (order : N → N → Orde
           along = (o.1.0, r.along);
         }
 
-    met_named : AreNames count name (IsReached (IsLeast nat_cmp stuck) (λ u v. IsBlocker nat_cmp stuck before v u)) (IsReached (IsLeast order stuck') (λ u v. IsBlocker order stuck' before' v u))
+    met_named : AreNames count name (IsReached (IsLeast nat_cmp stuck) (λ u v. IsBlocker nat_cmp stuck before v u))
+        (IsReached (IsLeast order stuck') (λ u v. IsBlocker order stuck' before' v u))
     met_named =
         reached_named count name (IsLeast nat_cmp stuck) (IsLeast order stuck') (λ u v. IsBlocker nat_cmp stuck before v u) (λ u v. IsBlocker order stuck' before' v u)
         (least_named stuck stuck' s) blockers_named
@@ -234,7 +243,8 @@ module _ {N : Type 0} (count : ℕ) (name : ℕ → N) (order : N → N → Orde
         }
 
     -- and a cycle of names is that of a cycle of indices
-    pub cycle_indexed : (names : List N) → IsCycle order stuck' before' names → (list : List ℕ) × (IsCycle nat_cmp stuck before list × (map name list ≡ names))
+    pub cycle_indexed : (names : List N) → IsCycle order stuck' before' names
+        → (list : List ℕ) × (IsCycle nat_cmp stuck before list × (map name list ≡ names))
     cycle_indexed [] h = absurd h
     cycle_indexed (u ∷ us) h =
         let m = met_named.indexed u h.met in

@@ -17,11 +17,13 @@ module _ {N : Type 0} (order : N → N → Ordering) (total : IsTotalOrder order
   one_least set u v p q = same_unless_less u v (q.least u p.member) (p.least v q.member)
 
 -- the least member is the same for sets with the same members
-pub least_along : {N : Type 0} (order : N → N → Ordering) (s t : N → Type 0) → ((v : N) → s v → t v) → ((v : N) → t v → s v) → (u : N) → IsLeast order s u → IsLeast order t u
+pub least_along : {N : Type 0} (order : N → N → Ordering) (s t : N → Type 0) → ((v : N) → s v → t v)
+    → ((v : N) → t v → s v) → (u : N) → IsLeast order s u → IsLeast order t u
 least_along order s t to from u l = record { member = to u l.member; least = λ v m. l.least v (from v m) }
 
 module _ {N : Type 0} (chosen : N → Type 0) (before : N → N → Type 0) where
-  pub can_start_along : (s t : N → Type 0) → ((v : N) → s v → t v) → ((v : N) → t v → s v) → (u : N) → CanStart chosen before s u → CanStart chosen before t u
+  pub can_start_along : (s t : N → Type 0) → ((v : N) → s v → t v) → ((v : N) → t v → s v) → (u : N)
+      → CanStart chosen before s u → CanStart chosen before t u
   can_start_along s t to from u f = record { is_chosen = f.is_chosen; waiting = λ m. f.waiting (from u m); ready = λ v c b. to v (f.ready v c b) }
 
   pub stuck_chosen : (u : N) → IsStuck chosen before u → chosen u
@@ -30,7 +32,8 @@ module _ {N : Type 0} (chosen : N → Type 0) (before : N → N → Type 0) wher
   module _ (order : N → N → Ordering) where
     -- ---- no member of a knot is in a start list
     module _ (list knot : List N) (p : IsStartList order chosen before list) (k : IsKnot chosen before knot) where
-      knot_out : (prefix rest : List N) → list ≡ prefix ++ rest → ((u : N) → IsAmong u knot → ¬ IsAmong u prefix) → (u : N) → IsAmong u knot → ¬ IsAmong u list
+      knot_out : (prefix rest : List N) → list ≡ prefix ++ rest → ((u : N) → IsAmong u knot → ¬ IsAmong u prefix)
+          → (u : N) → IsAmong u knot → ¬ IsAmong u list
       knot_out prefix [] e out u m h = out u m (let P : List N → Type 0 = IsAmong u in subst P (e ∙ append-nil prefix) h)
       knot_out prefix (x ∷ rest) e out w o a = knot_out (prefix ++ x ∷ []) rest (e ∙ sym (append_assoc prefix (x ∷ []) rest)) more w o a
         where
@@ -52,8 +55,10 @@ module _ {N : Type 0} (chosen : N → Type 0) (before : N → N → Type 0) wher
     stuck_out list p u s = knot_out list s.knot p s.tied [] list refl (λ v m h. h) u s.member
 
     -- ---- there is one start list
-    module _ (total : IsTotalOrder order) (exact : IsAntisymmetric order) (l m : List N) (p : IsStartList order chosen before l) (q : IsStartList order chosen before m) where
-      ends : (a b : List N) → IsStartList order chosen before a → IsStartList order chosen before b → (prefix : List N) (y : N) (ys : List N) → a ≡ prefix ++ [] → ¬ (b ≡ prefix ++ y ∷ ys)
+    module _ (total : IsTotalOrder order) (exact : IsAntisymmetric order) (l m : List N)
+        (p : IsStartList order chosen before l) (q : IsStartList order chosen before m) where
+      ends : (a b : List N) → IsStartList order chosen before a → IsStartList order chosen before b
+          → (prefix : List N) (y : N) (ys : List N) → a ≡ prefix ++ [] → ¬ (b ≡ prefix ++ y ∷ ys)
       ends a b s t prefix y ys e f =
           let P : List N → Type 0 = λ k. CanStart chosen before (Listed k) y in
           s.whole y (subst P (sym (e ∙ append-nil prefix)) (t.each_least prefix y ys f).member)

@@ -33,8 +33,9 @@ pub(crate) fn counts_of(
     requires bits { length standing.now ≡ length chosen.now }
     requires adjacency { AllBelow (length chosen.now) before.now }
     ensures units { IfOk result (λ counts. length counts.items ≡ length chosen.now) }
-    ensures counts { IfOk result (λ counts. (v : ℕ) → v < length chosen.now
-        → slice_index counts.items v ≡ waiting_of chosen.now standing.now (neighbors_of before.now v)) }
+    ensures counts { IfOk result
+        (λ counts. (v : ℕ) → v < length chosen.now → slice_index counts.items v
+        ≡ waiting_of chosen.now standing.now (neighbors_of before.now v)) }
 {
     let mut counts = Vec::new(alloc);
     for node in 0..chosen.len() {

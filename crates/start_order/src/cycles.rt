@@ -29,8 +29,10 @@ fn walk(
     requires units { length before.now ≡ length stuck.now }
     requires adjacency { AllBelow (length stuck.now) before.now }
     requires start { IsLeast nat_cmp (IsMember stuck.now) start }
-    requires blocked { (u : ℕ) → IsMember stuck.now u → (v : ℕ) × (IsMember stuck.now v × Precedes before.now v u) }
-    ensures walk { IfOk result (λ r. IsWalk (IsMember stuck.now) (Precedes before.now) r.0.items r.1) }
+    requires blocked { (u : ℕ) → IsMember stuck.now u
+        → (v : ℕ) × (IsMember stuck.now v × Precedes before.now v u) }
+    ensures walk { IfOk result
+        (λ r. IsWalk (IsMember stuck.now) (Precedes before.now) r.0.items r.1) }
     ensures met { IfOk result (λ r. IsAmong r.1 r.0.items) }
 {
     let mut seen = empty_bits(alloc, stuck.len())?;
@@ -62,7 +64,8 @@ fn position_of(list: &[usize], node: usize) -> usize
 fn least_at(list: &[usize]) -> usize
     requires { 0 < length list.now }
     ensures within { result < length list.now }
-    ensures least { (k : ℕ) → k < length list.now → slice_index list.now result ≤ slice_index list.now k }
+    ensures least { (k : ℕ) → k < length list.now
+        → slice_index list.now result ≤ slice_index list.now k }
 {
     let mut at = 0;
     for (i, node) in list.iter().enumerate() {
@@ -83,8 +86,10 @@ pub(crate) fn cycle_from(
     requires units { length before.now ≡ length stuck.now }
     requires adjacency { AllBelow (length stuck.now) before.now }
     requires start { IsLeast nat_cmp (IsMember stuck.now) start }
-    requires blocked { (u : ℕ) → IsMember stuck.now u → (v : ℕ) × (IsMember stuck.now v × Precedes before.now v u) }
-    ensures { IfOk result (λ cycle. IsCycle nat_cmp (IsMember stuck.now) (Precedes before.now) cycle.items) }
+    requires blocked { (u : ℕ) → IsMember stuck.now u
+        → (v : ℕ) × (IsMember stuck.now v × Precedes before.now v u) }
+    ensures { IfOk result
+        (λ cycle. IsCycle nat_cmp (IsMember stuck.now) (Precedes before.now) cycle.items) }
 {
     let (met, next) = walk(alloc, stuck, before, start)?;
     let (_, round) = met.split_at(position_of(&met, next));

@@ -45,7 +45,8 @@ impl Free {
 
     /// Adds a node. O(log n).
     pub fn add(&mut self, node: usize) -> Result<(), AllocError>
-        ensures added { OnOk result ((v : ℕ) → IsAmong v self.new ↔ (IsAmong v self.old ⊎ (node ≡ v))) }
+        ensures added { OnOk result
+            ((v : ℕ) → IsAmong v self.new ↔ (IsAmong v self.old ⊎ (node ≡ v))) }
     {
         self.later.insert(node)?;
         Ok(())
@@ -67,7 +68,8 @@ impl Free {
 // The least of nodes in ascending order.
 fn prefix_of(nodes: &VecDeque<usize>) -> Option<usize>
     requires { IsStrictlySortedBy nat_cmp nodes.now.items }
-    ensures { MatchOption result ((v : ℕ) → ¬ IsAmong v nodes.now.items) (IsLeastIn nodes.now.items) }
+    ensures { MatchOption result ((v : ℕ) → ¬ IsAmong v nodes.now.items)
+        (IsLeastIn nodes.now.items) }
 {
     match nodes.front() {
         Some(node) => Some(*node),
@@ -90,7 +92,8 @@ fn drop_prefix(nodes: &mut VecDeque<usize>, node: usize)
     requires ascending { IsStrictlySortedBy nat_cmp nodes.old.items }
     requires least { (v : ℕ) → IsAmong v nodes.old.items → node ≤ v }
     ensures ascending { IsStrictlySortedBy nat_cmp nodes.new.items }
-    ensures rest { (v : ℕ) → IsAmong v nodes.new.items ↔ (IsAmong v nodes.old.items × ¬ (node ≡ v)) }
+    ensures rest { (v : ℕ) → IsAmong v nodes.new.items
+        ↔ (IsAmong v nodes.old.items × ¬ (node ≡ v)) }
 {
     if let Some(prefix) = prefix_of(nodes) {
         if prefix == node {

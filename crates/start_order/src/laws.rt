@@ -9,10 +9,11 @@ use name_closure::{EdgeSet, NodeSet};
 pub fn start_order_laws<N: Ord, C: NodeSet<N>, B: EdgeSet<N>>()
     ensures list { IsAntisymmetric N.cmp → (xs ys : List N) → IsStartList N.cmp C.holds B.leads xs
         → IsStartList N.cmp C.holds B.leads ys → xs ≡ ys }
-    ensures ring { IsAntisymmetric N.cmp → (xs ys : List N) → IsCycle N.cmp (IsStuck C.holds B.leads) B.leads xs
+    ensures ring { IsAntisymmetric N.cmp → (xs ys : List N)
+        → IsCycle N.cmp (IsStuck C.holds B.leads) B.leads xs
         → IsCycle N.cmp (IsStuck C.holds B.leads) B.leads ys → xs ≡ ys }
-    ensures out { (list : List N) → IsStartList N.cmp C.holds B.leads list → (u : N) → IsStuck C.holds B.leads u
-        → ¬ IsAmong u list }
+    ensures out { (list : List N) → IsStartList N.cmp C.holds B.leads list → (u : N)
+        → IsStuck C.holds B.leads u → ¬ IsAmong u list }
     ensures cycle { (cycle : List N) → IsCycle N.cmp (IsStuck C.holds B.leads) B.leads cycle
         → (u : N) × IsStuck C.holds B.leads u }
 {}

@@ -20,7 +20,8 @@ fn listed(
     requires before { AreAdjacencyOf (length chosen.now) before.now }
     requires after { AreAdjacencyOf (length chosen.now) after.now }
     requires transposed { AreTransposed before.now after.now }
-    ensures list { IfOk result (λ r. IsStartList nat_cmp (IsMember chosen.now) (Precedes before.now) r.0.items) }
+    ensures list { IfOk result
+        (λ r. IsStartList nat_cmp (IsMember chosen.now) (Precedes before.now) r.0.items) }
     ensures bits { IfOk result (λ r. (v : ℕ) → IsMember r.1.items v ↔ IsAmong v r.0.items) }
     ensures units { IfOk result (λ r. length r.1.items ≡ length chosen.now) }
 {
@@ -49,9 +50,11 @@ pub fn start_order(
     requires before { AreAdjacencyOf (length chosen.now) before.now }
     requires after { AreAdjacencyOf (length chosen.now) after.now }
     requires transposed { AreTransposed before.now after.now }
-    ensures list { IfOk result (λ answer. IfOk answer (λ list. IsStartList nat_cmp (IsMember chosen.now)
-        (Precedes before.now) list.items)) }
-    ensures all { IfOk result (λ answer. IfOk answer (λ list. (u : ℕ) → IsMember chosen.now u → IsAmong u list.items)) }
+    ensures list { IfOk result
+        (λ answer. IfOk answer
+        (λ list. IsStartList nat_cmp (IsMember chosen.now) (Precedes before.now) list.items)) }
+    ensures all { IfOk result
+        (λ answer. IfOk answer (λ list. (u : ℕ) → IsMember chosen.now u → IsAmong u list.items)) }
     ensures none_stuck { IfOk result (λ answer. IfOk answer (λ _. (u : ℕ)
         → ¬ IsStuck (IsMember chosen.now) (Precedes before.now) u)) }
     ensures cycle { IfOk result (λ answer. IfErr answer (λ cycle. IsCycle nat_cmp

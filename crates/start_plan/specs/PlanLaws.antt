@@ -82,12 +82,14 @@ record ReturnsCause (load : LoadMap) (edges : EdgeMap) (request : Request) (r : 
   returned : r ≡ returned_as load why
 
 module _ (load : LoadMap) (edges : EdgeMap) (request : Request) where
-  returns_fault : (u : Name) (r : Refusal) (o : Option Status) → IsFault load edges request u → status_in load u ≡ o → r ≡ by_status u o → ReturnsCause load edges request r
+  returns_fault : (u : Name) (r : Refusal) (o : Option Status) → IsFault load edges request u → status_in load u ≡ o
+      → r ≡ by_status u o → ReturnsCause load edges request r
   unfolding returned_as
   returns_fault u r o (inl f) e t = record { why = target_fault u; refused = f; returned = t ∙ ap (by_status u) (sym e) }
   returns_fault u r o (inr f) e t = record { why = need_fault u; refused = f; returned = t ∙ ap (by_status u) (sym e) }
 
-  returns : (r : Refusal) → IsRefusalOf load edges request r → r ≢ Memory → ((r ≡ Template) × AsksTemplate request) ⊎ ReturnsCause load edges request r
+  returns : (r : Refusal) → IsRefusalOf load edges request r → r ≢ Memory
+      → ((r ≡ Template) × AsksTemplate request) ⊎ ReturnsCause load edges request r
   unfolding returned_as by_status
   returns Template h n = inl (refl, h)
   returns (NotFound u) h n = inr (returns_fault u (NotFound u) (Some status.NotFound) h.0 h.1 refl)
@@ -144,7 +146,8 @@ one_case load request a b p q =
 
 -- ---- promises
 
-spares_itself : (s : HostViewMap) (extra : List Name) (load : LoadMap) (edges : EdgeMap) (request : Request) → IsLoad s extra load → AreEdges load edges
+spares_itself : (s : HostViewMap) (extra : List Name) (load : LoadMap) (edges : EdgeMap) (request : Request)
+    → IsLoad s extra load → AreEdges load edges
     → SparesItself (case_of load edges request)
 spares_itself s extra load edges request l a u h =
     let r = named_by (λ dep. names_in edges dep u) (kind.Conflicts ∷ []) u h in

@@ -28,7 +28,9 @@ pub(crate) struct StatusBits {
 pub(crate) fn status_bits(alloc: Global, load: &Loaded) -> Result<StatusBits, AllocError>
     ensures loaded { IfOk result (λ bits. AreBitsBy load.now is_loaded bits.loaded.items) }
     ensures manual { IfOk result (λ bits. AreBitsBy load.now is_manual bits.manual.items) }
-    ensures perpetual { IfOk result (λ bits. AreBitsBy load.now (is_perpetual_by load.now.viewer.profile) bits.perpetual.items) }
+    ensures perpetual { IfOk result
+        (λ bits. AreBitsBy load.now
+        (is_perpetual_by load.now.viewer.profile) bits.perpetual.items) }
 {
     let profile = load.viewer().profile;
     let names = load.names();
@@ -82,7 +84,8 @@ fn is_perpetual_by(profile: Profile, load: &NameLoad) -> bool
 pub(crate) fn either(alloc: Global, bits: &[bool], others: &[bool]) -> Result<Vec<bool>, AllocError>
     requires units { length others.now ≡ length bits.now }
     ensures units { IfOk result (λ all. length all.items ≡ length bits.now) }
-    ensures members { IfOk result (λ all. (i : ℕ) → IsMember all.items i ↔ (IsMember bits.now i ⊎ IsMember others.now i)) }
+    ensures members { IfOk result
+        (λ all. (i : ℕ) → IsMember all.items i ↔ (IsMember bits.now i ⊎ IsMember others.now i)) }
 {
     let mut all = Vec::new(alloc);
     for (index, is_member) in bits.iter().enumerate() {

@@ -64,9 +64,11 @@ pub(crate) fn case_of<'b>(
 ) -> Result<IndexedCase<'b>, AllocError>
     requires names { IsOfGraph graph.now.load request.now }
     requires whole { ¬ AsksTemplate request.now }
-    ensures case { IfOk result (λ adjacency. IsNamedCase (count_of graph.now.load) (name_at graph.now.load) (case_of_indexed adjacency)
-        (case_of graph.now.load graph.now.edges request.now)) }
-    ensures order { IfOk result (λ _. IsIndexing (count_of graph.now.load) (name_at graph.now.load) name_cmp) }
+    ensures case { IfOk result
+        (λ adjacency. IsNamedCase (count_of graph.now.load) (name_at graph.now.load)
+        (case_of_indexed adjacency) (case_of graph.now.load graph.now.edges request.now)) }
+    ensures order { IfOk result
+        (λ _. IsIndexing (count_of graph.now.load) (name_at graph.now.load) name_cmp) }
 {
     let target = graph.index(&request.target).unwrap();
     let loaded = graph.loaded();
@@ -102,12 +104,16 @@ fn both_ways<'b>(
     kinds: &[DepKind],
     others: &[DepKind],
 ) -> Result<BothWays<'b>, AllocError>
-    ensures successors { IfOk result (λ both. AreNamedSuccessors (count_of graph.now.load) (name_at graph.now.load)
+    ensures successors { IfOk result
+        (λ both. AreNamedSuccessors (count_of graph.now.load) (name_at graph.now.load)
         (Named (successors_from both.successors)) (LeadsBy graph.now.edges kinds.now)) }
-    ensures within { IfOk result (λ both. AreSuccessorsOf (count_of graph.now.load) both.successors) }
-    ensures inverses { IfOk result (λ both. AreNamedSuccessors (count_of graph.now.load) (name_at graph.now.load)
+    ensures within { IfOk result
+        (λ both. AreSuccessorsOf (count_of graph.now.load) both.successors) }
+    ensures inverses { IfOk result
+        (λ both. AreNamedSuccessors (count_of graph.now.load) (name_at graph.now.load)
         (Named (successors_from both.inverses)) (LeadsBy graph.now.edges others.now)) }
-    ensures inverses_within { IfOk result (λ both. AreSuccessorsOf (count_of graph.now.load) both.inverses) }
+    ensures inverses_within { IfOk result
+        (λ both. AreSuccessorsOf (count_of graph.now.load) both.inverses) }
 {
     let successors = graph.successors(kinds)?;
     let inverses = graph.successors(others)?;
@@ -119,12 +125,16 @@ fn both_ways<'b>(
 
 // The edges to what units want, and to their requisites.
 fn asked_of<'b>(graph: &'b IndexedGraph) -> Result<Asked<'b>, AllocError>
-    ensures wants { IfOk result (λ asked. AreNamedSuccessors (count_of graph.now.load) (name_at graph.now.load)
+    ensures wants { IfOk result
+        (λ asked. AreNamedSuccessors (count_of graph.now.load) (name_at graph.now.load)
         (Named (successors_from asked.wants)) (LeadsBy graph.now.edges weak)) }
-    ensures wants_within { IfOk result (λ asked. AreSuccessorsOf (count_of graph.now.load) asked.wants) }
-    ensures requisites { IfOk result (λ asked. AreNamedSuccessors (count_of graph.now.load) (name_at graph.now.load)
+    ensures wants_within { IfOk result
+        (λ asked. AreSuccessorsOf (count_of graph.now.load) asked.wants) }
+    ensures requisites { IfOk result
+        (λ asked. AreNamedSuccessors (count_of graph.now.load) (name_at graph.now.load)
         (Named (successors_from asked.requisites)) (LeadsBy graph.now.edges (Requisite ∷ []))) }
-    ensures requisites_within { IfOk result (λ asked. AreSuccessorsOf (count_of graph.now.load) asked.requisites) }
+    ensures requisites_within { IfOk result
+        (λ asked. AreSuccessorsOf (count_of graph.now.load) asked.requisites) }
 {
     let wants = graph.successors(&WEAK)?;
     let requisites = graph.successors(&[DepKind::Requisite])?;

@@ -20,8 +20,10 @@ pub(crate) fn named_plan(
 ) -> Result<Plan, AllocError>
     requires stops { All (λ i. i < count_of loaded.now) plan.now.stops.items }
     requires starts { All (λ i. i < count_of loaded.now) plan.now.starts.items }
-    ensures stop { IfOk result (λ named. named.stop ≡ map (name_at loaded.now) plan.now.stops.items) }
-    ensures start { IfOk result (λ named. named.start ≡ map (name_at loaded.now) plan.now.starts.items) }
+    ensures stop { IfOk result
+        (λ named. named.stop ≡ map (name_at loaded.now) plan.now.stops.items) }
+    ensures start { IfOk result
+        (λ named. named.start ≡ map (name_at loaded.now) plan.now.starts.items) }
 {
     let stop = Items::from_vec(names_at(alloc, loaded, &plan.stops)?);
     let start = Items::from_vec(names_at(alloc, loaded, &plan.starts)?);

@@ -22,10 +22,14 @@ fn indexed_answer(
 ) -> Result<Result<IndexedPlan, PlanRefusal<usize>>, AllocError>
     requires names { IsOfGraph graph.now.load request.now }
     requires whole { ¬ AsksTemplate request.now }
-    ensures order { IfOk result (λ _. IsIndexing (count_of graph.now.load) (name_at graph.now.load) name_cmp) }
-    ensures plan { IfOk result (λ answer. IfOk answer (λ plan. IsIndexedPlan graph.now.load graph.now.edges request.now
-        plan.stops.items plan.starts.items)) }
-    ensures refusal { IfOk result (λ answer. IfErr answer (IsIndexedRefusal graph.now.load graph.now.edges request.now)) }
+    ensures order { IfOk result
+        (λ _. IsIndexing (count_of graph.now.load) (name_at graph.now.load) name_cmp) }
+    ensures plan { IfOk result
+        (λ answer. IfOk answer
+        (λ plan. IsIndexedPlan graph.now.load graph.now.edges request.now plan.stops.items
+        plan.starts.items)) }
+    ensures refusal { IfOk result
+        (λ answer. IfErr answer (IsIndexedRefusal graph.now.load graph.now.edges request.now)) }
 {
     let case = case_of(alloc, graph, request)?;
     indexed_plan(alloc, &case)
@@ -39,8 +43,10 @@ fn named_answer(
 ) -> Result<Result<Plan, Refusal>, AllocError>
     requires names { IsOfGraph graph.now.load request.now }
     requires whole { ¬ AsksTemplate request.now }
-    ensures plan { IfOk result (λ answer. IfOk answer (IsPlanned graph.now.load graph.now.edges request.now)) }
-    ensures refusal { IfOk result (λ answer. IfErr answer (IsRefusalOf graph.now.load graph.now.edges request.now)) }
+    ensures plan { IfOk result
+        (λ answer. IfOk answer (IsPlanned graph.now.load graph.now.edges request.now)) }
+    ensures refusal { IfOk result
+        (λ answer. IfErr answer (IsRefusalOf graph.now.load graph.now.edges request.now)) }
 {
     match indexed_answer(alloc, graph, request)? {
         Ok(plan) => Ok(Ok(named_plan(alloc, graph.loaded(), &plan)?)),

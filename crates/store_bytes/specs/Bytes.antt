@@ -64,5 +64,7 @@ pub record AreOneToOne : Type 0 where
   -- digests with the same bytes are the same
   pub same_versions : (d e : VersionMap) → HasVersionSpelling d → HasVersionSpelling e → digest_spelling d ≡ digest_spelling e → d ≡ e
   -- no two byte strings are read alike
-  pub one_spelling : (kind : ℕ) (b c : List ℕ) (entries : List (PlaceParts × Entry)) → IsBytes b → IsBytes c → entries_in kind b ≡ Ok entries → entries_in kind c ≡ Ok entries → b ≡ c
-  pub one_version_spelling : (b c : List ℕ) (versions : List (PlaceParts × Version)) → IsBytes b → IsBytes c → versions_in b ≡ Ok versions → versions_in c ≡ Ok versions → b ≡ c
+  pub one_spelling : (kind : ℕ) (b c : List ℕ) (entries : List (PlaceParts × Entry)) → IsBytes b → IsBytes c
+      → entries_in kind b ≡ Ok entries → entries_in kind c ≡ Ok entries → b ≡ c
+  pub one_version_spelling : (b c : List ℕ) (versions : List (PlaceParts × Version)) → IsBytes b → IsBytes c
+      → versions_in b ≡ Ok versions → versions_in c ≡ Ok versions → b ≡ c

@@ -45,7 +45,8 @@ pub record AreEntriesOf (kind : ℕ) (bytes : List ℕ) (es : List (PlaceParts �
 abbrev joined : List Scoped → Result (List (PlaceParts × Entry)) SpellingFault
 joined scopes = Ok (flattened scopes)
 
-pub entries_taken : (kind : ℕ) (bytes : List ℕ) (es : List (PlaceParts × Entry)) → IsBytes bytes → entries_in kind bytes ≡ Ok es → AreEntriesOf kind bytes es
+pub entries_taken : (kind : ℕ) (bytes : List ℕ) (es : List (PlaceParts × Entry)) → IsBytes bytes
+    → entries_in kind bytes ≡ Ok es → AreEntriesOf kind bytes es
 unfolding entries_in
 entries_taken kind bytes es fits e =
     let a = bind_ok (all_of scope_cmp scope_at (group_at path_cmp path_at entry_at) kind bytes) joined es e in
@@ -58,7 +59,8 @@ entries_taken kind bytes es fits e =
       spelled = t.1 ∙ ap (spelling scope (pairs path entry) kind) (sym parts);
     }
 
-pub entries_again : (kind : ℕ) (es : List (PlaceParts × Entry)) → AreScoped (parted es) → entries_in kind (spelling scope (pairs path entry) kind (parted es)) ≡ Ok es
+pub entries_again : (kind : ℕ) (es : List (PlaceParts × Entry)) → AreScoped (parted es)
+    → entries_in kind (spelling scope (pairs path entry) kind (parted es)) ≡ Ok es
 unfolding entries_in
 entries_again kind es are =
     ap (λ (r : Result (List Scoped) SpellingFault). r >>= joined)
@@ -75,21 +77,25 @@ same_entries : (kind : ℕ) (s t : EntryMap) → HasSpelling s → HasSpelling t
 same_entries kind s t p q e =
     finmap.same_entries_map s t (ok_is (finmap.entries s) (finmap.entries t) (sym (entries_again kind (finmap.entries s) p) ∙ ap (entries_in kind) e ∙ entries_again kind (finmap.entries t) q))
 
-one_spelling : (kind : ℕ) (b c : List ℕ) (es : List (PlaceParts × Entry)) → IsBytes b → IsBytes c → entries_in kind b ≡ Ok es → entries_in kind c ≡ Ok es → b ≡ c
+one_spelling : (kind : ℕ) (b c : List ℕ) (es : List (PlaceParts × Entry)) → IsBytes b → IsBytes c
+    → entries_in kind b ≡ Ok es → entries_in kind c ≡ Ok es → b ≡ c
 one_spelling kind b c es p q d e = (entries_taken kind b es p d).spelled ∙ sym (entries_taken kind c es q e).spelled
 
 -- ---- digests
 
-pub versions_taken : (bytes : List ℕ) (vs : List (PlaceParts × Version)) → IsBytes bytes → versions_in bytes ≡ Ok vs → ArePairs place_cmp IsPlace IsVersion vs × (bytes ≡ spelling place version 3 vs)
+pub versions_taken : (bytes : List ℕ) (vs : List (PlaceParts × Version)) → IsBytes bytes → versions_in bytes ≡ Ok vs
+    → ArePairs place_cmp IsPlace IsVersion vs × (bytes ≡ spelling place version 3 vs)
 unfolding versions_in
 versions_taken bytes vs fits e = all_takes place_cmp place_cmp_total place_at place IsPlace version_at version IsVersion place_field version_field 3 bytes vs fits e
 
-pub versions_again : (vs : List (PlaceParts × Version)) → ArePairs place_cmp IsPlace IsVersion vs → versions_in (spelling place version 3 vs) ≡ Ok vs
+pub versions_again : (vs : List (PlaceParts × Version)) → ArePairs place_cmp IsPlace IsVersion vs
+    → versions_in (spelling place version 3 vs) ≡ Ok vs
 unfolding versions_in
 versions_again vs are = all_again place_cmp place_cmp_total place_at place IsPlace version_at version IsVersion place_field version_field 3 vs are
 
 -- the versions of a digest that fit have a spelling
-pub versions_spelled : (d : VersionMap) (vs : List (PlaceParts × Version)) → vs ≡ finmap.entries d → length vs < 2 ^ 64 → AllByRecursion (λ p. IsPlace p.0 × IsVersion p.1) vs → HasVersionSpelling d
+pub versions_spelled : (d : VersionMap) (vs : List (PlaceParts × Version)) → vs ≡ finmap.entries d → length vs < 2 ^ 64
+    → AllByRecursion (λ p. IsPlace p.0 × IsVersion p.1) vs → HasVersionSpelling d
 versions_spelled d vs same few fit = record {
   count = subst (λ (l : List (PlaceParts × Version)). length l < 2 ^ 64) same few;
   each = subst (λ (l : List (PlaceParts × Version)). AllByRecursion (λ p. IsPlace p.0 × IsVersion p.1) l) same fit;
@@ -100,7 +106,8 @@ same_versions : (d e : VersionMap) → HasVersionSpelling d → HasVersionSpelli
 same_versions d e p q h =
     finmap.same_entries_map d e (ok_is (finmap.entries d) (finmap.entries e) (sym (versions_again (finmap.entries d) p) ∙ ap versions_in h ∙ versions_again (finmap.entries e) q))
 
-one_version_spelling : (b c : List ℕ) (vs : List (PlaceParts × Version)) → IsBytes b → IsBytes c → versions_in b ≡ Ok vs → versions_in c ≡ Ok vs → b ≡ c
+one_version_spelling : (b c : List ℕ) (vs : List (PlaceParts × Version)) → IsBytes b → IsBytes c → versions_in b ≡ Ok vs
+    → versions_in c ≡ Ok vs → b ≡ c
 one_version_spelling b c vs p q d e = (versions_taken b vs p d).1 ∙ sym (versions_taken c vs q e).1
 
 pub are_one_to_one : AreOneToOne

@@ -205,7 +205,8 @@ unfolding text_at
 file_field = passed long_string_at long_string (λ s. length s < 2 ^ 64) (λ t. IsTrue (is_file t)) is_file fault.Content long_field
     (record { fits = λ t p is. is; plain = λ t is. file_short t is; passes = λ t is. is })
 
-content_takes : (bytes : List ℕ) (x : Content × List ℕ) → IsBytes bytes → content_at bytes ≡ Ok x → Takes bytes (content x.0) x.1 × IsContent x.0
+content_takes : (bytes : List ℕ) (x : Content × List ℕ) → IsBytes bytes → content_at bytes ≡ Ok x
+    → Takes bytes (content x.0) x.1 × IsContent x.0
 unfolding content_at
 content_takes bytes x fits e =
     let b = bind_ok (byte_at bytes) content_from x e in

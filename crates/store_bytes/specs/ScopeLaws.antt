@@ -61,7 +61,8 @@ abbrev Heads : Scope → Result (ℕ × List ℕ) SpellingFault → (Scope × �
 Heads s r x = (group_from s r ≡ (own_entries x.0.1 x.1 >>= as_scope x.0.0)) × (0 < x.0.1)
 
 -- the head of a scope is read
-group_headed_from : (s : Scope) (r : Result (ℕ × List ℕ) SpellingFault) (x : (Scope × ℕ) × List ℕ) → (r >>= head_from s) ≡ Ok x → Heads s r x
+group_headed_from : (s : Scope) (r : Result (ℕ × List ℕ) SpellingFault) (x : (Scope × ℕ) × List ℕ)
+    → (r >>= head_from s) ≡ Ok x → Heads s r x
 group_headed_from s (Err d) x h = absurd cc
 group_headed_from s (Ok (zero, after)) x h = absurd cc
 group_headed_from s (Ok (suc m, after)) x h =
@@ -70,12 +71,14 @@ group_headed_from s (Ok (suc m, after)) x h =
     let read : Ok made ≡ Ok x = sym (ap (λ b. cond b (Err fault.Number) (Ok made)) some) ∙ h in
     subst (Heads s (Ok (suc m, after))) (ok_is made x read) (ap (λ r. r >>= as_scope s) (group_counted m after), omega arith)
 
-group_headed : (r : Result (Scope × List ℕ) SpellingFault) (x : (Scope × ℕ) × List ℕ) → head_after r ≡ Ok x → (group_after r ≡ (own_entries x.0.1 x.1 >>= as_scope x.0.0)) × (0 < x.0.1)
+group_headed : (r : Result (Scope × List ℕ) SpellingFault) (x : (Scope × ℕ) × List ℕ) → head_after r ≡ Ok x
+    → (group_after r ≡ (own_entries x.0.1 x.1 >>= as_scope x.0.0)) × (0 < x.0.1)
 group_headed (Err d) x e = absurd cc
 group_headed (Ok key) x e = group_headed_from key.0 (number_at key.1) x e
 
 -- it isn't read
-group_not_headed_from : (s : Scope) (r : Result (ℕ × List ℕ) SpellingFault) (d : SpellingFault) → (r >>= head_from s) ≡ Err d → group_from s r ≡ Err d
+group_not_headed_from : (s : Scope) (r : Result (ℕ × List ℕ) SpellingFault) (d : SpellingFault)
+    → (r >>= head_from s) ≡ Err d → group_from s r ≡ Err d
 unfolding pairs_above_at
 group_not_headed_from s (Err f) d h = let same : f ≡ d = cc in ap Err same
 group_not_headed_from s (Ok (zero, after)) d h = let same : fault.Number ≡ d = cc in ap Err same
@@ -92,18 +95,24 @@ headed_at : (last : Option Scope) (bytes : List ℕ) → scope_head_at last byte
 unfolding scope_head_at
 headed_at last bytes = refl
 
-grouped_at : (last : Option Scope) (bytes : List ℕ) → pair_above_at scope_cmp scope_at (group_at path_cmp path_at entry_at) last bytes ≡ group_after (key_above_at scope_cmp scope_at last bytes)
+grouped_at : (last : Option Scope) (bytes : List ℕ)
+    → pair_above_at scope_cmp scope_at (group_at path_cmp path_at entry_at) last bytes
+    ≡ group_after (key_above_at scope_cmp scope_at last bytes)
 unfolding pair_above_at group_at list_at
 grouped_at last bytes = refl
 
 -- it is read: the scope's entries follow, and there are some
-pub scope_headed : (last : Option Scope) (bytes : List ℕ) (s : Scope) (count : ℕ) (rest : List ℕ) → scope_head_at last bytes ≡ Ok ((s, count), rest)
-    → pair_above_at scope_cmp scope_at (group_at path_cmp path_at entry_at) last bytes ≡ (pairs_above_at path_cmp path_at entry_at count None rest >>= λ es. Ok ((s, es.0), es.1))
+pub scope_headed : (last : Option Scope) (bytes : List ℕ) (s : Scope) (count : ℕ) (rest : List ℕ)
+    → scope_head_at last bytes ≡ Ok ((s, count), rest)
+    → pair_above_at scope_cmp scope_at (group_at path_cmp path_at entry_at) last bytes
+    ≡ (pairs_above_at path_cmp path_at entry_at count None rest >>= λ es. Ok ((s, es.0), es.1))
 scope_headed last bytes s count rest e = grouped_at last bytes ∙ (group_headed (key_above_at scope_cmp scope_at last bytes) ((s, count), rest) (sym (headed_at last bytes) ∙ e)).0
 
-pub scope_has_entries : (last : Option Scope) (bytes : List ℕ) (s : Scope) (count : ℕ) (rest : List ℕ) → scope_head_at last bytes ≡ Ok ((s, count), rest) → 0 < count
+pub scope_has_entries : (last : Option Scope) (bytes : List ℕ) (s : Scope) (count : ℕ) (rest : List ℕ)
+    → scope_head_at last bytes ≡ Ok ((s, count), rest) → 0 < count
 scope_has_entries last bytes s count rest e = (group_headed (key_above_at scope_cmp scope_at last bytes) ((s, count), rest) (sym (headed_at last bytes) ∙ e)).1
 
 -- it isn't
-pub scope_not_headed : (last : Option Scope) (bytes : List ℕ) (d : SpellingFault) → scope_head_at last bytes ≡ Err d → pair_above_at scope_cmp scope_at (group_at path_cmp path_at entry_at) last bytes ≡ Err d
+pub scope_not_headed : (last : Option Scope) (bytes : List ℕ) (d : SpellingFault) → scope_head_at last bytes ≡ Err d
+    → pair_above_at scope_cmp scope_at (group_at path_cmp path_at entry_at) last bytes ≡ Err d
 scope_not_headed last bytes d e = grouped_at last bytes ∙ group_not_headed (key_above_at scope_cmp scope_at last bytes) d (sym (headed_at last bytes) ∙ e)

@@ -20,7 +20,8 @@ use Rattle.store_bytes.specs.Stores.{AreScoped, flattened, Scoped}
 
 -- ---- one scope
 
-below_within : (s : Scope) (p : PathParts) (es : List (PathParts × Entry)) → below_all place_cmp (within s p) (placed s es) ≡ below_all path_cmp p es
+below_within : (s : Scope) (p : PathParts) (es : List (PathParts × Entry))
+    → below_all place_cmp (within s p) (placed s es) ≡ below_all path_cmp p es
 below_within s p [] = refl
 below_within s p (e ∷ es) = (λ i. is_lt (same_scope s p e.0 i) && below_within s p es i)
 
@@ -37,7 +38,8 @@ by_scopes k l a b less p q =
 abbrev IsGroup : Scoped → Type 0
 IsGroup g = AreGroup path_cmp IsPath IsEntry g.1
 
-groups_of : (P : Scope → Type 0) (gs : List Scoped) → AllByRecursion (λ g. P g.0 × IsGroup g) gs → AllValues (λ es. IsTrue (is_sorted path_cmp es)) gs
+groups_of : (P : Scope → Type 0) (gs : List Scoped) → AllByRecursion (λ g. P g.0 × IsGroup g) gs
+    → AllValues (λ es. IsTrue (is_sorted path_cmp es)) gs
 groups_of P [] h = tt
 groups_of P (g ∷ gs) h = (h.0.1.pairs.ascending, groups_of P gs h.1)
 

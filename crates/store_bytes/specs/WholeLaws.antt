@@ -49,7 +49,8 @@ same_bytes : (xs ys : List ℕ) → bytes_eq xs ys ≡ true → xs ≡ ys
 same_bytes xs ys e = same_text xs ys (sym e)
 
 -- the first six bytes
-prefix_six : (bytes : List ℕ) (kind : ℕ) → 38 ≤ length bytes → take 4 bytes ≡ codes "UCRS" → get_or bytes 4 0 ≡ 1 → get_or bytes 5 0 ≡ kind → take 6 bytes ≡ head kind
+prefix_six : (bytes : List ℕ) (kind : ℕ) → 38 ≤ length bytes → take 4 bytes ≡ codes "UCRS" → get_or bytes 4 0 ≡ 1
+    → get_or bytes 5 0 ≡ kind → take 6 bytes ≡ head kind
 prefix_six bytes kind long magic format is =
     take-suc bytes 5 0 (omega arith) ∙ ap (λ (l : List ℕ). l ++ get_or bytes 5 0 ∷ []) (take-suc bytes 4 0 (omega arith))
     ∙ ap (λ (l : List ℕ). (l ++ get_or bytes 4 0 ∷ []) ++ get_or bytes 5 0 ∷ []) magic
@@ -62,7 +63,8 @@ take_take (suc k) zero bytes le = absurd (omega arith)
 take_take (suc k) (suc n) [] le = refl
 take_take (suc k) (suc n) (b ∷ bytes) le = ap (λ (l : List ℕ). b ∷ l) (take_take k n bytes (omega arith))
 
-pub opened_takes : (kind : ℕ) (bytes inner : List ℕ) → IsBytes bytes → opened kind bytes ≡ Ok inner → (bytes ≡ (head kind ++ inner) ++ sha256 (head kind ++ inner)) × IsBytes inner
+pub opened_takes : (kind : ℕ) (bytes inner : List ℕ) → IsBytes bytes → opened kind bytes ≡ Ok inner
+    → (bytes ≡ (head kind ++ inner) ++ sha256 (head kind ++ inner)) × IsBytes inner
 unfolding opened
 opened_takes kind bytes inner fits e =
     let prefix = take (length bytes - 32) bytes in
@@ -104,7 +106,8 @@ opened_again kind inner =
     let kinds : eqb kind kind ≡ true = eq-eqb kind kind refl in
     rw (long, kinds, taken, dropped, same) refl
 
-module _ {K V : Type 0} (cmp : K → K → Ordering) (total : IsTotalOrder cmp) (f : Reader K) (s : K → List ℕ) (P : K → Type 0) (g : Reader V) (t : V → List ℕ) (Q : V → Type 0) (F : IsField f s P) (G : IsField g t Q) where
+module _ {K V : Type 0} (cmp : K → K → Ordering) (total : IsTotalOrder cmp) (f : Reader K) (s : K → List ℕ)
+    (P : K → Type 0) (g : Reader V) (t : V → List ℕ) (Q : V → Type 0) (F : IsField f s P) (G : IsField g t Q) where
   -- ---- order
 
   -- each place is above the one before it, the first above this one
@@ -171,10 +174,13 @@ module _ {K V : Type 0} (cmp : K → K → Ordering) (total : IsTotalOrder cmp) 
         second_fits = λ p r. r.1;
       })
 
-  pair_above_takes : (last : Option K) (bytes : List ℕ) (x : (K × V) × List ℕ) → IsBytes bytes → pair_above_at cmp f g last bytes ≡ Ok x → (Takes bytes (pair s t x.0) x.1 × Fits x.0) × (is_above cmp last x.0.0 ≡ true)
+  pair_above_takes : (last : Option K) (bytes : List ℕ) (x : (K × V) × List ℕ) → IsBytes bytes
+      → pair_above_at cmp f g last bytes ≡ Ok x
+      → (Takes bytes (pair s t x.0) x.1 × Fits x.0) × (is_above cmp last x.0.0 ≡ true)
   pair_above_takes last bytes x fits e = let h = (pair_above_field last).takes bytes x fits e in ((h.0, (h.1.0.0, h.1.1)), h.1.0.1)
 
-  pair_above_again : (last : Option K) (p : K × V) (rest : List ℕ) → Fits p → is_above cmp last p.0 ≡ true → pair_above_at cmp f g last (pair s t p ++ rest) ≡ Ok (p, rest)
+  pair_above_again : (last : Option K) (p : K × V) (rest : List ℕ) → Fits p → is_above cmp last p.0 ≡ true
+      → pair_above_at cmp f g last (pair s t p ++ rest) ≡ Ok (p, rest)
   pair_above_again last p rest fits above = (pair_above_field last).again p rest ((fits.0, above), fits.1)
 
   -- ---- lists
@@ -185,7 +191,8 @@ module _ {K V : Type 0} (cmp : K → K → Ordering) (total : IsTotalOrder cmp) 
     pub each : AllByRecursion Fits ps
     pub ascending : ascends last ps ≡ true
 
-  pairs_take : (n : ℕ) (last : Option K) (bytes : List ℕ) (x : List (K × V) × List ℕ) → IsBytes bytes → pairs_above_at cmp f g n last bytes ≡ Ok x → AreRead last n bytes x.0 x.1
+  pairs_take : (n : ℕ) (last : Option K) (bytes : List ℕ) (x : List (K × V) × List ℕ) → IsBytes bytes
+      → pairs_above_at cmp f g n last bytes ≡ Ok x → AreRead last n bytes x.0 x.1
   unfolding pairs_above_at
   pairs_take zero last bytes x fits e =
       subst (λ (y : List (K × V) × List ℕ). AreRead last 0 bytes y.0 y.1) (ok_is ([], bytes) x e) (record { taken = record { parts = refl; rest_fits = fits }; count = refl; each = tt; ascending = refl })
@@ -202,7 +209,8 @@ module _ {K V : Type 0} (cmp : K → K → Ordering) (total : IsTotalOrder cmp) 
         ascending = both (is_above cmp last a.0.0.0) (ascends (Some a.0.0.0) b.0.0) first.1 second.ascending;
       })
 
-  pairs_again : (last : Option K) (ps : List (K × V)) (rest : List ℕ) → AllByRecursion Fits ps → ascends last ps ≡ true → pairs_above_at cmp f g (length ps) last (flat_map (pair s t) ps ++ rest) ≡ Ok (ps, rest)
+  pairs_again : (last : Option K) (ps : List (K × V)) (rest : List ℕ) → AllByRecursion Fits ps → ascends last ps ≡ true
+      → pairs_above_at cmp f g (length ps) last (flat_map (pair s t) ps ++ rest) ≡ Ok (ps, rest)
   unfolding pairs_above_at
   pairs_again last [] rest fits ascending = refl
   pairs_again last (p ∷ ps) rest fits ascending =
@@ -210,7 +218,8 @@ module _ {K V : Type 0} (cmp : K → K → Ordering) (total : IsTotalOrder cmp) 
       let regrouped : flat_map (pair s t) (p ∷ ps) ++ rest ≡ pair s t p ++ (flat_map (pair s t) ps ++ rest) = ap (λ (x : List ℕ). x ++ rest) (flat_map-cons (pair s t) p ps) ∙ append_assoc (pair s t p) (flat_map (pair s t) ps) rest in
       ap (pairs_above_at cmp f g (suc (length ps)) last) regrouped ∙ rw (pair_above_again last p (flat_map (pair s t) ps ++ rest) fits.0 parts.0, pairs_again (Some p.0) ps rest fits.1 parts.1) refl
 
-  list_takes : (bytes : List ℕ) (ps : List (K × V)) → IsBytes bytes → pairs_of cmp f g bytes ≡ Ok ps → ArePairs cmp P Q ps × (bytes ≡ pairs s t ps)
+  list_takes : (bytes : List ℕ) (ps : List (K × V)) → IsBytes bytes → pairs_of cmp f g bytes ≡ Ok ps
+      → ArePairs cmp P Q ps × (bytes ≡ pairs s t ps)
   unfolding pairs_of
   list_takes bytes ps fits e =
       let a = bind_ok (number_at bytes) (λ n. pairs_above_at cmp f g n.0 None n.1 >>= λ x. cond (eqb (length x.1) 0) (Ok x.0) (Err fault.Trailing)) ps e in
@@ -234,7 +243,8 @@ module _ {K V : Type 0} (cmp : K → K → Ordering) (total : IsTotalOrder cmp) 
 
   -- ---- lists inside of others
 
-  part_takes : (bytes : List ℕ) (x : List (K × V) × List ℕ) → IsBytes bytes → list_at cmp f g bytes ≡ Ok x → Takes bytes (pairs s t x.0) x.1 × ArePairs cmp P Q x.0
+  part_takes : (bytes : List ℕ) (x : List (K × V) × List ℕ) → IsBytes bytes → list_at cmp f g bytes ≡ Ok x
+      → Takes bytes (pairs s t x.0) x.1 × ArePairs cmp P Q x.0
   unfolding list_at
   part_takes bytes x fits e =
       let a = bind_ok (number_at bytes) (λ n. pairs_above_at cmp f g n.0 None n.1) x e in
@@ -265,7 +275,8 @@ module _ {K V : Type 0} (cmp : K → K → Ordering) (total : IsTotalOrder cmp) 
 
   -- ---- all of it
 
-  pub all_takes : (kind : ℕ) (bytes : List ℕ) (ps : List (K × V)) → IsBytes bytes → all_of cmp f g kind bytes ≡ Ok ps → ArePairs cmp P Q ps × (bytes ≡ spelling s t kind ps)
+  pub all_takes : (kind : ℕ) (bytes : List ℕ) (ps : List (K × V)) → IsBytes bytes → all_of cmp f g kind bytes ≡ Ok ps
+      → ArePairs cmp P Q ps × (bytes ≡ spelling s t kind ps)
   unfolding all_of
   all_takes kind bytes ps fits e =
       let a = bind_ok (opened kind bytes) (pairs_of cmp f g) ps e in

@@ -29,9 +29,11 @@ pub fn digest_to_bytes(alloc: Global, digest: &Digest) -> Result<Vec<u8>, AllocE
 /// Returns the digest whose bytes these are. The faults are those of `store_from_bytes`. Linear.
 pub fn digest_from_bytes(alloc: Global, bytes: &[u8]) -> Result<Digest, DecodeFault>
     // The bytes are the spelling of the digest, each byte of it.
-    ensures found { IfOk result (λ digest. HasVersionSpelling digest × (bytes.now ≡ digest_spelling digest)) }
+    ensures found { IfOk result
+        (λ digest. HasVersionSpelling digest × (bytes.now ≡ digest_spelling digest)) }
     // The spelling of a digest is read as that digest, unless memory runs out.
-    ensures only { (d : VersionMap) → HasVersionSpelling d → bytes.now ≡ digest_spelling d → Gives (λ digest. digest) result (Ok d) }
+    ensures only { (d : VersionMap) → HasVersionSpelling d → bytes.now ≡ digest_spelling d
+        → Gives (λ digest. digest) result (Ok d) }
     // Which fault it is.
     ensures exact { Gives (λ digest. finmap.entries digest) result (versions_in bytes.now) }
 {

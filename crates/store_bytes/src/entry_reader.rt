@@ -47,7 +47,13 @@ impl<'a> Model for EntryReader<'a> {
 
     ghost Value = { EntriesLeft };
 
-    ghost view = { λ d. record { scopes = d.scopes; scope = d.scope; entries = d.entries; path = d.path; rest = d.rest.now } };
+    ghost view = { λ d. record {
+      scopes = d.scopes;
+      scope = d.scope;
+      entries = d.entries;
+      path = d.path;
+      rest = d.rest.now;
+    } };
 }
 
 impl<'a> EntryReader<'a> {
@@ -83,8 +89,10 @@ impl<'a> EntryReader<'a> {
     /// Reads the next entry with its place, or returns `None` after the last one. `Memory` if memory runs out, else the
     /// first fault in the bytes that are left, which then comes at each call; an error changes nothing.
     pub fn next(&mut self) -> Result<Option<(Place, Entry)>, DecodeFault>
-        ensures next { IfOk result (λ next. Yields next (entries_to_come self.old) (entries_to_come self.new)) }
-        ensures fewer { IfOk result (λ next. IfSome next (λ _. most_left self.new < most_left self.old)) }
+        ensures next { IfOk result
+            (λ next. Yields next (entries_to_come self.old) (entries_to_come self.new)) }
+        ensures fewer { IfOk result
+            (λ next. IfSome next (λ _. most_left self.new < most_left self.old)) }
         ensures fault { IfErr result (λ e. Fails e (entries_to_come self.old)) }
         ensures err { OnErr result (self.new ≡ self.old) }
     {
@@ -103,8 +111,10 @@ impl<'a> EntryReader<'a> {
     // Reads the next entry of the last scope.
     fn next_of_scope(&mut self) -> Result<Option<(Place, Entry)>, DecodeFault>
         requires some { 0 < self.old.entries }
-        ensures next { IfOk result (λ next. Yields next (entries_to_come self.old) (entries_to_come self.new)) }
-        ensures fewer { IfOk result (λ next. IfSome next (λ _. most_left self.new < most_left self.old)) }
+        ensures next { IfOk result
+            (λ next. Yields next (entries_to_come self.old) (entries_to_come self.new)) }
+        ensures fewer { IfOk result
+            (λ next. IfSome next (λ _. most_left self.new < most_left self.old)) }
         ensures fault { IfErr result (λ e. Fails e (entries_to_come self.old)) }
         ensures err { OnErr result (self.new ≡ self.old) }
     {
@@ -122,8 +132,10 @@ impl<'a> EntryReader<'a> {
     fn first_of_next_scope(&mut self) -> Result<Option<(Place, Entry)>, DecodeFault>
         requires none { self.old.entries ≡ 0 }
         requires some { 0 < self.old.scopes }
-        ensures next { IfOk result (λ next. Yields next (entries_to_come self.old) (entries_to_come self.new)) }
-        ensures fewer { IfOk result (λ next. IfSome next (λ _. most_left self.new < most_left self.old)) }
+        ensures next { IfOk result
+            (λ next. Yields next (entries_to_come self.old) (entries_to_come self.new)) }
+        ensures fewer { IfOk result
+            (λ next. IfSome next (λ _. most_left self.new < most_left self.old)) }
         ensures fault { IfErr result (λ e. Fails e (entries_to_come self.old)) }
         ensures err { OnErr result (self.new ≡ self.old) }
     {
@@ -180,7 +192,8 @@ pub fn scope_head_of<'a>(
     last: Option<&Scope>,
     bytes: &'a [u8],
 ) -> Result<((Scope, u64), &'a [u8]), DecodeFault>
-    ensures read { Gives (λ x. (x.0, x.1.now)) result (scope_head_at (option_copied last.entry) bytes.now) }
+    ensures read { Gives (λ x. (x.0, x.1.now)) result
+        (scope_head_at (option_copied last.entry) bytes.now) }
 {
     let (scope, rest) = scope_of(alloc, bytes)?;
     if !is_scope_above(last, &scope) {
@@ -201,7 +214,8 @@ pub fn entry_above<'a>(
     last: Option<&Path>,
     bytes: &'a [u8],
 ) -> Result<((Path, Entry), &'a [u8]), DecodeFault>
-    ensures read { Gives (λ x. (x.0, x.1.now)) result (pair_above_at path_cmp path_at entry_at (option_copied last.entry) bytes.now) }
+    ensures read { Gives (λ x. (x.0, x.1.now)) result
+        (pair_above_at path_cmp path_at entry_at (option_copied last.entry) bytes.now) }
 {
     let (path, rest) = path_of(alloc, bytes)?;
     if !is_path_above(last, &path) {

@@ -31,7 +31,8 @@ pub(crate) fn scope_of(alloc: Global, bytes: &[u8]) -> Result<(Scope, &[u8]), De
 
 // Returns whether these are the parts of a path.
 fn are_path_parts(rank: u8, folder: &[u8], name: &[u8]) -> bool
-    ensures parts { result ≡ is_path (record { rank = rank; folder = folder.now; name = name.now }) }
+    ensures parts { result ≡ is_path
+        (record { rank = rank; folder = folder.now; name = name.now }) }
 {
     rank < 4 && (folder.is_empty() || is_component(folder)) && is_component(name)
 }

@@ -12,7 +12,8 @@ use std::alloc::AllocError;
 
 // Appends entries in place order, by scope: each scope with its entries by path.
 pub(crate) fn put_scopes(out: &mut Vec<u8>, list: &[(Place, Entry)]) -> Result<(), AllocError>
-    ensures written { OnOk result (out.new.items ≡ out.old.items ++ pairs scope (pairs path entry) (parted list.now)) }
+    ensures written { OnOk result
+        (out.new.items ≡ out.old.items ++ pairs scope (pairs path entry) (parted list.now)) }
     ensures fits { OnOk result (AreFit (parted list.now)) }
 {
     put_number(out, count_scopes(list))?;
@@ -34,7 +35,9 @@ fn count_scopes(list: &[(Place, Entry)]) -> u64
 
 // Appends each scope with its entries.
 fn put_each(out: &mut Vec<u8>, list: &[(Place, Entry)]) -> Result<(), AllocError>
-    ensures written { OnOk result (out.new.items ≡ out.old.items ++ flat_map (pair scope (pairs path entry)) (parted list.now)) }
+    ensures written { OnOk result
+        (out.new.items
+        ≡ out.old.items ++ flat_map (pair scope (pairs path entry)) (parted list.now)) }
     ensures fits { OnOk result (AreFit (parted list.now)) }
 {
     let mut rest = list;
@@ -48,7 +51,8 @@ fn put_each(out: &mut Vec<u8>, list: &[(Place, Entry)]) -> Result<(), AllocError
 
 // Appends entries of one scope by path.
 fn put_entries(out: &mut Vec<u8>, own: &[(Place, Entry)]) -> Result<(), AllocError>
-    ensures written { OnOk result (out.new.items ≡ out.old.items ++ pairs path entry (by_path own.now)) }
+    ensures written { OnOk result
+        (out.new.items ≡ out.old.items ++ pairs path entry (by_path own.now)) }
     ensures fits { OnOk result (AllByRecursion (λ p. IsPath p.0 × IsEntry p.1) (by_path own.now)) }
 {
     put_number(out, own.len() as u64)?;

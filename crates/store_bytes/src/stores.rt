@@ -30,7 +30,8 @@ pub fn store_from_bytes(alloc: Global, bytes: &[u8]) -> Result<Store, DecodeFaul
     // The bytes are the spelling of the store, each byte of it.
     ensures found { IfOk result (λ store. HasSpelling store × (bytes.now ≡ spelling_of 1 store)) }
     // The spelling of a store is read as that store, unless memory runs out.
-    ensures only { (s : EntryMap) → HasSpelling s → bytes.now ≡ spelling_of 1 s → Gives (λ store. store) result (Ok s) }
+    ensures only { (s : EntryMap) → HasSpelling s → bytes.now ≡ spelling_of 1 s
+        → Gives (λ store. store) result (Ok s) }
     // Which fault it is.
     ensures exact { Gives (λ store. finmap.entries store) result (entries_in 1 bytes.now) }
 {
@@ -60,7 +61,8 @@ pub fn piece_from_bytes(alloc: Global, bytes: &[u8]) -> Result<Piece, DecodeFaul
     // The bytes are the spelling of the piece, each byte of it.
     ensures found { IfOk result (λ piece. HasSpelling piece × (bytes.now ≡ spelling_of 2 piece)) }
     // The spelling of a piece is read as that piece, unless memory runs out.
-    ensures only { (s : EntryMap) → HasSpelling s → bytes.now ≡ spelling_of 2 s → Gives (λ piece. piece) result (Ok s) }
+    ensures only { (s : EntryMap) → HasSpelling s → bytes.now ≡ spelling_of 2 s
+        → Gives (λ piece. piece) result (Ok s) }
     // Which fault it is.
     ensures exact { Gives (λ piece. finmap.entries piece) result (entries_in 2 bytes.now) }
 {
@@ -82,7 +84,8 @@ fn bytes_of(kind: u8, store: &Store) -> Result<Vec<u8>, AllocError>
 
 // Returns the bytes of a store without their checksum.
 fn covered_of(kind: u8, store: &Store) -> Result<Vec<u8>, AllocError>
-    ensures covered { IfOk result (λ bytes. bytes.items ≡ covered scope (pairs path entry) kind (scopes_of store.now)) }
+    ensures covered { IfOk result
+        (λ bytes. bytes.items ≡ covered scope (pairs path entry) kind (scopes_of store.now)) }
     ensures spelled { IfOk result (λ _. HasSpelling store.now) }
 {
     let mut out = head_of(store.allocator(), kind)?;
@@ -92,7 +95,8 @@ fn covered_of(kind: u8, store: &Store) -> Result<Vec<u8>, AllocError>
 
 /// Appends the entries of a store by scope. Fails only if memory runs out; part of them may then be there.
 pub fn put_store(out: &mut Vec<u8>, store: &Store) -> Result<(), AllocError>
-    ensures written { OnOk result (out.new.items ≡ out.old.items ++ pairs scope (pairs path entry) (scopes_of store.now)) }
+    ensures written { OnOk result
+        (out.new.items ≡ out.old.items ++ pairs scope (pairs path entry) (scopes_of store.now)) }
     ensures spelled { OnOk result (HasSpelling store.now) }
 {
     let list = entries_of(store)?;
@@ -114,8 +118,10 @@ fn entries_of(store: &Store) -> Result<Vec<(Place, Entry)>, AllocError>
 
 // Returns the store that bytes of this kind spell.
 fn read_store(alloc: Global, kind: u8, bytes: &[u8]) -> Result<Store, DecodeFault>
-    ensures found { IfOk result (λ store. HasSpelling store × (bytes.now ≡ spelling_of kind store)) }
-    ensures only { (s : EntryMap) → HasSpelling s → bytes.now ≡ spelling_of kind s → Gives (λ store. store) result (Ok s) }
+    ensures found { IfOk result
+        (λ store. HasSpelling store × (bytes.now ≡ spelling_of kind store)) }
+    ensures only { (s : EntryMap) → HasSpelling s → bytes.now ≡ spelling_of kind s
+        → Gives (λ store. store) result (Ok s) }
     ensures exact { Gives (λ store. finmap.entries store) result (entries_in kind bytes.now) }
 {
     gather(alloc, kind, bytes)

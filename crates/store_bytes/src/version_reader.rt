@@ -69,7 +69,8 @@ impl<'a> VersionReader<'a> {
     /// Reads the next version with its place, or returns `None` after the last one. `Memory` if memory runs out, else the
     /// first fault in the bytes that are left, which then comes at each call; an error changes nothing.
     pub fn next(&mut self) -> Result<Option<(Place, Version)>, DecodeFault>
-        ensures next { IfOk result (λ next. Yields next (versions_to_come self.old) (versions_to_come self.new)) }
+        ensures next { IfOk result
+            (λ next. Yields next (versions_to_come self.old) (versions_to_come self.new)) }
         ensures fewer { IfOk result (λ next. IfSome next (λ _. self.new.count < self.old.count)) }
         ensures fault { IfErr result (λ e. Fails e (versions_to_come self.old)) }
         ensures err { OnErr result (self.new ≡ self.old) }
@@ -108,7 +109,8 @@ pub fn version_above<'a>(
     last: Option<&Place>,
     bytes: &'a [u8],
 ) -> Result<((Place, Version), &'a [u8]), DecodeFault>
-    ensures read { Gives (λ x. (x.0, x.1.now)) result (pair_above_at place_cmp place_at version_at (option_copied last.entry) bytes.now) }
+    ensures read { Gives (λ x. (x.0, x.1.now)) result
+        (pair_above_at place_cmp place_at version_at (option_copied last.entry) bytes.now) }
 {
     let (place, rest) = place_of(alloc, bytes)?;
     if !is_place_above(last, &place) {

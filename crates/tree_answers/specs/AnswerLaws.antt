@@ -27,7 +27,8 @@ loaded_back profile n c x is loaded =
     not_loaded : {Z : Type 0} (y : Status) → x ≡ y → is_loaded_by y ≡ false → Z
     not_loaded y e f = absurd (true≢false (sym loaded ∙ ap is_loaded_by e ∙ f))
 
-    of_choice : (d : Choice) → c ≡ d → is_loaded_without_file profile n c ≡ false → IsChoicesStatus (choice_at_fleet d) x → IsLoadedBy profile n c
+    of_choice : (d : Choice) → c ≡ d → is_loaded_without_file profile n c ≡ false
+        → IsChoicesStatus (choice_at_fleet d) x → IsLoadedBy profile n c
     of_choice chosen.NotFound e f h = not_loaded status.NotFound h refl
     of_choice chosen.Masked e f h = not_loaded status.Masked h refl
     of_choice (chosen.Fragment q) e f h = record {
@@ -39,7 +40,8 @@ loaded_back profile n c x is loaded =
     of_choice (chosen.Alias m) e f h = absurd h
     of_choice (chosen.Bad cause) e f h = not_loaded (status.Bad cause) h refl
 
-    by : (without_file : Bool) → is_loaded_without_file profile n c ≡ without_file → IsStatusBy without_file (choice_at_fleet c) x → IsLoadedBy profile n c
+    by : (without_file : Bool) → is_loaded_without_file profile n c ≡ without_file
+        → IsStatusBy without_file (choice_at_fleet c) x → IsLoadedBy profile n c
     by true f h = record { status = status.BuiltIn; status_is = subst (λ (b : Bool). IsStatusBy b c status.BuiltIn) (sym f) refl; loaded = refl }
     by false f h = of_choice c refl f h
 
@@ -110,12 +112,14 @@ no_host (question.Plan request) = refl
 no_host (question.Units viewer) = refl
 
 -- If the views of a host and of a store without a host are alike, and none is crossed, each question has the same answer.
-pub answer_there : (s t : EntryMap) (viewer : Viewer) → IsAlike (host_view_of s viewer) (host_view_of t (of_fleet viewer.profile)) → (extra : List Name)
+pub answer_there : (s t : EntryMap) (viewer : Viewer)
+    → IsAlike (host_view_of s viewer) (host_view_of t (of_fleet viewer.profile)) → (extra : List Name)
     (asking : Question) → viewer_asked asking ≡ viewer → ((n : Name) → IsAmong n (asked extra asking) → IsName n)
     → ((n : Name) (u : LoadedUnit) → IsInUniverse (host_view_of s viewer) (asked extra asking) n → IsUnit (host_view_of s viewer) n u
     → ReadsAlike (host_view_of s viewer) (host_view_of t (of_fleet viewer.profile)) u.names)
     → (a : Answer) → IsAnswer s extra asking a
-    → (b : Answer) × IsAnswer t extra (without_host asking) b × AreSameAnswers (host_view_of s viewer) (host_view_of t (of_fleet viewer.profile)) a b
+    → (b : Answer) × IsAnswer t extra (without_host asking) b
+    × AreSameAnswers (host_view_of s viewer) (host_view_of t (of_fleet viewer.profile)) a b
 answer_there s t viewer over extra asking is good reads a h = by h
   where
     same : asked extra (without_host asking) ≡ asked extra asking
@@ -136,7 +140,8 @@ answer_there s t viewer over extra asking is good reads a h = by h
         (b.0, subst Q (sym same) (subst P (sym bare_is) b.1), b.2)
 
     by : IsAnswer s extra asking a
-        → (b : Answer) × IsAnswer t extra (without_host asking) b × AreSameAnswers (host_view_of s viewer) (host_view_of t (of_fleet viewer.profile)) a b
+        → (b : Answer) × IsAnswer t extra (without_host asking) b
+        × AreSameAnswers (host_view_of s viewer) (host_view_of t (of_fleet viewer.profile)) a b
     by (inl template) = (
       answer.Template,
       inl (subst HasTemplate (sym same) template.0, refl),
@@ -148,7 +153,8 @@ answer_there s t viewer over extra asking is good reads a h = by h
 
 -- A host and a store that shows just its tree are alike.
 pub trees_are_alike : TreesResolveAlike → TreesNameAlike → TreesShowTheSameNames → TreesHaveTheSameFragments
-    → (s t : EntryMap) (viewer : Viewer) → ShowsTree t s viewer.host → IsAlike (host_view_of s viewer) (host_view_of t (of_fleet viewer.profile))
+    → (s t : EntryMap) (viewer : Viewer) → ShowsTree t s viewer.host
+    → IsAlike (host_view_of s viewer) (host_view_of t (of_fleet viewer.profile))
 trees_are_alike resolves names visible fragments s t viewer shows = record {
   profile = refl;
   resolved = resolves s t viewer shows;

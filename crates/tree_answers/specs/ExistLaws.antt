@@ -200,7 +200,8 @@ module _ (v : HostViewMap) (names : List Name) where
 -- ---- units
 
 -- a unit with this status has all of it, if it has the settings of its fragment
-has_all : (v : HostViewMap) (unit : LoadedUnit) (x : Status) (fragment : Option PlaceParts) → fragment_by x ≡ fragment → IsTrue (is_loaded_by x)
+has_all : (v : HostViewMap) (unit : LoadedUnit) (x : Status) (fragment : Option PlaceParts) → fragment_by x ≡ fragment
+    → IsTrue (is_loaded_by x)
     → HasSettings v fragment unit → HasAllOf v unit x
 has_all v unit (status.Loaded place) fragment e loaded h = subst (λ (f : Option PlaceParts). HasSettings v f unit) (sym e) h
 has_all v unit status.BuiltIn fragment e loaded h = subst (λ (f : Option PlaceParts). HasSettings v f unit) (sym e) h

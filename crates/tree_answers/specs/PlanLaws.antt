@@ -12,7 +12,8 @@ module _ (v w : HostViewMap) where
   loaded_same None p e = ap is_loaded e
   loaded_same (Some u) p (t, same, at) = ap is_loaded at ∙ ap is_loaded_by same.status_is ∙ loaded_at_fleet u.status
 
-  perpetual_same : (profile : Profile) (o p : Option LoadedUnit) → IsSameUnitFound v w o p → is_perpetual_by profile p ≡ is_perpetual_by profile o
+  perpetual_same : (profile : Profile) (o p : Option LoadedUnit) → IsSameUnitFound v w o p
+      → is_perpetual_by profile p ≡ is_perpetual_by profile o
   perpetual_same profile None p e = ap (is_perpetual_by profile) e
   perpetual_same Files (Some u) p (t, same, at) = ap (is_perpetual_by Files) at
   perpetual_same Manager (Some u) p (t, same, at) = ap (is_perpetual_by Manager) at ∙ ap is_perpetual same.name_is
@@ -28,7 +29,8 @@ module _ (v w : HostViewMap) where
   status_same None p e = ap status_of e
   status_same (Some u) p (t, same, at) = ap status_of at ∙ ap (λ (x : Status). Some x) same.status_is
 
-  module _ (load other : LoadMap) (same : AreSamePairs v w load.names other.names) (profile : load.viewer.profile ≡ other.viewer.profile) (all : EdgeMap) (request : Request) where
+  module _ (load other : LoadMap) (same : AreSamePairs v w load.names other.names)
+      (profile : load.viewer.profile ≡ other.viewer.profile) (all : EdgeMap) (request : Request) where
     abbrev bare : Request
     bare = record request { viewer = of_fleet request.viewer.profile }
 
@@ -39,7 +41,8 @@ module _ (v w : HostViewMap) where
     running_alike [] = refl
     running_alike (n ∷ ns) = (λ i. main_alike n i ∷ running_alike ns i)
 
-    always_alike : (u : Name) → is_perpetual_by load.viewer.profile (unit_in load u) ≡ is_perpetual_by other.viewer.profile (unit_in other u)
+    always_alike : (u : Name)
+        → is_perpetual_by load.viewer.profile (unit_in load u) ≡ is_perpetual_by other.viewer.profile (unit_in other u)
     always_alike u =
         ap (λ by. is_perpetual_by by (unit_in load u)) profile
         ∙ sym (perpetual_same other.viewer.profile (unit_in load u) (unit_in other u) (units_found v w load other same u))

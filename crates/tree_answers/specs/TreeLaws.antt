@@ -7,7 +7,8 @@ abbrev pub TreesHaveTheSameUnits : Type 0
 TreesHaveTheSameUnits =
     (s t : EntryMap) (viewer : Viewer) → ShowsTree t s viewer.host → (name : Name) → IsName name → (unit : LoadedUnit)
     → IsUnit (host_view_of s viewer) name unit → ReadsAlike (host_view_of s viewer) (host_view_of t (of_fleet viewer.profile)) unit.names
-    → (other : LoadedUnit) × IsUnit (host_view_of t (of_fleet viewer.profile)) name other × AreSameUnits (host_view_of s viewer) (host_view_of t (of_fleet viewer.profile)) unit other
+    → (other : LoadedUnit) × IsUnit (host_view_of t (of_fleet viewer.profile)) name other
+    × AreSameUnits (host_view_of s viewer) (host_view_of t (of_fleet viewer.profile)) unit other
 
 -- Of the units that are loaded for a host with these names asked for, none is crossed.
 abbrev pub NoneIsCrossed : EntryMap → Viewer → List Name → Type 0
@@ -21,7 +22,8 @@ TreesAnswerAlike =
     (s t : EntryMap) (viewer : Viewer) → ShowsTree t s viewer.host → (extra : List Name) (question : Question) → viewer_asked question ≡ viewer
     → ((n : Name) → IsAmong n (asked extra question) → IsName n) → NoneIsCrossed s viewer (asked extra question)
     → (a : Answer) → IsAnswer s extra question a
-    → (b : Answer) × IsAnswer t extra (without_host question) b × AreSameAnswers (host_view_of s viewer) (host_view_of t (of_fleet viewer.profile)) a b
+    → (b : Answer) × IsAnswer t extra (without_host question) b
+    × AreSameAnswers (host_view_of s viewer) (host_view_of t (of_fleet viewer.profile)) a b
 
 pub trees_have_the_same_units : TreesHaveTheSameUnits
 trees_have_the_same_units = unit_in_tree trees_resolve_alike trees_name_alike trees_have_the_same_fragments

@@ -58,7 +58,8 @@ fragment_chosen s n p own e = by (resolution s n) own (resolution_resolves s n) 
     by r own (goes_on u chain) e = cc (e)
 
 -- whether a unit is loaded without a file doesn't depend on places
-pub same_without_file : (profile : Profile) (n : Name) (c : Choice) → is_loaded_without_file profile n (choice_at_fleet c) ≡ is_loaded_without_file profile n c
+pub same_without_file : (profile : Profile) (n : Name) (c : Choice)
+    → is_loaded_without_file profile n (choice_at_fleet c) ≡ is_loaded_without_file profile n c
 same_without_file Files n c = refl
 same_without_file Manager n chosen.NotFound = refl
 same_without_file Manager n chosen.Masked = refl
@@ -73,18 +74,21 @@ of_choice (chosen.Fragment place) x h = ap status_at_fleet h
 of_choice (chosen.Alias other) x h = absurd h
 of_choice (chosen.Bad cause) x h = ap status_at_fleet h
 
-status_by : (without_file : Bool) (c : Choice) (x : Status) → IsStatusBy without_file c x → IsStatusBy without_file (choice_at_fleet c) (status_at_fleet x)
+status_by : (without_file : Bool) (c : Choice) (x : Status) → IsStatusBy without_file c x
+    → IsStatusBy without_file (choice_at_fleet c) (status_at_fleet x)
 status_by true c x h = ap status_at_fleet h
 status_by false c x h = of_choice c x h
 
-status_there : (profile : Profile) (n : Name) (c : Choice) (x : Status) → IsStatus profile n c x → IsStatus profile n (choice_at_fleet c) (status_at_fleet x)
+status_there : (profile : Profile) (n : Name) (c : Choice) (x : Status) → IsStatus profile n c x
+    → IsStatus profile n (choice_at_fleet c) (status_at_fleet x)
 status_there profile n c x h =
     subst (λ (b : Bool). IsStatusBy b (choice_at_fleet c) (status_at_fleet x)) (sym (same_without_file profile n c))
     (status_by (is_loaded_without_file profile n c) c x h)
 
 -- ---- the unit in the tree
 
-module _ (v w : HostViewMap) (profile : v.profile ≡ w.profile) (name : Name) (u : LoadedUnit) (is : IsUnit v name u) (alike : ReadsAlike v w u.names)
+module _ (v w : HostViewMap) (profile : v.profile ≡ w.profile) (name : Name) (u : LoadedUnit) (is : IsUnit v name u)
+    (alike : ReadsAlike v w u.names)
     (resolved : resolution w name ≡ resolution_at_fleet (resolution v name)) (named : AreNames w name u.names)
     (shown : (p : PlaceParts) → choice v name ≡ chosen.Fragment p → content_at w (within Fleet p.path) ≡ content_at v p) where
   main_there : main w name ≡ name
@@ -140,7 +144,8 @@ module _ (v w : HostViewMap) (profile : v.profile ≡ w.profile) (name : Name) (
 
   -- files with such a fragment have the contents and the file names that they had
   contents_with : (fragment : Option PlaceParts) → IsShownToo fragment → (places dropins : List PlaceParts)
-      → map (content_at w) places ≡ map (content_at v) dropins → map (content_at w) (files_with (moved fragment) places) ≡ map (content_at v) (files_with fragment dropins)
+      → map (content_at w) places ≡ map (content_at v) dropins
+      → map (content_at w) (files_with (moved fragment) places) ≡ map (content_at v) (files_with fragment dropins)
   contents_with None shows places dropins same = same
   contents_with (Some p) shows places dropins same = (λ i. shows p refl i ∷ same i)
 
@@ -252,10 +257,12 @@ module _ (v w : HostViewMap) (profile : v.profile ≡ w.profile) (name : Name) (
   same_unit = same_by u.status refl is.has
 
 -- A unit is the same in the tree, where its drop-ins and links agree.
-pub unit_in_tree : TreesResolveAlike → TreesNameAlike → TreesHaveTheSameFragments → (s t : EntryMap) (viewer : Viewer) → ShowsTree t s viewer.host
+pub unit_in_tree : TreesResolveAlike → TreesNameAlike → TreesHaveTheSameFragments → (s t : EntryMap) (viewer : Viewer)
+    → ShowsTree t s viewer.host
     → (name : Name) → IsName name → (unit : LoadedUnit) → IsUnit (host_view_of s viewer) name unit
     → ReadsAlike (host_view_of s viewer) (host_view_of t (of_fleet viewer.profile)) unit.names
-    → (other : LoadedUnit) × IsUnit (host_view_of t (of_fleet viewer.profile)) name other × AreSameUnits (host_view_of s viewer) (host_view_of t (of_fleet viewer.profile)) unit other
+    → (other : LoadedUnit) × IsUnit (host_view_of t (of_fleet viewer.profile)) name other
+    × AreSameUnits (host_view_of s viewer) (host_view_of t (of_fleet viewer.profile)) unit other
 unit_in_tree resolves names fragments s t viewer shows name good unit is alike =
     same_unit (host_view_of s viewer) (host_view_of t (of_fleet viewer.profile)) refl name unit is alike (resolves s t viewer shows name good)
     ((names s t viewer shows name unit.names).0 is.names_are) (λ p e. fragments s t viewer shows name good p e)

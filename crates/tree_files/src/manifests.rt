@@ -58,7 +58,8 @@ fn cut_line(text: &[u8]) -> Option<(&[u8], &[u8])>
 
 // The paths of lines. None if a line is no path, or the last has no line feed.
 fn paths_of_lines(alloc: Global, lines: &[u8]) -> Result<Option<Vec<Path>>, AllocError>
-    ensures paths { IfOk result (λ found. IfSome found (λ paths. lines.now ≡ lines_text paths.items)) }
+    ensures paths { IfOk result
+        (λ found. IfSome found (λ paths. lines.now ≡ lines_text paths.items)) }
 {
     let mut paths = Vec::new(alloc);
     let mut rest = lines;
@@ -77,7 +78,8 @@ fn paths_of_lines(alloc: Global, lines: &[u8]) -> Result<Option<Vec<Path>>, Allo
 
 /// Returns the paths that a manifest lists. None if the bytes are no manifest. Linear. Fails only if memory runs out.
 pub fn paths_in(alloc: Global, bytes: &[u8]) -> Result<Option<Vec<Path>>, AllocError>
-    ensures paths { IfOk result (λ found. IfSome found (λ paths. bytes.now ≡ manifest_text paths.items)) }
+    ensures paths { IfOk result
+        (λ found. IfSome found (λ paths. bytes.now ≡ manifest_text paths.items)) }
 {
     match bytes.strip_prefix(TITLE) {
         Some(lines) => paths_of_lines(alloc, lines),

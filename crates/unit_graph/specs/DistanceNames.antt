@@ -3,7 +3,8 @@ use Rattle.std.proofs.Common.{◌<◌, ◌∷◌, ◌≡◌}
 use Rattle.unit_graph.specs.Prelude.{[], AllByRecursion, among_mapped, ap, AreNamedSuccessors, AreNames, chains_named, distance_cmp, index_of, inl, inr, IsAmong, IsChain, IsDistance, IsDistances, IsIndexing, IsStrictlySortedBy, IsTotalOrder, Less, List, map, mapped_from, names_compare, nat_cmp, Ordering, ordering_then, refl, subst, ℕ, ◌∙◌}
 
 module _ {N : Type 0} (count : ℕ) (name : ℕ → N) (order : N → N → Ordering) (total : IsTotalOrder order) (n : IsIndexing count name order)
-    (S : ℕ → Type 0) (S' : N → Type 0) (E : ℕ → ℕ → Type 0) (E' : N → N → Type 0) (sources : AreNames count name S S') (successors : AreNamedSuccessors count name E E') where
+    (S : ℕ → Type 0) (S' : N → Type 0) (E : ℕ → ℕ → Type 0) (E' : N → N → Type 0) (sources : AreNames count name S S')
+    (successors : AreNamedSuccessors count name E E') where
   chains : (k : ℕ) → AreNames count name (IsChain S E k) (IsChain S' E' k)
   chains = chains_named count name S S' E E' sources successors
 
@@ -26,14 +27,16 @@ module _ {N : Type 0} (count : ℕ) (name : ℕ → N) (order : N → N → Orde
       (r.0, (record { chain = r.1.0; least = λ j c. d.least j (subst (IsChain S' E' j) r.1.1 ((chains j).named r.0 c)) }, r.1.1))
 
   below_named : (k i : ℕ) (ps : List (ℕ × ℕ)) → i < count → ((p : ℕ × ℕ) → IsAmong p ps → p.1 < count)
-      → AllByRecursion (λ p. distance_cmp (λ v. ⊥) E nat_cmp (k, i) p ≡ Less) ps → AllByRecursion (λ p. distance_cmp (λ v. ⊥) E' order (k, name i) p ≡ Less) (map named ps)
+      → AllByRecursion (λ p. distance_cmp (λ v. ⊥) E nat_cmp (k, i) p ≡ Less) ps
+      → AllByRecursion (λ p. distance_cmp (λ v. ⊥) E' order (k, name i) p ≡ Less) (map named ps)
   below_named k i [] l w a = tt
   below_named k i (p ∷ ps) l w a = (
     ap (λ r. ordering_then (nat_cmp k p.0) r) (names_compare count name order total n i p.1 l (w p (inl refl))) ∙ a.0,
     below_named k i ps l (λ q h. w q (inr h)) a.1,
   )
 
-  ascending : (ps : List (ℕ × ℕ)) → ((p : ℕ × ℕ) → IsAmong p ps → p.1 < count) → IsStrictlySortedBy (distance_cmp S E nat_cmp) ps → IsStrictlySortedBy (distance_cmp S' E' order) (map named ps)
+  ascending : (ps : List (ℕ × ℕ)) → ((p : ℕ × ℕ) → IsAmong p ps → p.1 < count)
+      → IsStrictlySortedBy (distance_cmp S E nat_cmp) ps → IsStrictlySortedBy (distance_cmp S' E' order) (map named ps)
   unfolding IsStrictlySortedBy
   ascending [] w s = tt
   ascending (p ∷ ps) w s = (below_named p.0 p.1 ps (w p (inl refl)) (λ q h. w q (inr h)) s.0, ascending ps (λ q h. w q (inr h)) s.1)

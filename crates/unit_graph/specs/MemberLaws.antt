@@ -42,17 +42,20 @@ below_more : (x n : Name) (one : NameLoad) (es : List (Name × NameLoad)) → Is
 below_more x n (OfUnit unit) es r l rest = (ap (name_cmp x) r ∙ l, rest)
 below_more x n (OfAlias of) es r l rest = rest
 
-below_names : (x : Name) (es : List (Name × NameLoad)) → AreRight es → IsTrue (below_all name_cmp x es) → AllByRecursion (λ y. name_cmp x y ≡ Less) (names_in_pairs es)
+below_names : (x : Name) (es : List (Name × NameLoad)) → AreRight es → IsTrue (below_all name_cmp x es)
+    → AllByRecursion (λ y. name_cmp x y ≡ Less) (names_in_pairs es)
 below_names x [] r b = tt
 below_names x (e ∷ es) r b = below_more x e.0 e.1 es r.0 (is_less _ (and_parts _ _ b).0) (below_names x es r.1 (and_parts _ _ b).1)
 
-ascending_more : (n : Name) (one : NameLoad) (es : List (Name × NameLoad)) → IsRight n one → AllByRecursion (λ y. name_cmp n y ≡ Less) (names_in_pairs es)
+ascending_more : (n : Name) (one : NameLoad) (es : List (Name × NameLoad)) → IsRight n one
+    → AllByRecursion (λ y. name_cmp n y ≡ Less) (names_in_pairs es)
     → IsStrictlySortedBy name_cmp (names_in_pairs es) → IsStrictlySortedBy name_cmp (with_part one es)
 unfolding IsStrictlySortedBy
 ascending_more n (OfUnit unit) es r below rest = (subst (λ m. AllByRecursion (λ y. name_cmp m y ≡ Less) (names_in_pairs es)) (sym r) below, rest)
 ascending_more n (OfAlias of) es r below rest = rest
 
-ascending_names : (es : List (Name × NameLoad)) → AreRight es → IsTrue (is_sorted name_cmp es) → IsStrictlySortedBy name_cmp (names_in_pairs es)
+ascending_names : (es : List (Name × NameLoad)) → AreRight es → IsTrue (is_sorted name_cmp es)
+    → IsStrictlySortedBy name_cmp (names_in_pairs es)
 unfolding IsStrictlySortedBy
 ascending_names [] r s = tt
 ascending_names (e ∷ es) r s = ascending_more e.0 e.1 es r.0 (below_names e.0 es r.1 (and_parts _ _ s).0) (ascending_names es r.1 (and_parts _ _ s).1)
@@ -61,7 +64,8 @@ ascending_names (e ∷ es) r s = ascending_more e.0 e.1 es r.0 (below_names e.0 
 abbrev Stands : Name → List (Name × NameLoad) → Type 0
 Stands v es = (unit : LoadedUnit) × IsAmong {X = Name × NameLoad} (v, OfUnit unit) es
 
-stands_more : (v n : Name) (one : NameLoad) (es : List (Name × NameLoad)) → IsRight n one → (IsAmong v (names_in_pairs es) → Stands v es) → IsAmong v (with_part one es) → Stands v ((n, one) ∷ es)
+stands_more : (v n : Name) (one : NameLoad) (es : List (Name × NameLoad)) → IsRight n one
+    → (IsAmong v (names_in_pairs es) → Stands v es) → IsAmong v (with_part one es) → Stands v ((n, one) ∷ es)
 stands_more v n (OfUnit unit) es r more (inl e) = (unit, inl (ap (λ (m : Name). let p : Name × NameLoad = (m, OfUnit unit) in p) (sym r ∙ e)))
 stands_more v n (OfUnit unit) es r more (inr h) = let q = more h in (q.0, inr q.1)
 stands_more v n (OfAlias of) es r more h = let q = more h in (q.0, inr q.1)
@@ -99,7 +103,8 @@ members_are_units s extra load l =
     of_part (OfUnit u) unit e = let f : u ≡ unit = cc (e) in ap OfUnit f
     of_part (OfAlias of) unit e = absurd (none-some _ e)
 
-    back : (v : Name) → AreRight load.names → (unit : LoadedUnit) → (o : Option NameLoad) → load_at load v ≡ o → option_and_then unit_part o ≡ Some unit → IsAmong v (members_in load)
+    back : (v : Name) → AreRight load.names → (unit : LoadedUnit) → (o : Option NameLoad) → load_at load v ≡ o
+        → option_and_then unit_part o ≡ Some unit → IsAmong v (members_in load)
     back v right unit None e f = absurd (none-some _ f)
     back v right unit (Some one) e f =
         listed v unit load.names right (find_among name_cmp name_cmp-IsAntisymmetric v load.names (OfUnit unit) (e ∙ ap Some (of_part one unit f)))

@@ -112,7 +112,8 @@ impl<'a> Graph<'a> {
     /// Returns the index of the unit that a name resolves to: the position of the unit's main name among all names.
     /// None if the name resolves to no unit. O(log n); allocates nothing.
     pub fn index(&self, name: &UnitName) -> Option<usize>
-        ensures index { MatchOption result (¬ IsKnown self.now.load name.now) (IsIndexFor self.now.load name.now) }
+        ensures index { MatchOption result (¬ IsKnown self.now.load name.now)
+            (IsIndexFor self.now.load name.now) }
     {
         self.indexed().index(name)
     }

@@ -39,7 +39,10 @@ impl<'a> Model for IndexedGraph<'a> {
 
     ghost coded = { coded_graph };
 
-    ghost view = { λ g. record { load = g.loaded.now; edges = edge_map (keys_of g.loaded.now.names) g.table.now } };
+    ghost view = { λ g. record {
+      load = g.loaded.now;
+      edges = edge_map (keys_of g.loaded.now.names) g.table.now;
+    } };
 
     ghost invariant = { λ g. IsEdgeTable g.loaded.now g.table.now };
 }
@@ -68,7 +71,8 @@ impl<'a> IndexedGraph<'a> {
     /// Returns the index of the unit that a name resolves to: the position of the unit's main name among all names.
     /// None if the name resolves to no unit. One search: O(log n); allocates nothing.
     pub fn index(&self, name: &UnitName) -> Option<usize>
-        ensures index { MatchOption result (¬ IsKnown self.now.load name.now) (IsIndexFor self.now.load name.now) }
+        ensures index { MatchOption result (¬ IsKnown self.now.load name.now)
+            (IsIndexFor self.now.load name.now) }
     {
         main_index(self.loaded, name)
     }
@@ -78,9 +82,11 @@ impl<'a> IndexedGraph<'a> {
     /// Returns the edges of these kinds from each unit, by index. Indices follow the names' byte order, and no edge
     /// starts at an alias. Fails only if memory runs out. O(the number of kinds): the adjacency lists are borrowed.
     pub fn successors<'b>(&'b self, kinds: &[DepKind]) -> Result<Successors<'b>, AllocError>
-        ensures successors { IfOk result (λ successors. AreNamedSuccessors (count_of self.now.load) (name_at self.now.load)
+        ensures successors { IfOk result
+            (λ successors. AreNamedSuccessors (count_of self.now.load) (name_at self.now.load)
             (Named (successors_from successors)) (LeadsBy self.now.edges kinds.now)) }
-        ensures within { IfOk result (λ successors. AreSuccessorsOf (count_of self.now.load) successors) }
+        ensures within { IfOk result
+            (λ successors. AreSuccessorsOf (count_of self.now.load) successors) }
     {
         let mut successors = Successors::new(self.loaded.allocator());
         for kind in kinds {
@@ -92,8 +98,8 @@ impl<'a> IndexedGraph<'a> {
     /// Returns the edges of one kind, by index: an adjacency list for each name, in ascending order, empty for an
     /// alias. Allocates nothing.
     pub fn adjacency(&self, kind: DepKind) -> &AdjacencyLists
-        ensures successors { AreNamedSuccessors (count_of self.now.load) (name_at self.now.load) (Named (neighbors_of result.now))
-            (LeadsBy self.now.edges (kind ∷ [])) }
+        ensures successors { AreNamedSuccessors (count_of self.now.load) (name_at self.now.load)
+            (Named (neighbors_of result.now)) (LeadsBy self.now.edges (kind ∷ [])) }
         ensures adjacency { AreAdjacencyOf (count_of self.now.load) result.now }
         ensures ascending { (u : ℕ) → IsStrictlySortedBy nat_cmp (neighbors_of result.now u) }
     {
@@ -160,7 +166,8 @@ fn named_distances(
     pairs: &[(usize, usize)],
 ) -> Result<Vec<(u64, UnitName)>, AllocError>
     requires pairs { All (λ p. p.1 < count_of loaded.now) pairs.now }
-    ensures named { IfOk result (λ named. named.items ≡ map (λ p. (p.0, name_at loaded.now p.1)) pairs.now) }
+    ensures named { IfOk result
+        (λ named. named.items ≡ map (λ p. (p.0, name_at loaded.now p.1)) pairs.now) }
 {
     let names = loaded.names();
     let mut named = Vec::new(loaded.allocator());

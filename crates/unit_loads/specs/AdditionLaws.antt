@@ -43,7 +43,9 @@ placed TriggeredBy h = refl
 placed InSlice h = refl
 placed other h = absurd (true≢false h)
 
-below_last : (kinds : List DepKind) (dep : DepKind) → AllByRecursion (λ kind. nat_eq (place_of_kind kind) 15 ≡ false) kinds → IsAmong dep kinds → nat_eq (place_of_kind dep) 15 ≡ false
+below_last : (kinds : List DepKind) (dep : DepKind)
+    → AllByRecursion (λ kind. nat_eq (place_of_kind kind) 15 ≡ false) kinds → IsAmong dep kinds
+    → nat_eq (place_of_kind dep) 15 ≡ false
 below_last [] dep a h = absurd h
 below_last (k ∷ kinds) dep a (inl e) = subst (λ (d : DepKind). nat_eq (place_of_kind d) 15 ≡ false) e a.0
 below_last (k ∷ kinds) dep a (inr h) = below_last kinds dep a.1 h
@@ -63,7 +65,8 @@ module _ (implied : List (DepKind × Name)) (dep : DepKind) (v : Name) where
   name_for_is : (entry : DepKind × Name) → IsAmong dep naming_kinds → IsAmong v (name_for dep entry) → entry ≡ (dep, v)
   name_for_is entry naming h = by (nat_eq (place_of_kind entry.0) (place_of_kind dep)) refl h
     where
-      by : (b : Bool) → nat_eq (place_of_kind entry.0) (place_of_kind dep) ≡ b → IsAmong v (if b then entry.1 ∷ [] else []) → entry ≡ (dep, v)
+      by : (b : Bool) → nat_eq (place_of_kind entry.0) (place_of_kind dep) ≡ b
+          → IsAmong v (if b then entry.1 ∷ [] else []) → entry ≡ (dep, v)
       by true e (inl same) =
           ap (λ (d : DepKind). let p : DepKind × Name = (d, entry.1) in p) (one_place entry.0 dep naming e)
           ∙ ap (λ (n : Name). let p : DepKind × Name = (dep, n) in p) same
@@ -86,12 +89,14 @@ unless_device_filters [] = refl
 unless_device_filters (n ∷ names) = by (is_device_by (kind n)) (unless_device_filters names)
   where
     by : (b : Bool) → flat_map unless_device names ≡ filter (λ n. not (is_device_by (kind n))) names
-        → (if b then [] else n ∷ []) ++ flat_map unless_device names ≡ cond (not b) (n ∷ filter (λ n. not (is_device_by (kind n))) names) (filter (λ n. not (is_device_by (kind n))) names)
+        → (if b then [] else n ∷ []) ++ flat_map unless_device names ≡ cond (not b)
+        (n ∷ filter (λ n. not (is_device_by (kind n))) names) (filter (λ n. not (is_device_by (kind n))) names)
     by true rest = rest
     by false rest = ap (λ (l : List Name). n ∷ l) rest
 
 -- names in ascending order still ascend
-pub counted_ascends : (dep : DepKind) (names : List Name) → IsStrictlySortedBy name_cmp names → IsStrictlySortedBy name_cmp (counted_for dep names)
+pub counted_ascends : (dep : DepKind) (names : List Name) → IsStrictlySortedBy name_cmp names
+    → IsStrictlySortedBy name_cmp (counted_for dep names)
 counted_ascends Before names h =
     subst (IsStrictlySortedBy name_cmp) (sym (unless_device_filters names)) (IsStrictlySortedBy-filter name_cmp (λ n. not (is_device_by (kind n))) names h)
 counted_ascends other names h = h
@@ -140,7 +145,8 @@ module _ (implied : List (DepKind × Name)) (list : DependencyList) (v : Name) w
       by (inl a) = inl (contains_from_among v list.names a)
       by (inr b) = inr (names_for_are implied list.kind v naming b)
 
-  with_names_have : Counts Manager list.kind v → IsAmong v (list.names ++ names_for implied list.kind) → Contains (with_names implied list).names v
+  with_names_have : Counts Manager list.kind v → IsAmong v (list.names ++ names_for implied list.kind)
+      → Contains (with_names implied list).names v
   with_names_have counts h =
       let joined = (names_stay (list.names ++ names_for implied list.kind) v).1 (contains_from_among v (list.names ++ names_for implied list.kind) h) in
       contains_from_among v (with_names implied list).names
@@ -155,13 +161,15 @@ module _ (implied : List (DepKind × Name)) (list : DependencyList) (v : Name) w
 
 -- ---- the lists
 
-kinds_with : (implied : List (DepKind × Name)) (lists : List DependencyList) → map (λ (l : DependencyList). l.kind) (map (with_names implied) lists) ≡ map (λ (l : DependencyList). l.kind) lists
+kinds_with : (implied : List (DepKind × Name)) (lists : List DependencyList)
+    → map (λ (l : DependencyList). l.kind) (map (with_names implied) lists) ≡ map (λ (l : DependencyList). l.kind) lists
 kinds_with implied [] = refl
 kinds_with implied (list ∷ lists) = ap (λ (ks : List DepKind). list.kind ∷ ks) (kinds_with implied lists)
 
 module _ (unit : Name) (rows : List Row) (lists : List DependencyList) where
   -- the lists have the same kinds
-  pub kinds_stay : (profile : Profile) → map (λ (l : DependencyList). l.kind) (with_implied profile unit rows lists) ≡ map (λ (l : DependencyList). l.kind) lists
+  pub kinds_stay : (profile : Profile) → map (λ (l : DependencyList). l.kind) (with_implied profile unit rows lists)
+      ≡ map (λ (l : DependencyList). l.kind) lists
   kinds_stay Files = refl
   kinds_stay Manager = kinds_with (implied_names (facts_of unit rows)) lists
 
@@ -180,7 +188,8 @@ module _ (unit : Name) (rows : List Row) (lists : List DependencyList) where
   Implies profile dep v = (profile ≡ Manager) × IsAmong {X = DepKind × Name} (dep, v) (implied_names (facts_of unit rows))
 
   -- they have just what they had and what is implied, as far as it counts
-  pub listed_from : (profile : Profile) (dep : DepKind) (v : Name) → ((list : DependencyList) → IsAmong list lists → IsAmong list.kind naming_kinds)
+  pub listed_from : (profile : Profile) (dep : DepKind) (v : Name)
+      → ((list : DependencyList) → IsAmong list lists → IsAmong list.kind naming_kinds)
       → IsListed (with_implied profile unit rows lists) dep v → Counts profile dep v × (IsListed lists dep v ⊎ Implies profile dep v)
   listed_from Files dep v naming h = (tt, inl h)
   listed_from Manager dep v naming h =
@@ -194,7 +203,9 @@ module _ (unit : Name) (rows : List Row) (lists : List DependencyList) where
       by list there (inl a) = inl (record { list = list; there = contains_from_among list lists there; kind_is = refl; has_name = a })
       by list there (inr b) = inr (refl, b)
 
-  listed_with : (list : DependencyList) (v : Name) → IsAmong list lists → Contains (with_names (implied_names (facts_of unit rows)) list).names v → IsListed (map (with_names (implied_names (facts_of unit rows))) lists) list.kind v
+  listed_with : (list : DependencyList) (v : Name) → IsAmong list lists
+      → Contains (with_names (implied_names (facts_of unit rows)) list).names v
+      → IsListed (map (with_names (implied_names (facts_of unit rows))) lists) list.kind v
   listed_with list v there has =
       let implied = implied_names (facts_of unit rows) in
       record {
@@ -204,7 +215,8 @@ module _ (unit : Name) (rows : List Row) (lists : List DependencyList) where
         has_name = has;
       }
 
-  pub listed_stays : (profile : Profile) (dep : DepKind) (v : Name) → Counts profile dep v → IsListed lists dep v → IsListed (with_implied profile unit rows lists) dep v
+  pub listed_stays : (profile : Profile) (dep : DepKind) (v : Name) → Counts profile dep v → IsListed lists dep v
+      → IsListed (with_implied profile unit rows lists) dep v
   listed_stays Files dep v counts h = h
   listed_stays Manager dep v counts h =
       let counts_there = subst (λ (d : DepKind). Counts Manager d v) (sym h.kind_is) counts in
@@ -212,5 +224,6 @@ module _ (unit : Name) (rows : List Row) (lists : List DependencyList) where
       (listed_with h.list v (among_from_contains h.list lists h.there) (with_names_keep (implied_names (facts_of unit rows)) h.list v counts_there h.has_name))
 
   pub implied_listed : (list : DependencyList) (v : Name) → IsAmong list lists → Counts Manager list.kind v
-      → IsAmong {X = DepKind × Name} (list.kind, v) (implied_names (facts_of unit rows)) → IsListed (with_implied Manager unit rows lists) list.kind v
+      → IsAmong {X = DepKind × Name} (list.kind, v) (implied_names (facts_of unit rows))
+      → IsListed (with_implied Manager unit rows lists) list.kind v
   implied_listed list v there counts h = listed_with list v there (with_names_add (implied_names (facts_of unit rows)) list v counts h)

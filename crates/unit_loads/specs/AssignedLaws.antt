@@ -45,11 +45,13 @@ dependency_key profile InSlice h = absurd (true≢false (sym h))
 dependency_key profile SliceOf h = absurd (true≢false (sym h))
 
 -- so every value that is given stays
-all_given : (profile : Profile) (k : SettingKey) → rule_at profile k ≡ Dependency → (items : List Assignment) → values_at (settings_of profile items) k ≡ given profile k items
+all_given : (profile : Profile) (k : SettingKey) → rule_at profile k ≡ Dependency → (items : List Assignment)
+    → values_at (settings_of profile items) k ≡ given profile k items
 all_given profile k rule items = settings_keep_all profile k items (ap is_never_emptied rule) ∙ ap (λ r. counted r (given profile k items)) rule
 
 -- an assignment gives its value to its key, if the key sets dependencies and the value has a word
-gives_it : (profile : Profile) (k : SettingKey) → rule_at profile k ≡ Dependency → (a : Assignment) → k ≡ key_of a → (text : Text) → IsAmong text (words_of a.value) → gives profile k a ≡ true
+gives_it : (profile : Profile) (k : SettingKey) → rule_at profile k ≡ Dependency → (a : Assignment) → k ≡ key_of a
+    → (text : Text) → IsAmong text (words_of a.value) → gives profile k a ≡ true
 unfolding words_of
 gives_it profile k rule a e text h = and_from _ _ (and_from _ _ (ap (same_key k) (sym e) ∙ same_key_itself k) (ap (λ r. counts_by r a.value) (ap (rule_at profile) (sym e) ∙ rule) ∙ full)) full
   where
@@ -69,7 +71,9 @@ module _ (profile : Profile) (items : List Assignment) (dep : DepKind) (text : L
   values : values_at (settings_of profile items) (key_for dep) ≡ given profile (key_for dep) items
   values = all_given profile (key_for dep) (dependency_key profile dep settable) items
 
-  of_assignment : (value : Text) → IsAmong text (words_of value) → HasSource (λ (a : Assignment) z. a.value ≡ z) (filter (gives profile (key_for dep)) items) value → IsAssigned profile items dep text
+  of_assignment : (value : Text) → IsAmong text (words_of value)
+      → HasSource (λ (a : Assignment) z. a.value ≡ z) (filter (gives profile (key_for dep)) items) value
+      → IsAssigned profile items dep text
   of_assignment value h source =
       let found = among_filter (gives profile (key_for dep)) items source.source source.there in
       let same : key_for dep ≡ key_of source.source = same_key_is (key_for dep) (key_of source.source) (and_parts _ _ (and_parts _ _ found.1).0).0 in
@@ -100,7 +104,9 @@ module _ (profile : Profile) (items : List Assignment) (dep : DepKind) (text : L
 pub words_are_assigned : WordsAreAssigned
 words_are_assigned profile items dep text = (by (is_settable profile dep) refl, back)
   where
-    by : (settable : Bool) → is_settable profile dep ≡ settable → IsAmong text (cond settable (flat_map words_of (values_at (settings_of profile items) (key_for dep))) []) → IsAssigned profile items dep text
+    by : (settable : Bool) → is_settable profile dep ≡ settable
+        → IsAmong text (cond settable (flat_map words_of (values_at (settings_of profile items) (key_for dep))) [])
+        → IsAssigned profile items dep text
     by true e h = of_values profile items dep text e h
     by false e h = absurd h
 

@@ -17,13 +17,15 @@ placed_among (x ∷ xs) (suc i) d h = inr (placed_among xs i d h)
 
 -- the same files have the same bytes, and the same assignments and notes
 module _ (s t : HostViewMap) where
-  pub items_same : (files : List PlaceParts) → ((p : PlaceParts) → Contains files p → content_at s p ≡ content_at t p) → items_of s files ≡ items_of t files
+  pub items_same : (files : List PlaceParts) → ((p : PlaceParts) → Contains files p → content_at s p ≡ content_at t p)
+      → items_of s files ≡ items_of t files
   items_same [] same = refl
   items_same (p ∷ ps) same =
       ap (λ o. assignments_of (file_bytes o) ++ items_of s ps) (same p (first_there p ps))
       ∙ ap (λ xs. assignments_of (file_bytes (content_at t p)) ++ xs) (items_same ps (λ q c. same q (later_there p q ps c)))
 
-  notes_same : (files : List PlaceParts) → ((p : PlaceParts) → Contains files p → content_at s p ≡ content_at t p) → file_notes s files ≡ file_notes t files
+  notes_same : (files : List PlaceParts) → ((p : PlaceParts) → Contains files p → content_at s p ≡ content_at t p)
+      → file_notes s files ≡ file_notes t files
   notes_same [] same = refl
   notes_same (p ∷ ps) same =
       ap (λ o. map (note.File p) (notes_of (file_bytes o)) ++ file_notes s ps) (same p (first_there p ps))
@@ -38,32 +40,39 @@ abbrev pub AgreeInFolders : HostViewMap → HostViewMap → List Name → Type 0
 AgreeInFolders s t names = (p : PathParts) → IsAmong p.folder (unit_folders names) → viewed_at s p ≡ viewed_at t p
 
 -- what is seen at a path, and is the same in both, is the same at its place
-pub same_content : (s t : HostViewMap) → AreForOne s t → (q : PathParts) (c : Content) → viewed_at s q ≡ Some c → viewed_at s q ≡ viewed_at t q
+pub same_content : (s t : HostViewMap) → AreForOne s t → (q : PathParts) (c : Content) → viewed_at s q ≡ Some c
+    → viewed_at s q ≡ viewed_at t q
     → content_at s (viewed_place s q) ≡ content_at t (viewed_place s q)
 same_content s t one q c is same =
     content_viewed s q c is ∙ sym (content_viewed t q c (sym same ∙ is)) ∙ ap (content_at t) (sym (same_place s t one q))
 
 module _ (s t : HostViewMap) (one : AreForOne s t) (names : List Name) (inside : AgreeInFolders s t names) where
   -- a path in a folder of the unit shows the same
-  shown_in : (ds : List (List ℕ)) → ((d : List ℕ) → IsAmong d ds → IsAmong d (unit_folders names)) → (p : PathParts) (i : ℕ) → slice_get ds i ≡ Some p.folder → viewed_at s p ≡ viewed_at t p
+  shown_in : (ds : List (List ℕ)) → ((d : List ℕ) → IsAmong d ds → IsAmong d (unit_folders names))
+      → (p : PathParts) (i : ℕ) → slice_get ds i ≡ Some p.folder → viewed_at s p ≡ viewed_at t p
   shown_in ds own p i f = inside p (own p.folder (placed_among ds i p.folder f))
 
   -- and the same file is taken there
-  same_taken : (x : Search) (ds : List (List ℕ)) → ((d : List ℕ) → IsAmong d ds → IsAmong d (unit_folders names)) → (c : Candidate) (p : PathParts) → IsTaken s x ds c p ↔ IsTaken t x ds c p
+  same_taken : (x : Search) (ds : List (List ℕ)) → ((d : List ℕ) → IsAmong d ds → IsAmong d (unit_folders names))
+      → (c : Candidate) (p : PathParts) → IsTaken s x ds c p ↔ IsTaken t x ds c p
   same_taken x ds own c p = (folders_decide s t x ds (λ q i l f. shown_in ds own q i f) c p, folders_decide t s x ds (λ q i l f. sym (shown_in ds own q i f)) c p)
 
-  drop_in_folder : (o : Owner) (d : List ℕ) → IsAmong d (dirs_by o (name_dirs (folders names)) (type_dirs (folders names))) → IsAmong d (unit_folders names)
+  drop_in_folder : (o : Owner) (d : List ℕ)
+      → IsAmong d (dirs_by o (name_dirs (folders names)) (type_dirs (folders names))) → IsAmong d (unit_folders names)
   drop_in_folder OfName d h = IsAmong-append_left d (name_dirs (folders names)) _ h
   drop_in_folder OfType d h = IsAmong-append_right d (name_dirs (folders names)) _ (IsAmong-append_left d (type_dirs (folders names)) _ h)
 
   link_folder : (folder : Folder) (d : List ℕ) → IsAmong d (dirs_with (ending folder) (folders names)) → IsAmong d (unit_folders names)
   link_folder folder d h = IsAmong-append_right d (name_dirs (folders names)) _ (IsAmong-append_right d (type_dirs (folders names)) _ (by folder h))
     where
-      by : (folder : Folder) → IsAmong d (dirs_with (ending folder) (folders names)) → IsAmong d (dirs_with (ending Wants) (folders names) ++ dirs_with (ending Requires) (folders names))
+      by : (folder : Folder) → IsAmong d (dirs_with (ending folder) (folders names))
+          → IsAmong d (dirs_with (ending Wants) (folders names) ++ dirs_with (ending Requires) (folders names))
       by Wants h = IsAmong-append_left d (dirs_with (ending Wants) (folders names)) _ h
       by Requires h = IsAmong-append_right d (dirs_with (ending Wants) (folders names)) _ h
 
-  drop_in_folder_shown : (o : Owner) (p : PathParts) (i : ℕ) → slice_get (dirs_by o (name_dirs (folders names)) (type_dirs (folders names))) i ≡ Some p.folder → viewed_at s p ≡ viewed_at t p
+  drop_in_folder_shown : (o : Owner) (p : PathParts) (i : ℕ)
+      → slice_get (dirs_by o (name_dirs (folders names)) (type_dirs (folders names))) i ≡ Some p.folder
+      → viewed_at s p ≡ viewed_at t p
   drop_in_folder_shown o p i f = shown_in (dirs_by o (name_dirs (folders names)) (type_dirs (folders names))) (drop_in_folder o) p i f
 
   same_drop_in : (p : PathParts) → IsDropIn s names p ↔ IsDropIn t names p
@@ -103,7 +112,8 @@ module _ (s t : HostViewMap) (one : AreForOne s t) (names : List Name) (inside :
 
 -- a unit has the same settings in both, which have one profile, where its drop-ins and links are the same, and its files
 -- show the same
-module _ (s t : HostViewMap) (profile : s.profile ≡ t.profile) (unit : LoadedUnit) (fragment : Option PlaceParts) (drop_ins : (p : PlaceParts) → IsDropInAt s unit.names p ↔ IsDropInAt t unit.names p)
+module _ (s t : HostViewMap) (profile : s.profile ≡ t.profile) (unit : LoadedUnit) (fragment : Option PlaceParts)
+    (drop_ins : (p : PlaceParts) → IsDropInAt s unit.names p ↔ IsDropInAt t unit.names p)
     (links : (folder : Folder) (n : Name) → IsLinked s unit.names folder n ↔ IsLinked t unit.names folder n)
     (files : (p : PlaceParts) → Contains (files_with fragment unit.dropins) p → content_at s p ≡ content_at t p) where
   linked_too : (folder : Folder) (named : List Name) → AreLinks s unit.names folder named → AreLinks t unit.names folder named
@@ -175,7 +185,8 @@ chosen profile unit c status fragment h e = by (is_loaded_without_file profile u
     by false h = of_choice c h
 
 -- a file at a path of one component is the same, where near paths show the same
-own_file_shown : (s t : HostViewMap) → AreForOne s t → (names : List Name) → ((p : PathParts) → IsNear names p → viewed_at s p ≡ viewed_at t p)
+own_file_shown : (s t : HostViewMap) → AreForOne s t → (names : List Name)
+    → ((p : PathParts) → IsNear names p → viewed_at s p ≡ viewed_at t p)
     → (p : PlaceParts) → IsOwnFile s p → content_at s p ≡ content_at t p
 own_file_shown s t one names near p (q, is, own, b, bs, file) =
     ap (content_at s) (sym is) ∙ same_content s t one q (File (b ∷ bs)) file (near q (inl own)) ∙ ap (content_at t) is

@@ -13,7 +13,8 @@ FootprintsDecide =
 abbrev pub StoreFootprintsDecide : Type 0
 StoreFootprintsDecide =
     (s t : EntryMap) (viewer : Viewer) (name : Name) (unit : LoadedUnit) → SameLeads (host_view_of s viewer) (host_view_of t viewer)
-    → StoresAgreeIn s t viewer (footprint name unit.names) → IsUnit (host_view_of s viewer) name unit → IsUnit (host_view_of t viewer) name unit
+    → StoresAgreeIn s t viewer (footprint name unit.names) → IsUnit (host_view_of s viewer) name unit
+    → IsUnit (host_view_of t viewer) name unit
 
 -- stores that show a host the same at places show it the same at the paths
 abbrev pub AgreeViewed : Type 0
@@ -66,7 +67,8 @@ footprints_decide s t one name unit leads agree u =
 pub one_host : (s t : EntryMap) (viewer : Viewer) → AreForOne (host_view_of s viewer) (host_view_of t viewer)
 one_host s t viewer = by viewer.host
   where
-    by : (host : Option (List ℕ)) → AreForOne (host_view_of s (record viewer { host = host })) (host_view_of t (record viewer { host = host }))
+    by : (host : Option (List ℕ))
+        → AreForOne (host_view_of s (record viewer { host = host })) (host_view_of t (record viewer { host = host }))
     by None = (refl, refl)
     by (Some h) = (refl, refl)
 

@@ -16,7 +16,8 @@ pub record HaveTheSameFiles (s t : HostViewMap) : Type 0 where
 -- so it is for a host at whose places nothing is visible, and without a host
 abbrev pub HostsWithoutPlacesHaveTheseFiles : Type 0
 HostsWithoutPlacesHaveTheseFiles =
-    (s : EntryMap) (host : List ℕ) (profile : Profile) → ShowsNothing s (Host host) → HaveTheSameFiles (host_view_of s (of_host host profile)) (host_view_of s (of_fleet profile))
+    (s : EntryMap) (host : List ℕ) (profile : Profile) → ShowsNothing s (Host host)
+    → HaveTheSameFiles (host_view_of s (of_host host profile)) (host_view_of s (of_fleet profile))
 
 -- it has the units that there are without a host
 abbrev pub HostsWithoutPlacesHaveTheseUnits : Type 0
@@ -46,7 +47,8 @@ module _ (s t : HostViewMap) (same : HaveTheSameFiles s t) where
   same_mains n = ap (λ (r : Resolution). r.main) (same.resolved n)
 
   -- the files of a unit with a name and these drop-ins show the same
-  pub files_show : (n : Name) (fragment : Option PlaceParts) → ((place : PlaceParts) → fragment ≡ Some place → (resolution s n).choice ≡ choice.Fragment place)
+  pub files_show : (n : Name) (fragment : Option PlaceParts)
+      → ((place : PlaceParts) → fragment ≡ Some place → (resolution s n).choice ≡ choice.Fragment place)
       → (names : List Name) (dropins : List PlaceParts) → ((p : PlaceParts) → Contains dropins p → IsDropInAt s names p)
       → (p : PlaceParts) → Contains (files_with fragment dropins) p → content_at s p ≡ content_at t p
   files_show n None chosen_there names dropins are p c = same.drop_ins_show names p (are p c)
@@ -63,7 +65,8 @@ module _ (s t : HostViewMap) (same : HaveTheSameFiles s t) where
 
   -- a unit is the same by one profile
   module _ (profile : s.profile ≡ t.profile) where
-    status_there : (n : Name) (status : Status) → IsStatus s.profile n (resolution s n).choice status → IsStatus t.profile n (resolution t n).choice status
+    status_there : (n : Name) (status : Status) → IsStatus s.profile n (resolution s n).choice status
+        → IsStatus t.profile n (resolution t n).choice status
     status_there n status is =
         subst (λ (by : Profile). IsStatus by n (resolution t n).choice status) profile
         (subst (λ (r : Resolution). IsStatus s.profile n r.choice status) (same.resolved n) is)
@@ -154,8 +157,10 @@ module _ (s t : HostViewMap) (same : HaveTheSameFiles s t) where
     pub named_there : (unit : Name) (dep : DepKind) (v : Name) → IsNamed s unit dep v → IsNamed t unit dep v
     named_there unit dep v (counts, way) = (subst (λ (by : Profile). Counts by dep v) profile counts, by way)
       where
-        by : IsNamedByWord s unit dep v ⊎ ((folder : Folder) × (kind_of folder ≡ dep) × IsNamedByLink s unit folder v) ⊎ IsImplied s unit dep v
-            → IsNamedByWord t unit dep v ⊎ ((folder : Folder) × (kind_of folder ≡ dep) × IsNamedByLink t unit folder v) ⊎ IsImplied t unit dep v
+        by : IsNamedByWord s unit dep v ⊎ ((folder : Folder) × (kind_of folder ≡ dep) × IsNamedByLink s unit folder v)
+            ⊎ IsImplied s unit dep v
+            → IsNamedByWord t unit dep v ⊎ ((folder : Folder) × (kind_of folder ≡ dep) × IsNamedByLink t unit folder v)
+            ⊎ IsImplied t unit dep v
         by (inl n) = inl (named_by_word unit dep v n)
         by (inr (inl (folder, kind, n))) = inr (inl (folder, kind, named_by_link unit folder v n))
         by (inr (inr n)) = inr (inr (implied_there unit dep v n))

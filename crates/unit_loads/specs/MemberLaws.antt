@@ -26,7 +26,8 @@ module _ {X Y : Type 0} where
   among_flat_map f [] y h = absurd h
   among_flat_map f (x ∷ xs) y h = by (among_flat_map f xs y) (IsAmong-append_cases y (f x) (flat_map f xs) h)
     where
-      by : (IsAmong y (flat_map f xs) → HasSource (λ x z. IsAmong z (f x)) xs y) → IsAmong y (f x) ⊎ IsAmong y (flat_map f xs) → HasSource (λ x z. IsAmong z (f x)) (x ∷ xs) y
+      by : (IsAmong y (flat_map f xs) → HasSource (λ x z. IsAmong z (f x)) xs y)
+          → IsAmong y (f x) ⊎ IsAmong y (flat_map f xs) → HasSource (λ x z. IsAmong z (f x)) (x ∷ xs) y
       by more (inl a) = record { source = x; there = inl refl; makes = a }
       by more (inr b) = later (λ x z. IsAmong z (f x)) x xs y (more b)
 
@@ -39,7 +40,8 @@ module _ {X Y : Type 0} where
   among_filter_map f [] y h = absurd h
   among_filter_map f (x ∷ xs) y h = by (among_filter_map f xs y) (f x) refl h
     where
-      by : (IsAmong y (filter_map f xs) → HasSource (λ x z. f x ≡ Some z) xs y) → (o : Option Y) → f x ≡ o → IsAmong y (cons_option o (filter_map f xs)) → HasSource (λ x z. f x ≡ Some z) (x ∷ xs) y
+      by : (IsAmong y (filter_map f xs) → HasSource (λ x z. f x ≡ Some z) xs y) → (o : Option Y) → f x ≡ o
+          → IsAmong y (cons_option o (filter_map f xs)) → HasSource (λ x z. f x ≡ Some z) (x ∷ xs) y
       by more None e a = later (λ x z. f x ≡ Some z) x xs y (more a)
       by more (Some z) e (inl a) = record { source = x; there = inl refl; makes = e ∙ ap Some a }
       by more (Some z) e (inr a) = later (λ x z. f x ≡ Some z) x xs y (more a)
@@ -59,7 +61,8 @@ module _ {X : Type 0} (p : X → Bool) where
   among_filter [] x h = absurd h
   among_filter (z ∷ xs) x h = by (among_filter xs x) (p z) refl h
     where
-      by : (IsAmong x (filter p xs) → IsAmong x xs × (p x ≡ true)) → (b : Bool) → p z ≡ b → IsAmong x (cond b (z ∷ filter p xs) (filter p xs)) → IsAmong x (z ∷ xs) × (p x ≡ true)
+      by : (IsAmong x (filter p xs) → IsAmong x xs × (p x ≡ true)) → (b : Bool) → p z ≡ b
+          → IsAmong x (cond b (z ∷ filter p xs) (filter p xs)) → IsAmong x (z ∷ xs) × (p x ≡ true)
       by more true e (inl a) = (inl a, ap p (sym a) ∙ e)
       by more true e (inr a) = let m = more a in (inr m.0, m.1)
       by more false e a = let m = more a in (inr m.0, m.1)

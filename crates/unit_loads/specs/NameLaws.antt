@@ -69,27 +69,34 @@ nothing_listed dep v h =
 -- ---- the lists of a loaded unit
 
 module _ (profile : Profile) (entries : SettingMap) (unit : Name) (links : LinkNames) where
-  made_from : (list : DependencyList) → IsAmong list (map (list_with profile entries unit links) naming_kinds) → HasSource (λ dep list. list_with profile entries unit links dep ≡ list) naming_kinds list
+  made_from : (list : DependencyList) → IsAmong list (map (list_with profile entries unit links) naming_kinds)
+      → HasSource (λ dep list. list_with profile entries unit links dep ≡ list) naming_kinds list
   made_from list h = among_map (list_with profile entries unit links) naming_kinds list h
 
-  list_ascends : (list : DependencyList) → IsAmong list (map (list_with profile entries unit links) naming_kinds) → IsStrictlySortedBy name_cmp list.names
+  list_ascends : (list : DependencyList) → IsAmong list (map (list_with profile entries unit links) naming_kinds)
+      → IsStrictlySortedBy name_cmp list.names
   list_ascends list h =
       let from = made_from list h in
       subst (λ (l : DependencyList). IsStrictlySortedBy name_cmp l.names) from.makes (names_ascend (names_by unit (words_for profile entries from.source) ++ linked_by unit (links_for links from.source)))
 
   -- a member of the list of a kind is named by a word or by a link
   names_are_from : (dep : DepKind) (v : Name) → Contains (list_with profile entries unit links dep).names v
-      → HasSource (λ text z. result_ok (named_by unit text) ≡ Some z) (words_for profile entries dep) v ⊎ HasSource (λ link z. for_unit unit link ≡ Some z) (links_for links dep) v
+      → HasSource (λ text z. result_ok (named_by unit text) ≡ Some z) (words_for profile entries dep) v
+      ⊎ HasSource (λ link z. for_unit unit link ≡ Some z) (links_for links dep) v
   names_are_from dep v h =
       let words = names_by unit (words_for profile entries dep) in
       let linked = linked_by unit (links_for links dep) in
       by (IsAmong-append_cases v words linked (among_from_contains v (words ++ linked) ((names_stay (words ++ linked) v).0 h)))
     where
-      by : IsAmong v (names_by unit (words_for profile entries dep)) ⊎ IsAmong v (linked_by unit (links_for links dep)) → HasSource (λ text z. result_ok (named_by unit text) ≡ Some z) (words_for profile entries dep) v ⊎ HasSource (λ link z. for_unit unit link ≡ Some z) (links_for links dep) v
+      by : IsAmong v (names_by unit (words_for profile entries dep)) ⊎ IsAmong v (linked_by unit (links_for links dep))
+          → HasSource (λ text z. result_ok (named_by unit text) ≡ Some z) (words_for profile entries dep) v
+          ⊎ HasSource (λ link z. for_unit unit link ≡ Some z) (links_for links dep) v
       by (inl a) = inl (among_filter_map (λ text. result_ok (named_by unit text)) (words_for profile entries dep) v a)
       by (inr b) = inr (among_filter_map (for_unit unit) (links_for links dep) v b)
 
-  listed_in : (dep : DepKind) (v : Name) → IsAmong dep naming_kinds → IsAmong v (names_by unit (words_for profile entries dep) ++ linked_by unit (links_for links dep)) → IsListed (map (list_with profile entries unit links) naming_kinds) dep v
+  listed_in : (dep : DepKind) (v : Name) → IsAmong dep naming_kinds
+      → IsAmong v (names_by unit (words_for profile entries dep) ++ linked_by unit (links_for links dep))
+      → IsListed (map (list_with profile entries unit links) naming_kinds) dep v
   listed_in dep v naming h = record {
     list = list_with profile entries unit links dep;
     there = contains_from_among (list_with profile entries unit links dep) (map (list_with profile entries unit links) naming_kinds) (map_among (list_with profile entries unit links) naming_kinds dep naming);
@@ -98,7 +105,8 @@ module _ (profile : Profile) (entries : SettingMap) (unit : Name) (links : LinkN
   }
 
   -- each list is of a kind by which a unit may name another
-  lists_are_naming : (list : DependencyList) → IsAmong list (map (list_with profile entries unit links) naming_kinds) → IsAmong list.kind naming_kinds
+  lists_are_naming : (list : DependencyList) → IsAmong list (map (list_with profile entries unit links) naming_kinds)
+      → IsAmong list.kind naming_kinds
   lists_are_naming list h =
       let from = made_from list h in
       subst (λ (l : DependencyList). IsAmong l.kind naming_kinds) from.makes from.there
@@ -109,12 +117,15 @@ module _ (profile : Profile) (entries : SettingMap) (unit : Name) (links : LinkN
 abbrev HasWay : HostViewMap → Name → DepKind → Name → Type 0
 HasWay s unit dep v = IsNamedByWord s unit dep v ⊎ ((folder : Folder) × (kind_of folder ≡ dep) × IsNamedByLink s unit folder v) ⊎ IsImplied s unit dep v
 
-module _ (s : HostViewMap) (unit : LoadedUnit) (names_are : AreNames s unit.name unit.names) (fragment : Option PlaceParts) (loaded : IsLoadedFrom s unit.name fragment) (has : HasSettings s fragment unit) where
+module _ (s : HostViewMap) (unit : LoadedUnit) (names_are : AreNames s unit.name unit.names)
+    (fragment : Option PlaceParts) (loaded : IsLoadedFrom s unit.name fragment)
+    (has : HasSettings s fragment unit) where
   -- what words and links give
   own_lists : List DependencyList
   own_lists = lists_with s.profile (settings_in s fragment unit.dropins) unit.name has.links
 
-  link_names : (sort : Folder) (links : List Name) (v : Name) → AreLinks s unit.names sort links → HasSource (λ link z. for_unit unit.name link ≡ Some z) links v → IsNamedByLink s unit.name sort v
+  link_names : (sort : Folder) (links : List Name) (v : Name) → AreLinks s unit.names sort links
+      → HasSource (λ link z. for_unit unit.name link ≡ Some z) links v → IsNamedByLink s unit.name sort v
   link_names sort links v are from = record {
     names = unit.names;
     names_are = names_are;
@@ -125,12 +136,15 @@ module _ (s : HostViewMap) (unit : LoadedUnit) (names_are : AreNames s unit.name
     named = from.makes;
   }
 
-  named_by_link : (dep : DepKind) (v : Name) → HasSource (λ link z. for_unit unit.name link ≡ Some z) (links_for has.links dep) v → HasWay s unit.name dep v
+  named_by_link : (dep : DepKind) (v : Name)
+      → HasSource (λ link z. for_unit unit.name link ≡ Some z) (links_for has.links dep) v → HasWay s unit.name dep v
   named_by_link Wants v from = inr (inl (folder.Wants, refl, link_names folder.Wants has.links.wanted v has.links_are.wanted_are from))
   named_by_link Requires v from = inr (inl (folder.Requires, refl, link_names folder.Requires has.links.required v has.links_are.required_are from))
   named_by_link other v from = absurd from.there
 
-  named_by_word : (dep : DepKind) (v : Name) → HasSource (λ text z. result_ok (named_by unit.name text) ≡ Some z) (words_for s.profile (settings_in s fragment unit.dropins) dep) v → HasWay s unit.name dep v
+  named_by_word : (dep : DepKind) (v : Name)
+      → HasSource (λ text z. result_ok (named_by unit.name text) ≡ Some z)
+      (words_for s.profile (settings_in s fragment unit.dropins) dep) v → HasWay s unit.name dep v
   named_by_word dep v from = inl (record {
     names = unit.names;
     names_are = names_are;
@@ -151,7 +165,10 @@ module _ (s : HostViewMap) (unit : LoadedUnit) (names_are : AreNames s unit.name
       let kind_is : from.source ≡ dep = ap (λ (l : DependencyList). l.kind) from.makes ∙ h.kind_is in
       subst (λ (d : DepKind). HasWay s unit.name d v) kind_is (by from.source (names_are_from s.profile entries unit.name has.links from.source v (subst (λ (l : DependencyList). Contains l.names v) (sym from.makes) h.has_name)))
     where
-      by : (d : DepKind) → HasSource (λ text z. result_ok (named_by unit.name text) ≡ Some z) (words_for s.profile (settings_in s fragment unit.dropins) d) v ⊎ HasSource (λ link z. for_unit unit.name link ≡ Some z) (links_for has.links d) v → HasWay s unit.name d v
+      by : (d : DepKind)
+          → HasSource (λ text z. result_ok (named_by unit.name text) ≡ Some z)
+          (words_for s.profile (settings_in s fragment unit.dropins) d) v
+          ⊎ HasSource (λ link z. for_unit unit.name link ≡ Some z) (links_for has.links d) v → HasWay s unit.name d v
       by d (inl a) = named_by_word d v a
       by d (inr b) = named_by_link d v b
 
@@ -180,19 +197,25 @@ module _ (s : HostViewMap) (unit : LoadedUnit) (names_are : AreNames s unit.name
       by (inr implied) = inr (inr (implies_it dep v implied.0 implied.1))
 
   -- each name is in the list of its kind
-  in_deps : (dep : DepKind) (v : Name) → Counts s.profile dep v → IsAmong dep naming_kinds → IsAmong v (names_by unit.name (words_for s.profile (settings_in s fragment unit.dropins) dep) ++ linked_by unit.name (links_for has.links dep)) → IsListed unit.deps dep v
+  in_deps : (dep : DepKind) (v : Name) → Counts s.profile dep v → IsAmong dep naming_kinds
+      → IsAmong v
+      (names_by unit.name (words_for s.profile (settings_in s fragment unit.dropins) dep) ++ linked_by unit.name
+      (links_for has.links dep)) → IsListed unit.deps dep v
   unfolding own_lists
   in_deps dep v counts naming h =
       subst (λ (lists : List DependencyList). IsListed lists dep v) (sym has.deps_are)
       (listed_stays unit.name unit.values own_lists s.profile dep v counts (listed_in s.profile (settings_in s fragment unit.dropins) unit.name has.links dep v naming h))
 
-  word_listed : (dep : DepKind) (v : Name) (text : List ℕ) → Counts s.profile dep v → IsAssigned s.profile (items_of s (files_with fragment unit.dropins)) dep text → named_by unit.name text ≡ Ok v → IsListed unit.deps dep v
+  word_listed : (dep : DepKind) (v : Name) (text : List ℕ) → Counts s.profile dep v
+      → IsAssigned s.profile (items_of s (files_with fragment unit.dropins)) dep text → named_by unit.name text ≡ Ok v
+      → IsListed unit.deps dep v
   word_listed dep v text counts assigned named =
       let there = (words_are_assigned s.profile (items_of s (files_with fragment unit.dropins)) dep text).1 assigned in
       let words = words_for s.profile (settings_in s fragment unit.dropins) dep in
       in_deps dep v counts (naming_there s.profile dep assigned.settable) (IsAmong-append_left v (names_by unit.name words) (linked_by unit.name (links_for has.links dep)) (filter_map_among (λ w. result_ok (named_by unit.name w)) words text v there (ap result_ok named)))
 
-  link_listed : (dir : Folder) (v link : Name) → Counts s.profile (kind_of dir) v → IsLinked s unit.names dir link → for_unit unit.name link ≡ Some v → IsListed unit.deps (kind_of dir) v
+  link_listed : (dir : Folder) (v link : Name) → Counts s.profile (kind_of dir) v → IsLinked s unit.names dir link
+      → for_unit unit.name link ≡ Some v → IsListed unit.deps (kind_of dir) v
   link_listed folder.Wants v link counts linked named =
       in_deps Wants v counts (inr (inr (inl refl))) (IsAmong-append_right v (names_by unit.name (words_for s.profile (settings_in s fragment unit.dropins) Wants)) (linked_by unit.name has.links.wanted)
       (filter_map_among (for_unit unit.name) has.links.wanted link v (among_from_contains link has.links.wanted ((has.links_are.wanted_are.exact link).1 linked)) named))
@@ -227,13 +250,15 @@ module _ (s : HostViewMap) (unit : LoadedUnit) where
   kinds_by Masked h = ap (map (λ (list : DependencyList). list.kind)) h.no_deps
   kinds_by (Bad cause) h = ap (map (λ (list : DependencyList). list.kind)) h.no_deps
 
-  ascends_if_loaded : (fragment : Option PlaceParts) (list : DependencyList) → HasSettings s fragment unit → IsAmong list unit.deps → IsStrictlySortedBy name_cmp list.names
+  ascends_if_loaded : (fragment : Option PlaceParts) (list : DependencyList) → HasSettings s fragment unit
+      → IsAmong list unit.deps → IsStrictlySortedBy name_cmp list.names
   ascends_if_loaded fragment list h c =
       let entries = settings_in s fragment unit.dropins in
       implied_ascend unit.name unit.values (lists_with s.profile entries unit.name h.links) s.profile
       (λ l own. list_ascends s.profile entries unit.name h.links l own) list (subst (IsAmong list) h.deps_are c)
 
-  ascends_by : (status : Status) (list : DependencyList) → HasAllOf s unit status → IsAmong list unit.deps → IsStrictlySortedBy name_cmp list.names
+  ascends_by : (status : Status) (list : DependencyList) → HasAllOf s unit status → IsAmong list unit.deps
+      → IsStrictlySortedBy name_cmp list.names
   ascends_by (Loaded fragment) list h c = ascends_if_loaded (Some fragment) list h c
   ascends_by BuiltIn list h c = ascends_if_loaded None list h c
   ascends_by NotFound list h c = nothing_ascends list (subst (IsAmong list) h.no_deps c)
@@ -265,7 +290,8 @@ module _ (s : HostViewMap) (name : Name) (unit : LoadedUnit) (p : IsUnit s name 
   names_nothing : {Z : Type 0} (dep : DepKind) (v : Name) → unit.deps ≡ no_names → IsListed unit.deps dep v → Z
   names_nothing dep v none l = absurd (nothing_listed dep v (subst (λ (lists : List DependencyList). IsListed lists dep v) none l))
 
-  listed_names : (dep : DepKind) (v : Name) (status : Status) → unit.status ≡ status → HasAllOf s unit status → IsListed unit.deps dep v → IsNamed s unit.name dep v
+  listed_names : (dep : DepKind) (v : Name) (status : Status) → unit.status ≡ status → HasAllOf s unit status
+      → IsListed unit.deps dep v → IsNamed s unit.name dep v
   listed_names dep v (Loaded fragment) e h l = named_from_listed s unit own_names (Some fragment) (loaded_from (Loaded fragment) e refl) h dep v l
   listed_names dep v BuiltIn e h l = named_from_listed s unit own_names None (loaded_from BuiltIn e refl) h dep v l
   listed_names dep v NotFound e h l = names_nothing dep v h.no_deps l
@@ -290,7 +316,8 @@ module _ (s : HostViewMap) (name : Name) (unit : LoadedUnit) (p : IsUnit s name 
   same_names : (names : List Name) → AreNames s unit.name names → names ≡ unit.names
   same_names names are = one_list_of_names s unit.name names unit.names are own_names
 
-  same_dropins : (names : List Name) (dropins : List PlaceParts) (fragment : Option PlaceParts) → AreNames s unit.name names → AreDropIns s names dropins → HasSettings s fragment unit → dropins ≡ unit.dropins
+  same_dropins : (names : List Name) (dropins : List PlaceParts) (fragment : Option PlaceParts)
+      → AreNames s unit.name names → AreDropIns s names dropins → HasSettings s fragment unit → dropins ≡ unit.dropins
   same_dropins names dropins fragment are drop_ins_are h =
       one_dropins s unit.names dropins unit.dropins (subst (λ (ns : List Name). AreDropIns s ns dropins) (same_names names are) drop_ins_are) h.dropins_are
 
@@ -318,7 +345,8 @@ lists_have_what_is_named s name unit dep v p = (
 )
 
 -- a unit that is loaded from somewhere is loaded
-loaded_is : (s : HostViewMap) (name : Name) (unit : LoadedUnit) (fragment : Option PlaceParts) → IsUnit s name unit → IsLoadedFrom s name fragment → IsTrue (is_loaded_by unit.status)
+loaded_is : (s : HostViewMap) (name : Name) (unit : LoadedUnit) (fragment : Option PlaceParts) → IsUnit s name unit
+    → IsLoadedFrom s name fragment → IsTrue (is_loaded_by unit.status)
 loaded_is s name unit fragment p loaded =
     subst (λ (x : Status). IsTrue (is_loaded_by x)) (one_status s.profile name (resolution s name).choice loaded.status unit.status loaded.status_is p.status_is) loaded.loaded
 

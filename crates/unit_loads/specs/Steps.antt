@@ -33,11 +33,14 @@ with_linked names [] = names
 with_linked names linked = in_byte_order (names ++ linked)
 
 -- the effective settings of a fragment in a store, of borrowed drop-ins, and of links, for a unit
-pub record EvaluatesTo (s : HostViewMap) (fragment : Option PlaceParts) (borrowed : List (PathParts × Entry)) (unit : Name) (links : LinkNames) (found : UnitParts) : Type 0 where
+pub record EvaluatesTo (s : HostViewMap) (fragment : Option PlaceParts) (borrowed : List (PathParts × Entry))
+    (unit : Name) (links : LinkNames) (found : UnitParts) : Type 0 where
   pub dropins : found.dropins ≡ map (entry_place s) borrowed
   pub values : found.effective.values ≡ rows_of s.profile (settings_of s.profile (items_with s fragment borrowed)) unit
-  pub deps : found.effective.deps ≡ with_implied s.profile unit found.effective.values (lists_with s.profile (settings_of s.profile (items_with s fragment borrowed)) unit links)
-  pub notes : found.effective.notes ≡ (file_notes s (files_with fragment []) ++ borrowed_notes s borrowed) ++ map note.Setting (setting_notes s.profile (items_with s fragment borrowed) unit links)
+  pub deps : found.effective.deps ≡ with_implied s.profile unit found.effective.values
+      (lists_with s.profile (settings_of s.profile (items_with s fragment borrowed)) unit links)
+  pub notes : found.effective.notes ≡ (file_notes s (files_with fragment []) ++ borrowed_notes s borrowed)
+      ++ map note.Setting (setting_notes s.profile (items_with s fragment borrowed) unit links)
   pub manual : found.effective.manual ≡ refuses (settings_of s.profile (items_with s fragment borrowed))
   pub defaults : found.effective.has_defaults ≡ has_defaults_by s.profile unit found.effective.values
   pub mounts : found.effective.mounts ≡ mounts_by s.profile unit found.effective.values

@@ -21,7 +21,8 @@ one_status_by : (without_file : Bool) (c : Choice) (x y : Status) → IsStatusBy
 one_status_by true c x y p q = p ∙ sym q
 one_status_by false c x y p q = one_choices_status c x y p q
 
-pub one_status : (profile : Profile) (unit : Name) (c : Choice) (x y : Status) → IsStatus profile unit c x → IsStatus profile unit c y → x ≡ y
+pub one_status : (profile : Profile) (unit : Name) (c : Choice) (x y : Status) → IsStatus profile unit c x
+    → IsStatus profile unit c y → x ≡ y
 one_status profile unit c x y p q = one_status_by (is_loaded_without_file profile unit c) c x y p q
 
 module _ (s : HostViewMap) (names : List Name) where
@@ -95,7 +96,8 @@ module _ (s : HostViewMap) (a b : LoadedUnit) (name : a.name ≡ b.name) (names 
   alike Masked p q = alike_if_not p q
   alike (Bad cause) p q = alike_if_not p q
 
-unit_of : Name → List Name → Status → List PlaceParts → List Row → List DependencyList → List UnitNote → Bool → Bool → List Name → LoadedUnit
+unit_of : Name → List Name → Status → List PlaceParts → List Row → List DependencyList → List UnitNote → Bool → Bool
+    → List Name → LoadedUnit
 unit_of name names status dropins values deps notes manual has_defaults mounts = record {
   name = name;
   names = names;

@@ -134,8 +134,10 @@ pub record HasSettings (s : HostViewMap) (fragment : Option PlaceParts) (unit : 
   pub links : LinkNames
   pub links_are : AreLinkNames s unit.names links
   pub values_are : unit.values ≡ rows_of s.profile (settings_in s fragment unit.dropins) unit.name
-  pub deps_are : unit.deps ≡ with_implied s.profile unit.name unit.values (lists_with s.profile (settings_in s fragment unit.dropins) unit.name links)
-  pub notes_are : unit.notes ≡ file_notes s (files_with fragment unit.dropins) ++ map note.Setting (setting_notes s.profile (items_of s (files_with fragment unit.dropins)) unit.name links)
+  pub deps_are : unit.deps ≡ with_implied s.profile unit.name unit.values
+      (lists_with s.profile (settings_in s fragment unit.dropins) unit.name links)
+  pub notes_are : unit.notes ≡ file_notes s (files_with fragment unit.dropins) ++ map note.Setting
+      (setting_notes s.profile (items_of s (files_with fragment unit.dropins)) unit.name links)
   pub manual_is : unit.manual ≡ refuses (settings_in s fragment unit.dropins)
   pub defaults_are : unit.has_defaults ≡ has_defaults_by s.profile unit.name unit.values
   pub mounts_are : unit.mounts ≡ mounts_by s.profile unit.name unit.values

@@ -21,8 +21,10 @@ pub(crate) fn named_units(
     unit: &UnitName,
     links: LinkNames,
 ) -> Result<Dependencies, AllocError>
-    ensures lists { IfOk result (λ all. all.lists ≡ lists_with settings.now.profile settings.now.map unit.now links) }
-    ensures notes { IfOk result (λ all. all.notes ≡ dependency_notes settings.now.profile settings.now.map unit.now links) }
+    ensures lists { IfOk result
+        (λ all. all.lists ≡ lists_with settings.now.profile settings.now.map unit.now links) }
+    ensures notes { IfOk result
+        (λ all. all.notes ≡ dependency_notes settings.now.profile settings.now.map unit.now links) }
 {
     let Dependencies { lists, mut notes } = dependencies(alloc, settings, unit)?;
     let LinkNames { wanted, required } = links;

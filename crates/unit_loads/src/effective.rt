@@ -45,12 +45,17 @@ impl EffectiveSettings {
         text: UnitText,
         links: LinkNames,
     ) -> Result<EffectiveSettings, AllocError>
-        ensures values { IfOk result (λ it. it.values ≡ rows_of profile (settings_of profile text.items) unit.now) }
-        ensures deps { IfOk result (λ it. it.deps ≡ with_implied profile unit.now it.values (lists_with profile (settings_of profile text.items) unit.now links)) }
-        ensures notes { IfOk result (λ it. it.notes
-            ≡ text.notes ++ map UnitNote.Setting (setting_notes profile text.items unit.now links)) }
+        ensures values { IfOk result
+            (λ it. it.values ≡ rows_of profile (settings_of profile text.items) unit.now) }
+        ensures deps { IfOk result
+            (λ it. it.deps ≡ with_implied profile unit.now it.values
+            (lists_with profile (settings_of profile text.items) unit.now links)) }
+        ensures notes { IfOk result
+            (λ it. it.notes ≡ text.notes ++ map UnitNote.Setting
+            (setting_notes profile text.items unit.now links)) }
         ensures manual { IfOk result (λ it. it.manual ≡ refuses (settings_of profile text.items)) }
-        ensures defaults { IfOk result (λ it. it.has_defaults ≡ has_defaults_by profile unit.now it.values) }
+        ensures defaults { IfOk result
+            (λ it. it.has_defaults ≡ has_defaults_by profile unit.now it.values) }
         ensures mounts { IfOk result (λ it. it.mounts ≡ mounts_by profile unit.now it.values) }
     {
         let UnitText { items, mut notes } = text;
@@ -90,9 +95,12 @@ impl Outcome {
         unit: &UnitName,
         links: LinkNames,
     ) -> Result<Outcome, AllocError>
-        ensures values { IfOk result (λ it. it.values ≡ rows_of profile (settings_of profile items.now) unit.now) }
-        ensures deps { IfOk result (λ it. it.deps ≡ lists_with profile (settings_of profile items.now) unit.now links) }
-        ensures notes { IfOk result (λ it. it.notes ≡ setting_notes profile items.now unit.now links) }
+        ensures values { IfOk result
+            (λ it. it.values ≡ rows_of profile (settings_of profile items.now) unit.now) }
+        ensures deps { IfOk result
+            (λ it. it.deps ≡ lists_with profile (settings_of profile items.now) unit.now links) }
+        ensures notes { IfOk result
+            (λ it. it.notes ≡ setting_notes profile items.now unit.now links) }
         ensures manual { IfOk result (λ it. it.manual ≡ refuses (settings_of profile items.now)) }
     {
         let mut settings = apply(alloc, profile, items)?;
@@ -108,8 +116,10 @@ impl Outcome {
         unit: &UnitName,
         links: LinkNames,
     ) -> Result<Outcome, AllocError>
-        ensures values { IfOk result (λ it. it.values ≡ rows_of settings.now.profile settings.now.map unit.now) }
-        ensures deps { IfOk result (λ it. it.deps ≡ lists_with settings.now.profile settings.now.map unit.now links) }
+        ensures values { IfOk result
+            (λ it. it.values ≡ rows_of settings.now.profile settings.now.map unit.now) }
+        ensures deps { IfOk result
+            (λ it. it.deps ≡ lists_with settings.now.profile settings.now.map unit.now links) }
         ensures notes { IfOk result (λ it. it.notes
             ≡ noted ++ escape_notes settings.now.profile settings.now.map unit.now
             ++ dependency_notes settings.now.profile settings.now.map unit.now links) }

@@ -37,9 +37,11 @@ impl UnitText {
         fragment: Option<&Place>,
         dropins: &[HostViewEntry],
     ) -> Result<UnitText, AllocError>
-        ensures items { IfOk result (λ text. text.items ≡ items_with view.now (option_copied fragment.entry) dropins.now) }
-        ensures notes { IfOk result (λ text. text.notes
-            ≡ file_notes view.now (files_with (option_copied fragment.entry) []) ++ borrowed_notes view.now dropins.now) }
+        ensures items { IfOk result
+            (λ text. text.items ≡ items_with view.now (option_copied fragment.entry) dropins.now) }
+        ensures notes { IfOk result
+            (λ text. text.notes ≡ file_notes view.now (files_with (option_copied fragment.entry) [])
+            ++ borrowed_notes view.now dropins.now) }
     {
         let mut text = UnitText::of_fragment(alloc, view, fragment)?;
         for placed in dropins {
@@ -54,8 +56,12 @@ impl UnitText {
         view: &HostView,
         fragment: Option<&Place>,
     ) -> Result<UnitText, AllocError>
-        ensures items { IfOk result (λ text. text.items ≡ items_of view.now (files_with (option_copied fragment.entry) [])) }
-        ensures notes { IfOk result (λ text. text.notes ≡ file_notes view.now (files_with (option_copied fragment.entry) [])) }
+        ensures items { IfOk result
+            (λ text. text.items
+            ≡ items_of view.now (files_with (option_copied fragment.entry) [])) }
+        ensures notes { IfOk result
+            (λ text. text.notes
+            ≡ file_notes view.now (files_with (option_copied fragment.entry) [])) }
     {
         let mut text = UnitText::new(alloc);
         if let Some(place) = fragment {
@@ -71,8 +77,10 @@ impl UnitText {
         view: &HostView,
         placed: &HostViewEntry,
     ) -> Result<(), AllocError>
-        ensures items { OnOk result (self.new.items ≡ self.old.items ++ borrowed_items (placed.now ∷ [])) }
-        ensures notes { OnOk result (self.new.notes ≡ self.old.notes ++ borrowed_notes view.now (placed.now ∷ [])) }
+        ensures items { OnOk result
+            (self.new.items ≡ self.old.items ++ borrowed_items (placed.now ∷ [])) }
+        ensures notes { OnOk result
+            (self.new.notes ≡ self.old.notes ++ borrowed_notes view.now (placed.now ∷ [])) }
     {
         self.add_file(alloc, &view.place(placed)?, bytes_of(placed.visible()))
     }
@@ -80,7 +88,9 @@ impl UnitText {
     // Adds the assignments and notes of the file at a place, which has these bytes.
     fn add_file(&mut self, alloc: Global, place: &Place, bytes: &[u8]) -> Result<(), AllocError>
         ensures items { OnOk result (self.new.items ≡ self.old.items ++ assignments_of bytes.now) }
-        ensures notes { OnOk result (self.new.notes ≡ self.old.notes ++ map (UnitNote.File place.now) (notes_of bytes.now)) }
+        ensures notes { OnOk result
+            (self.new.notes
+            ≡ self.old.notes ++ map (UnitNote.File place.now) (notes_of bytes.now)) }
     {
         let Sections { items, notes } = read(alloc, bytes)?;
         self.items.append(items)?;

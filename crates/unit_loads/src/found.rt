@@ -31,7 +31,9 @@ impl UnitParts {
         names: &[UnitName],
         fragment: Option<&Place>,
     ) -> Result<UnitParts, AllocError>
-        ensures settings { IfOk result (λ found. (status : Status) → HasSettings view.now (option_copied fragment.entry)
+        ensures settings { IfOk result
+            (λ found. (status : Status)
+            → HasSettings view.now (option_copied fragment.entry)
             (unit_of_parts name.now names.now status found)) }
     {
         let folders = UnitFolders::of(alloc, names)?;
@@ -68,7 +70,8 @@ impl UnitParts {
         dropins: &[HostViewEntry],
         links: LinkNames,
     ) -> Result<UnitParts, AllocError>
-        ensures found { IfOk result (EvaluatesTo view.now (option_copied fragment.entry) dropins.now name.now links) }
+        ensures found { IfOk result
+            (EvaluatesTo view.now (option_copied fragment.entry) dropins.now name.now links) }
     {
         let text = UnitText::of(alloc, view, fragment, dropins)?;
         let effective = EffectiveSettings::of(alloc, view.profile(), name, text, links)?;

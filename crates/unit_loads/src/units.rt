@@ -166,7 +166,8 @@ impl TryClone for Unit {
 // Copies of the parts of a unit, a few at a time, so that few are given up where memory runs out.
 impl Unit {
     fn identity(&self) -> Result<(UnitName, Items<UnitName>, Status), AllocError>
-        ensures copies { IfOk result (λ copies. copies ≡ (self.now.name, self.now.names, self.now.status)) }
+        ensures copies { IfOk result
+            (λ copies. copies ≡ (self.now.name, self.now.names, self.now.status)) }
     {
         let name = self.name.try_clone()?;
         let names = self.names.try_clone()?;
@@ -183,7 +184,8 @@ impl Unit {
     fn findings(
         &self,
     ) -> Result<(Items<DependencyList>, Items<UnitNote>, Items<UnitName>), AllocError>
-        ensures copies { IfOk result (λ copies. copies ≡ (self.now.deps, self.now.notes, self.now.mounts)) }
+        ensures copies { IfOk result
+            (λ copies. copies ≡ (self.now.deps, self.now.notes, self.now.mounts)) }
     {
         let deps = self.deps.try_clone()?;
         let notes = self.notes.try_clone()?;

@@ -103,7 +103,8 @@ unescape-escaped : (b : ℕ) (rest : List ℕ) → b < 256 → unescape (escaped
 unfolding escaped_byte
 unescape-escaped b rest h = step (b == 47) (is_kept b) refl refl
   where
-    step : (t u : Bool) → (b == 47) ≡ t → is_kept b ≡ u → unescape (cond t (45 ∷ []) (cond u (b ∷ []) (hex_escape b)) ++ rest) ≡ put_first (Some b) (unescape rest)
+    step : (t u : Bool) → (b == 47) ≡ t → is_kept b ≡ u
+        → unescape (cond t (45 ∷ []) (cond u (b ∷ []) (hex_escape b)) ++ rest) ≡ put_first (Some b) (unescape rest)
     step true u e f = unescape-byte 45 rest refl ∙ ap (λ n. put_first (Some n) (unescape rest)) (sym (eqb-true b 47 e))
     step false true e f = unescape-kept b rest f
     step false false e f = unescape-hex b rest h
@@ -173,7 +174,8 @@ first_begins : (b : ℕ) (rest : List ℕ) → begins_without_dot (escaped_first
 unfolding escaped_byte hex_escape
 first_begins b rest = step (b == 46) (b == 47) (is_kept b) refl
   where
-    step : (s t u : Bool) → (b == 46) ≡ s → begins_without_dot (cond s (hex_escape b) (cond t (45 ∷ []) (cond u (b ∷ []) (hex_escape b))) ++ rest) ≡ true
+    step : (s t u : Bool) → (b == 46) ≡ s
+        → begins_without_dot (cond s (hex_escape b) (cond t (45 ∷ []) (cond u (b ∷ []) (hex_escape b))) ++ rest) ≡ true
     step true t u e = refl
     step false true u e = refl
     step false false true e = ap not e

@@ -43,7 +43,8 @@ unfolding tested
 passes t u v o n h =
     cond-false t _ _ h.first ∙ cond-false u _ _ h.second ∙ cond-false v _ _ h.third ∙ ap (λ p. unless_bad p n) h.last
 
-name_of_is : (n : Name) → name_of n ≡ tested (is_empty n || ltb 255 (length n)) (is_none (kind n)) (is_empty (prefix n)) (bad_place (stem n)) n
+name_of_is : (n : Name) → name_of n ≡ tested (is_empty n || ltb 255 (length n)) (is_none (kind n)) (is_empty (prefix n))
+    (bad_place (stem n)) n
 unfolding name_of tested
 name_of_is n = refl
 
@@ -129,7 +130,8 @@ some_kind (Some k) h = (k, refl)
 kind_parts : (n : Name) (k : Kind) → kind n ≡ Some k → (list_any is_dot n ≡ true) × (kind_of (suffix n) ≡ Some k)
 kind_parts n k h = step (list_any is_dot n) refl h
   where
-    step : (t : Bool) → list_any is_dot n ≡ t → cond t (kind_of (suffix n)) None ≡ Some k → (list_any is_dot n ≡ true) × (kind_of (suffix n) ≡ Some k)
+    step : (t : Bool) → list_any is_dot n ≡ t → cond t (kind_of (suffix n)) None ≡ Some k
+        → (list_any is_dot n ≡ true) × (kind_of (suffix n) ≡ Some k)
     step true e s = (e, s)
     step false e s = absurd (none-some _ s)
 
@@ -144,7 +146,8 @@ more_than_word n k d w = step (cases_lt (suffix_len (λ b. not (is_dot b)) n) (l
     whole : length n ≤ suffix_len (λ b. not (is_dot b)) n → n ≡ word k
     whole le = let z : length n - suffix_len (λ b. not (is_dot b)) n ≡ 0 = omega arith in sym (ap (λ m. drop m n) z) ∙ w
 
-    step : (suffix_len (λ b. not (is_dot b)) n < length n) ⊎ (length n ≤ suffix_len (λ b. not (is_dot b)) n) → suffix_len (λ b. not (is_dot b)) n < length n
+    step : (suffix_len (λ b. not (is_dot b)) n < length n) ⊎ (length n ≤ suffix_len (λ b. not (is_dot b)) n)
+        → suffix_len (λ b. not (is_dot b)) n < length n
     step (inl lt) = lt
     step (inr le) = absurd (true≢false (sym d ∙ ap (list_any is_dot) (whole le) ∙ dotless_any is_dot (word k) (word_dotless k)))
 
@@ -227,7 +230,8 @@ begins_with (x ∷ p) w h t = (and_parts _ _ t).0
 
 -- a name made of valid parts around a stem
 has_parts : (s : Shape) (p i st : List ℕ) (k : Kind) (n : Name) → AreParts s p i → n ≡ st ++ 46 ∷ word k → length n ≤ 255
-    → begins_well st ≡ true → list_all is_name_byte st ≡ true → shape n ≡ s → before_first is_at st ≡ p → after_first is_at st ≡ i → HasParts n s p i k
+    → begins_well st ≡ true → list_all is_name_byte st ≡ true → shape n ≡ s → before_first is_at st ≡ p
+    → after_first is_at st ≡ i → HasParts n s p i k
 has_parts s p i st k n a made short begins bytes sh pre ins =
     let e : stem n ≡ st = ap stem made ∙ stem_of_made st k in
     record {
@@ -249,7 +253,8 @@ shape_is_of : (n st : Name) → stem n ≡ st → shape n ≡ shape_of st
 unfolding shape_of
 shape_is_of n st e = ap (λ x. if not (list_any is_at x) then Plain else if is_empty (after_first is_at x) then Template else Instance) e
 
-shape_at : (st : List ℕ) (t u : Bool) → list_any is_at st ≡ t → is_empty (after_first is_at st) ≡ u → shape_of st ≡ (if not t then Plain else if u then Template else Instance)
+shape_at : (st : List ℕ) (t u : Bool) → list_any is_at st ≡ t → is_empty (after_first is_at st) ≡ u
+    → shape_of st ≡ (if not t then Plain else if u then Template else Instance)
 unfolding shape_of
 shape_at st t u e f = ap (λ b. if not b then Plain else if is_empty (after_first is_at st) then Template else Instance) e ∙ ap (λ b. if not t then Plain else if b then Template else Instance) f
 
@@ -282,7 +287,8 @@ parts_make_names Instance p i k a short =
     (shape_is_of n st (stem_of_made st k) ∙ shape_at st true false (has_at p i) (ap is_empty rest ∙ not-true _ f.0))
     (before_first_put is_at p 64 i a.prefix_plain refl) rest
 
-fits_at : (st : List ℕ) (t u : Bool) → list_any is_at st ≡ t → is_empty (after_first is_at st) ≡ u → list_all is_name_byte (after_first is_at st) ≡ true → fits (shape_of st) (after_first is_at st) ≡ true
+fits_at : (st : List ℕ) (t u : Bool) → list_any is_at st ≡ t → is_empty (after_first is_at st) ≡ u
+    → list_all is_name_byte (after_first is_at st) ≡ true → fits (shape_of st) (after_first is_at st) ≡ true
 fits_at st false u e f g = ap (λ x. fits x (after_first is_at st)) (shape_at st false u e f) ∙ ap is_empty (after_first_none is_at st e)
 fits_at st true true e f g = ap (λ x. fits x (after_first is_at st)) (shape_at st true true e f) ∙ f
 fits_at st true false e f g = ap (λ x. fits x (after_first is_at st)) (shape_at st true false e f) ∙ and_from _ _ (ap not f) g
@@ -348,7 +354,8 @@ template_parts n h s = sym (ap (λ x. name_with x (prefix n) (instance n) (suffi
 pub name_short : (n : Name) → IsName n → length n ≤ 255
 name_short n h = (made_of_name n h).2.short
 
-template_is_name : (n : Name) (k : Kind) → IsName n → kind n ≡ Some k → shape n ≡ Instance → HasParts (template_name (prefix n) (suffix n)) Template (prefix n) [] k
+template_is_name : (n : Name) (k : Kind) → IsName n → kind n ≡ Some k → shape n ≡ Instance
+    → HasParts (template_name (prefix n) (suffix n)) Template (prefix n) [] k
 template_is_name n k h e s =
     let a = parts_of_names_fit n h in
     let w = suffix_is_word n k e in
@@ -391,7 +398,8 @@ some_taken t i n k =
     ∙ ap (λ x. Some x) (sym k.put)
 
 -- an instance of a template has the template's prefix and kind
-pub instance_has_parts : (t i n : Name) → IsName t → with_instance t i ≡ Some n → (k : Kind) × (kind t ≡ Some k) × HasParts n Instance (prefix t) i k
+pub instance_has_parts : (t i n : Name) → IsName t → with_instance t i ≡ Some n
+    → (k : Kind) × (kind t ≡ Some k) × HasParts n Instance (prefix t) i k
 instance_has_parts t i n h e =
     let k = taken_some (shape t) t i n refl e in
     let a = parts_of_names_fit t h in

@@ -19,10 +19,12 @@ drop_start [] d w = refl
 drop_start (x ∷ u) d w = drop_start u d w
 
 -- the parts of bytes that are put together around the first byte that passes
-pub before_first_put : (p : ℕ → Bool) (u : List ℕ) (d : ℕ) (w : List ℕ) → list_all (λ b. not (p b)) u ≡ true → p d ≡ true → before_first p (u ++ d ∷ w) ≡ u
+pub before_first_put : (p : ℕ → Bool) (u : List ℕ) (d : ℕ) (w : List ℕ) → list_all (λ b. not (p b)) u ≡ true
+    → p d ≡ true → before_first p (u ++ d ∷ w) ≡ u
 before_first_put p u d w h t = ap (λ n. take n (u ++ d ∷ w)) (stops (λ b. not (p b)) u d w h (ap not t)) ∙ take_start u (d ∷ w)
 
-pub after_first_put : (p : ℕ → Bool) (u : List ℕ) (d : ℕ) (w : List ℕ) → list_all (λ b. not (p b)) u ≡ true → p d ≡ true → after_first p (u ++ d ∷ w) ≡ w
+pub after_first_put : (p : ℕ → Bool) (u : List ℕ) (d : ℕ) (w : List ℕ) → list_all (λ b. not (p b)) u ≡ true → p d ≡ true
+    → after_first p (u ++ d ∷ w) ≡ w
 after_first_put p u d w h t =
     let e : length u + 1 ≡ suc (length u) = omega arith in
     ap (λ n. drop (n + 1) (u ++ d ∷ w)) (stops (λ b. not (p b)) u d w h (ap not t)) ∙ ap (λ n. drop n (u ++ d ∷ w)) e ∙ drop_start u d w
@@ -38,20 +40,23 @@ all_reverse : (q : ℕ → Bool) (u : List ℕ) → list_all q u ≡ true → li
 all_reverse q [] h = refl
 all_reverse q (x ∷ u) h = let s = and_parts (q x) (list_all q u) h in ap (list_all q) (reverse_cons x u) ∙ all_push q (reverse u) x (all_reverse q u s.1) s.0
 
-after : (p : ℕ → Bool) (a : List ℕ) (d : ℕ) (k : List ℕ) → list_all (λ b. not (p b)) k ≡ true → p d ≡ true → suffix_len (λ b. not (p b)) (a ++ d ∷ k) ≡ length k
+after : (p : ℕ → Bool) (a : List ℕ) (d : ℕ) (k : List ℕ) → list_all (λ b. not (p b)) k ≡ true → p d ≡ true
+    → suffix_len (λ b. not (p b)) (a ++ d ∷ k) ≡ length k
 after p a d k h t =
     let r : reverse (a ++ d ∷ k) ≡ reverse k ++ d ∷ reverse a = reverse-append a (d ∷ k) ∙ ap (λ l. l ++ reverse a) (reverse_cons d k) ∙ append_assoc (reverse k) (d ∷ []) (reverse a) in
     ap (prefix_len (λ b. not (p b))) r ∙ stops (λ b. not (p b)) (reverse k) d (reverse a) (all_reverse (λ b. not (p b)) k h) (ap not t) ∙ length-reverse k
 
 -- the parts of bytes that are put together around the last byte that passes
-pub after_last_put : (p : ℕ → Bool) (a : List ℕ) (d : ℕ) (k : List ℕ) → list_all (λ b. not (p b)) k ≡ true → p d ≡ true → after_last p (a ++ d ∷ k) ≡ k
+pub after_last_put : (p : ℕ → Bool) (a : List ℕ) (d : ℕ) (k : List ℕ) → list_all (λ b. not (p b)) k ≡ true → p d ≡ true
+    → after_last p (a ++ d ∷ k) ≡ k
 after_last_put p a d k h t =
     let s = after p a d k h t in
     let l : length (a ++ d ∷ k) ≡ length a + length (d ∷ k) = length-append a (d ∷ k) in
     let n : length (a ++ d ∷ k) - suffix_len (λ b. not (p b)) (a ++ d ∷ k) ≡ suc (length a) = ap (λ m. length (a ++ d ∷ k) - m) s ∙ omega arith in
     ap (λ m. drop m (a ++ d ∷ k)) n ∙ drop_start a d k
 
-pub before_last_put : (p : ℕ → Bool) (a : List ℕ) (d : ℕ) (k : List ℕ) → list_all (λ b. not (p b)) k ≡ true → p d ≡ true → before_last p (a ++ d ∷ k) ≡ a
+pub before_last_put : (p : ℕ → Bool) (a : List ℕ) (d : ℕ) (k : List ℕ) → list_all (λ b. not (p b)) k ≡ true → p d ≡ true
+    → before_last p (a ++ d ∷ k) ≡ a
 before_last_put p a d k h t =
     let s = after p a d k h t in
     let l : length (a ++ d ∷ k) ≡ length a + length (d ∷ k) = length-append a (d ∷ k) in
@@ -63,7 +68,8 @@ pub place_within : (p : ℕ → Bool) (xs : List ℕ) → list_any p xs ≡ true
 place_within p [] h = cc
 place_within p (x ∷ xs) h = step (p x) refl (place_within p xs)
   where
-    step : (t : Bool) → p x ≡ t → (list_any p xs ≡ true → position_or_len p xs < length xs) → cond (not (p x)) (1 + position_or_len p xs) 0 < length (x ∷ xs)
+    step : (t : Bool) → p x ≡ t → (list_any p xs ≡ true → position_or_len p xs < length xs)
+        → cond (not (p x)) (1 + position_or_len p xs) 0 < length (x ∷ xs)
     step true e more = let z : cond (not (p x)) (1 + position_or_len p xs) 0 ≡ 0 = ap (λ b. cond (not b) (1 + position_or_len p xs) 0) e in omega arith
     step false e more =
         let z : cond (not (p x)) (1 + position_or_len p xs) 0 ≡ 1 + position_or_len p xs = ap (λ b. cond (not b) (1 + position_or_len p xs) 0) e in
@@ -89,7 +95,8 @@ pub before_first_fails : (p : ℕ → Bool) (xs : List ℕ) → list_all (λ b. 
 before_first_fails p [] = refl
 before_first_fails p (x ∷ xs) = ap (list_all (λ b. not (p b))) (take_while-cons (λ b. not (p b)) x xs) ∙ step (not (p x)) refl (before_first_fails p xs)
   where
-    step : (t : Bool) → not (p x) ≡ t → list_all (λ b. not (p b)) (before_first p xs) ≡ true → list_all (λ b. not (p b)) (cond t (x ∷ before_first p xs) []) ≡ true
+    step : (t : Bool) → not (p x) ≡ t → list_all (λ b. not (p b)) (before_first p xs) ≡ true
+        → list_all (λ b. not (p b)) (cond t (x ∷ before_first p xs) []) ≡ true
     step true e more = and_from _ _ e more
     step false e more = refl
 
@@ -113,7 +120,8 @@ pub any_fails : (p : ℕ → Bool) (xs : List ℕ) → list_any (λ b. not (p b)
 any_fails p [] = refl
 any_fails p (x ∷ xs) = step (p x) (any_fails p xs)
   where
-    step : (t : Bool) → list_any (λ b. not (p b)) xs ≡ not (list_all p xs) → (not t || list_any (λ b. not (p b)) xs) ≡ not (t && list_all p xs)
+    step : (t : Bool) → list_any (λ b. not (p b)) xs ≡ not (list_all p xs)
+        → (not t || list_any (λ b. not (p b)) xs) ≡ not (t && list_all p xs)
     step true more = more
     step false more = refl
 
@@ -121,7 +129,8 @@ any_fails p (x ∷ xs) = step (p x) (any_fails p xs)
 pub position_none : (p : ℕ → Bool) (xs : List ℕ) → list_any p xs ≡ false → position p xs ≡ None
 position_none p xs h = let e = place_past p xs h in step (ltb (position_or_len p xs) (length xs)) refl e
   where
-    step : (t : Bool) → ltb (position_or_len p xs) (length xs) ≡ t → position_or_len p xs ≡ length xs → cond t (Some (position_or_len p xs)) None ≡ None
+    step : (t : Bool) → ltb (position_or_len p xs) (length xs) ≡ t → position_or_len p xs ≡ length xs
+        → cond t (Some (position_or_len p xs)) None ≡ None
     step true l e = let s = ltb-true _ _ l in absurd (omega arith)
     step false l e = refl
 
@@ -142,7 +151,8 @@ find_passes p (y ∷ ys) x h = step (p y) refl h (find_passes p ys x)
     step false e s more = more s
 
 -- bytes are those before the last byte that passes, that byte, and those after it
-pub split_at_last : (p : ℕ → Bool) (d : ℕ) (xs : List ℕ) → ((b : ℕ) → p b ≡ true → b ≡ d) → suffix_len (λ b. not (p b)) xs < length xs → xs ≡ before_last p xs ++ d ∷ after_last p xs
+pub split_at_last : (p : ℕ → Bool) (d : ℕ) (xs : List ℕ) → ((b : ℕ) → p b ≡ true → b ≡ d)
+    → suffix_len (λ b. not (p b)) xs < length xs → xs ≡ before_last p xs ++ d ∷ after_last p xs
 split_at_last p d xs only h =
     let m = suffix_len (λ b. not (p b)) xs in
     let at : length xs - m - 1 < length xs = omega arith in

@@ -26,7 +26,8 @@ unfolding expand
 expand-nil n = refl
 
 -- a byte other than a percent sign is kept
-pub expand-byte : (b : ℕ) (rest : List ℕ) (n : Name) → is_percent b ≡ false → expand (b ∷ rest) n ≡ put_before (Some (b ∷ [])) (expand rest n)
+pub expand-byte : (b : ℕ) (rest : List ℕ) (n : Name) → is_percent b ≡ false
+    → expand (b ∷ rest) n ≡ put_before (Some (b ∷ [])) (expand rest n)
 unfolding expand
 expand-byte b [] n h = refl
 expand-byte b (c ∷ rest) n h = cond-false (b == 37) _ _ h

@@ -241,7 +241,8 @@ fn instance_bytes(
     instance: &[u8],
     suffix: &[u8],
 ) -> Result<Bytes, AllocError>
-    ensures bytes { IfOk result (λ bytes. bytes ≡ instance_name prefix.now instance.now suffix.now) }
+    ensures bytes { IfOk result
+        (λ bytes. bytes ≡ instance_name prefix.now instance.now suffix.now) }
 {
     let mut bytes = Vec::from_slice(alloc, prefix)?;
     bytes.push(b'@')?;

@@ -51,13 +51,16 @@ module _ (values : List Text) (value : Text) where
       at (Some b) = sym (last-push (filter_map boolean values) b)
 
 -- a test on borrowed texts
-pub any_borrowed : (p : Text → Bool) (texts : List (Bor Text)) → list_any (λ (it : Bor Text). p it.now) texts ≡ list_any p (map (λ (it : Bor Text). it.now) texts)
+pub any_borrowed : (p : Text → Bool) (texts : List (Bor Text))
+    → list_any (λ (it : Bor Text). p it.now) texts ≡ list_any p (map (λ (it : Bor Text). it.now) texts)
 any_borrowed p [] = refl
 any_borrowed p (t ∷ texts) = ap (λ b. p t.now || b) (any_borrowed p texts)
 
 -- a value more, where it was pushed
-pub pushed : (section key : Text) (rows : List Row) (i : ℕ) (d row : Row) (old new : List (Bor Text)) (value : Bor Text) → i < length rows → row ≡ get_or rows i d
-    → is_at section key row ≡ true → value.now ≡ row.value → map (λ (v : Bor Text). v.now) old ≡ values_in (take i rows) section key → new ≡ old ++ value ∷ []
+pub pushed : (section key : Text) (rows : List Row) (i : ℕ) (d row : Row) (old new : List (Bor Text)) (value : Bor Text)
+    → i < length rows → row ≡ get_or rows i d
+    → is_at section key row ≡ true → value.now ≡ row.value
+    → map (λ (v : Bor Text). v.now) old ≡ values_in (take i rows) section key → new ≡ old ++ value ∷ []
     → map (λ (v : Bor Text). v.now) new ≡ values_in (take (i + 1) rows) section key
 pushed section key rows i d row old new value h is at same before more =
     ap (map (λ (v : Bor Text). v.now)) more ∙ map-append (λ (v : Bor Text). v.now) old (value ∷ []) ∙ ap (λ l. l ++ value.now ∷ []) before

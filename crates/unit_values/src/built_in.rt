@@ -67,7 +67,8 @@ fn has_empty_part(alloc: Global, name: &[u8]) -> Result<bool, AllocError>
 }
 
 fn dash_parts(alloc: Global, name: &[u8]) -> Result<Vec<&[u8]>, AllocError>
-    ensures parts { IfOk result (λ parts. map (λ part. part.now) parts.items ≡ slice_split is_dash name.now) }
+    ensures parts { IfOk result
+        (λ parts. map (λ part. part.now) parts.items ≡ slice_split is_dash name.now) }
 {
     name.split(|b| is_dash(*b)).collect(alloc)
 }

@@ -11,7 +11,8 @@ use unit_name::UnitName;
 /// Returns whether a unit has default dependencies: what it says, and else not if it is perpetual (systemd.unit(5),
 /// "DefaultDependencies="). Fails only if memory runs out.
 pub fn has_defaults(alloc: Global, unit: &UnitName, rows: &[Row]) -> Result<bool, AllocError>
-    ensures test { IfOk result (λ test. test ≡ has_defaults (record { unit = unit.now; rows = rows.now })) }
+    ensures test { IfOk result
+        (λ test. test ≡ has_defaults (record { unit = unit.now; rows = rows.now })) }
 {
     match boolean_in(alloc, rows, b"Unit", b"DefaultDependencies")? {
         Some(said) => Ok(said),

@@ -46,7 +46,8 @@ pub fn values_in<'a>(
     section: &[u8],
     key: &[u8],
 ) -> Result<Vec<&'a [u8]>, AllocError>
-    ensures values { IfOk result (λ values. map (λ value. value.now) values.items ≡ values_in rows.now section.now key.now) }
+    ensures values { IfOk result
+        (λ values. map (λ value. value.now) values.items ≡ values_in rows.now section.now key.now) }
 {
     let mut values = Vec::new(alloc);
     for row in rows {
@@ -64,7 +65,8 @@ pub fn last_in<'a>(
     section: &[u8],
     key: &[u8],
 ) -> Result<Option<&'a [u8]>, AllocError>
-    ensures last { IfOk result (λ last. option_copied last ≡ last_of (values_in rows.now section.now key.now)) }
+    ensures last { IfOk result
+        (λ last. option_copied last ≡ last_of (values_in rows.now section.now key.now)) }
 {
     let values = values_in(alloc, rows, section, key)?;
     Ok(values.last().copied())
@@ -77,7 +79,8 @@ pub fn boolean_in(
     section: &[u8],
     key: &[u8],
 ) -> Result<Option<bool>, AllocError>
-    ensures last { IfOk result (λ last. last ≡ last_boolean (values_in rows.now section.now key.now)) }
+    ensures last { IfOk result
+        (λ last. last ≡ last_boolean (values_in rows.now section.now key.now)) }
 {
     let values = values_in(alloc, rows, section, key)?;
     Ok(last_boolean(&values))
@@ -109,7 +112,8 @@ pub fn words_in<'a>(
     section: &[u8],
     key: &[u8],
 ) -> Result<Vec<&'a [u8]>, AllocError>
-    ensures words { IfOk result (λ words. map (λ word. word.now) words.items ≡ words_in rows.now section.now key.now) }
+    ensures words { IfOk result
+        (λ words. map (λ word. word.now) words.items ≡ words_in rows.now section.now key.now) }
 {
     let mut words = Vec::new(alloc);
     for value in values_in(alloc, rows, section, key)? {
@@ -120,7 +124,8 @@ pub fn words_in<'a>(
 
 /// Returns whether a text is one of these.
 pub fn is_one_of(text: Option<&[u8]>, texts: &[&[u8]]) -> bool
-    ensures test { result ≡ is_one_of (map (λ text. text.now) texts.now) (option_copied text.entry) }
+    ensures test { result ≡ is_one_of (map (λ text. text.now) texts.now)
+        (option_copied text.entry) }
 {
     match text {
         Some(text) => is_among(text, texts),

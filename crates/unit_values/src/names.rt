@@ -25,7 +25,9 @@ pub fn last_named<'s>(
     texts: &[&'s [u8]],
     own: Kind,
 ) -> Result<Option<&'s [u8]>, AllocError>
-    ensures last { IfOk result (λ last. option_copied last ≡ last_of (filter (names_unit own) (map (λ text. text.now) texts.now))) }
+    ensures last { IfOk result
+        (λ last. option_copied last
+        ≡ last_of (filter (names_unit own) (map (λ text. text.now) texts.now))) }
 {
     let mut last = None;
     for text in texts {
@@ -53,7 +55,9 @@ pub fn first_other(
     unit: &UnitName,
     texts: &[&[u8]],
 ) -> Result<Option<UnitName>, AllocError>
-    ensures first { IfOk result (λ name. name ≡ first (filter_map (other_named unit.now) (map (λ text. text.now) texts.now))) }
+    ensures first { IfOk result
+        (λ name. name
+        ≡ first (filter_map (other_named unit.now) (map (λ text. text.now) texts.now))) }
 {
     for text in texts {
         let other = other_named(alloc, unit, text)?;
@@ -94,8 +98,9 @@ pub fn served_service(
     unit: &UnitName,
     values: &[&[u8]],
 ) -> Result<Vec<u8>, AllocError>
-    ensures text { IfOk result (λ text. text.items
-        ≡ or_sister (codes "service") unit.now (last_of (filter (names_unit Service) (map (λ value. value.now) values.now)))) }
+    ensures text { IfOk result
+        (λ text. text.items ≡ or_sister (codes "service") unit.now
+        (last_of (filter (names_unit Service) (map (λ value. value.now) values.now)))) }
 {
     match last_named(alloc, values, Kind::Service)? {
         Some(text) => Vec::from_slice(alloc, text),

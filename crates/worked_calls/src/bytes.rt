@@ -165,7 +165,8 @@ fn next_entry(
     out: &mut Answer,
     reader: &mut EntryReader<'_>,
 ) -> Result<Option<(Place, Entry)>, LineFault>
-    ensures fewer { IfOk result (λ next. IfSome next (λ _. most_left reader.new < most_left reader.old)) }
+    ensures fewer { IfOk result
+        (λ next. IfSome next (λ _. most_left reader.new < most_left reader.old)) }
 {
     match reader.next() {
         Ok(next) => Ok(next),

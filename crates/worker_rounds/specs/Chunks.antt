@@ -12,7 +12,8 @@ pub record AreChunks {N : Type 0} (workers : ℕ) (nodes : List N) (chunks : Lis
   pub numbered : map (λ chunk. chunk.number) chunks ≡ range_with_len 0 (length chunks)
 
 -- `all` is what the calls return for the chunks of some nodes, concatenated
-pub record AreWorked {N X E : Type 0} (gives : List (Chunk N) → List (Result (Vec X) E) → Type 0) (workers : ℕ) (nodes : List N) (all : List X) : Type 0 where
+pub record AreWorked {N X E : Type 0} (gives : List (Chunk N) → List (Result (Vec X) E) → Type 0) (workers : ℕ)
+    (nodes : List N) (all : List X) : Type 0 where
   pub chunks : List (Chunk N)
   pub parts : List (Result (Vec X) E)
   pub cut : AreChunks workers nodes chunks

@@ -23,9 +23,11 @@ pub(crate) fn cut<K: Drop>(
     workers: usize,
 ) -> Result<Vec<Chunk<K>>, AllocError>
     requires some { 0 < workers }
-    ensures whole { IfOk result (λ chunks. flat_map (λ chunk. chunk.nodes.items) chunks.items ≡ nodes.items) }
+    ensures whole { IfOk result
+        (λ chunks. flat_map (λ chunk. chunk.nodes.items) chunks.items ≡ nodes.items) }
     ensures count { IfOk result (λ chunks. length chunks.items ≡ min workers (length nodes.items)) }
-    ensures filled { IfOk result (λ chunks. All (λ chunk. 0 < length chunk.nodes.items) chunks.items) }
+    ensures filled { IfOk result
+        (λ chunks. All (λ chunk. 0 < length chunk.nodes.items) chunks.items) }
     ensures numbered { IfOk result (λ chunks. map (λ chunk. chunk.number) chunks.items
         ≡ range_with_len 0 (length chunks.items)) }
 {
@@ -52,8 +54,10 @@ pub fn work_by_chunks<
     F: Fn(Chunk<K>) -> Result<Vec<X>, AllocError> + Sync,
 >(rt: &R, alloc: Global, nodes: Vec<K>, workers: usize, work: &F) -> Result<Vec<X>, AllocError>
     requires some { 0 < workers }
-    requires ready { (chunks : _) → AreChunks workers nodes.items chunks → AcceptsJobs F.Fn work.now chunks }
-    ensures worked { IfOk result (λ all. AreWorked (GivesJobs F.Fn work.now) workers nodes.items all.items) }
+    requires ready { (chunks : _) → AreChunks workers nodes.items chunks
+        → AcceptsJobs F.Fn work.now chunks }
+    ensures worked { IfOk result
+        (λ all. AreWorked (GivesJobs F.Fn work.now) workers nodes.items all.items) }
 {
     let chunks = cut(alloc, nodes, workers)?;
     let parts = thread::map_vec(rt, chunks, work)?;

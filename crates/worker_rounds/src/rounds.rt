@@ -60,7 +60,8 @@ where
         requires some { 0 < resources.workers }
         requires ascending { IsStrictlySortedBy K.cmp fresh.items }
         requires nodes { All (L.is_node loader.now) fresh.items }
-        ensures round { IfOk result (λ round. IsRound (L.is_node loader.entry.now) (L.is_loaded loader.entry.now)
+        ensures round { IfOk result
+            (λ round. IsRound (L.is_node loader.entry.now) (L.is_loaded loader.entry.now)
             (L.named loader.entry.now) fresh.items round.pairs.items round.names.items) }
     { load_by_workers(&resources, alloc, loader, fresh) };
     let found = close_by_rounds(alloc, loader, sources, limit, load_round)?;

@@ -7,7 +7,8 @@ pub const MOST_WORKERS: usize = 64;
 
 /// Whether this is a valid number of workers: 1 to `MOST_WORKERS`. Everything that loads by workers checks this first.
 pub fn is_worker_count(workers: usize) -> bool
-    ensures worker_count { MatchBool result (IsWorkerCount workers) ((workers ≡ 0) ⊎ (64 < workers)) }
+    ensures worker_count { MatchBool result (IsWorkerCount workers)
+        ((workers ≡ 0) ⊎ (64 < workers)) }
 {
     workers != 0 && workers <= MOST_WORKERS
 }

@@ -27,7 +27,8 @@ fn load_chunk<K: Key, L: Loads<K>, G: Gate>(
     chunk: Chunk<K>,
 ) -> Result<Vec<(K, L::Loaded)>, AllocError>
     requires nodes { All (L.is_node loader.now) chunk.nodes.items }
-    ensures pairs { IfOk result (λ pairs. AreLoads (L.is_loaded loader.now) chunk.nodes.items pairs.items) }
+    ensures pairs { IfOk result
+        (λ pairs. AreLoads (L.is_loaded loader.now) chunk.nodes.items pairs.items) }
 {
     pass_gate(gate, chunk.number);
     load_each(alloc, loader, chunk.nodes)
@@ -81,8 +82,9 @@ where
     requires some { 0 < resources.now.workers }
     requires ascending { IsStrictlySortedBy K.cmp fresh.items }
     requires nodes { All (L.is_node loader.now) fresh.items }
-    ensures round { IfOk result (λ round. IsRound (L.is_node loader.now) (L.is_loaded loader.now) (L.named loader.now)
-        fresh.items round.pairs.items round.names.items) }
+    ensures round { IfOk result
+        (λ round. IsRound (L.is_node loader.now) (L.is_loaded loader.now)
+        (L.named loader.now) fresh.items round.pairs.items round.names.items) }
 {
     let pairs = pairs_by_workers(resources, alloc, loader, fresh)?;
     let names = name_by_workers(resources.rt, alloc, loader, resources.workers, &pairs)?;
@@ -100,12 +102,14 @@ where
     L::Loaded: Send,
     requires some { 0 < resources.now.workers }
     requires nodes { All (L.is_node loader.now) fresh.items }
-    ensures pairs { IfOk result (λ pairs. AreLoads (L.is_loaded loader.now) fresh.items pairs.items) }
+    ensures pairs { IfOk result
+        (λ pairs. AreLoads (L.is_loaded loader.now) fresh.items pairs.items) }
 {
     let gate = resources.gate;
     let load = |chunk: Chunk<K>| -> Result<Vec<(K, L::Loaded)>, AllocError>
         requires { All (L.is_node loader.now) chunk.nodes.items }
-        ensures { IfOk result (λ pairs. AreLoads (L.is_loaded loader.entry.now) chunk.nodes.items pairs.items) }
+        ensures { IfOk result
+            (λ pairs. AreLoads (L.is_loaded loader.entry.now) chunk.nodes.items pairs.items) }
     { load_chunk(alloc, loader, gate, chunk) };
     work_by_chunks(resources.rt, alloc, fresh, resources.workers, &load)
 }

@@ -8,10 +8,12 @@ use Rattle.std.specs.FinMap as finmap
 pub honest_are_told_apart : (es : List Edit) → IsHonest es → AreToldApart es
 honest_are_told_apart es honest e f a b here same = honest e f a b same
 
-pub get-cut : (s : EntryMap) (ask : VersionMap) (places : Option (List PlaceParts)) (q : PlaceParts) → finmap.get (cut s ask places) q ≡ passed (is_wanted ask places) q (finmap.get s q)
+pub get-cut : (s : EntryMap) (ask : VersionMap) (places : Option (List PlaceParts)) (q : PlaceParts)
+    → finmap.get (cut s ask places) q ≡ passed (is_wanted ask places) q (finmap.get s q)
 get-cut s ask places q = get-sum_of _ q ∙ greatest_at-filter (is_wanted ask places) q s
 
-find_versions : (q : PlaceParts) (es : List (PlaceParts × Entry)) → find place_cmp q (map (λ p. (p.0, p.1.version)) es) ≡ option_map (λ x. x.version) (find place_cmp q es)
+find_versions : (q : PlaceParts) (es : List (PlaceParts × Entry))
+    → find place_cmp q (map (λ p. (p.0, p.1.version)) es) ≡ option_map (λ x. x.version) (find place_cmp q es)
 find_versions q [] = refl
 find_versions q (e ∷ es) =
     ap (cond (eq_by_cmp place_cmp q e.0) (Some e.1.version)) (find_versions q es) ∙
@@ -27,7 +29,8 @@ nothing true = refl
 nothing false = refl
 
 -- the edits at the places asked for
-pub greatest_at-at_places : (places : Option (List PlaceParts)) (q : PlaceParts) (es : List Edit) → greatest_at q (at_places places es) ≡ cond (is_asked q places) (greatest_at q es) None
+pub greatest_at-at_places : (places : Option (List PlaceParts)) (q : PlaceParts) (es : List Edit)
+    → greatest_at q (at_places places es) ≡ cond (is_asked q places) (greatest_at q es) None
 greatest_at-at_places places q [] = nothing (is_asked q places)
 greatest_at-at_places places q (e ∷ es) =
     let rest : greatest_at q (at_places places es) ≡ cond (is_asked q places) (greatest_at q es) None = greatest_at-at_places places q es in
@@ -46,11 +49,13 @@ greatest_at-at_places places q (e ∷ es) =
     ] refl
 
 -- a cut holds nothing that the store doesn't hold
-pub get_from_cut : (s : EntryMap) (ask : VersionMap) (places : Option (List PlaceParts)) (q : PlaceParts) (x : Entry) → finmap.get (cut s ask places) q ≡ Some x → finmap.get s q ≡ Some x
+pub get_from_cut : (s : EntryMap) (ask : VersionMap) (places : Option (List PlaceParts)) (q : PlaceParts) (x : Entry)
+    → finmap.get (cut s ask places) q ≡ Some x → finmap.get s q ≡ Some x
 get_from_cut s ask places q x h = passed_was (is_wanted ask places) q (finmap.get s q) x (sym (get-cut s ask places q) ∙ h)
 
 -- an entry with no greater version is at most the other, if versions identify edits
-pub not_greater : (x y : Entry) → is_gt (version_cmp x.version y.version) ≡ false → (x.version ≡ y.version → x ≡ y) → IsBelow (Some x) (Some y)
+pub not_greater : (x y : Entry) → is_gt (version_cmp x.version y.version) ≡ false → (x.version ≡ y.version → x ≡ y)
+    → IsBelow (Some x) (Some y)
 not_greater x y h same =
     elim (version_cmp x.version y.version) as (λ o. version_cmp x.version y.version ≡ o → is_gt o ≡ false → is_gt (ordering_then o (content_cmp x.content y.content)) ≡ false) [
       | Less ↦ λ e g. refl
@@ -85,5 +90,6 @@ whole_answer a b apart =
     at_place q (finmap.get a q) (finmap.get b q) one (digest_of a) (get-digest_of a q) ∙ sym (get-join a b q))
 
 -- the part of a store at some places, looked up at one place
-pub get-only_at : (places : List PlaceParts) (s : EntryMap) (q : PlaceParts) → finmap.get (only_at places s) q ≡ passed (λ e. is_asked e.place (Some places)) q (finmap.get s q)
+pub get-only_at : (places : List PlaceParts) (s : EntryMap) (q : PlaceParts)
+    → finmap.get (only_at places s) q ≡ passed (λ e. is_asked e.place (Some places)) q (finmap.get s q)
 get-only_at places s q = get-sum_of _ q ∙ greatest_at-filter (λ e. is_asked e.place (Some places)) q s

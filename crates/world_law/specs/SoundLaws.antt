@@ -7,13 +7,15 @@ use Rattle.std.specs.FinMap as finmap
 
 -- Lists.
 
-slice_get-push_cases : {X : Type 0} (xs : List X) (x y : X) (i : ℕ) → slice_get (xs ++ x ∷ []) i ≡ Some y → (slice_get xs i ≡ Some y) ⊎ (x ≡ y)
+slice_get-push_cases : {X : Type 0} (xs : List X) (x y : X) (i : ℕ) → slice_get (xs ++ x ∷ []) i ≡ Some y
+    → (slice_get xs i ≡ Some y) ⊎ (x ≡ y)
 slice_get-push_cases [] x y zero h = inr (cc)
 slice_get-push_cases [] x y (suc i) h = cc
 slice_get-push_cases (z ∷ xs) x y zero h = inl h
 slice_get-push_cases (z ∷ xs) x y (suc i) h = slice_get-push_cases xs x y i h
 
-slice_get-changed_at : (i : ℕ) (f : Node → Node) (ns : List Node) (k : ℕ) (m : Node) → slice_get (changed_at i f ns) k ≡ Some m → (n : Node) × (slice_get ns k ≡ Some n) × ((m ≡ n) ⊎ ((i ≡ k) × (m ≡ f n)))
+slice_get-changed_at : (i : ℕ) (f : Node → Node) (ns : List Node) (k : ℕ) (m : Node) → slice_get (changed_at i f ns) k
+    ≡ Some m → (n : Node) × (slice_get ns k ≡ Some n) × ((m ≡ n) ⊎ ((i ≡ k) × (m ≡ f n)))
 slice_get-changed_at i f [] k m h = cc
 slice_get-changed_at zero f (n ∷ ns) zero m h = (n, refl, inr (refl, cc))
 slice_get-changed_at zero f (n ∷ ns) (suc k) m h = (m, h, inl refl)
@@ -57,7 +59,8 @@ append-nil : (es : List Edit) → es ++ [] ≡ es
 append-nil [] = refl
 append-nil (e ∷ es) = ap (λ (fs : List Edit). e ∷ fs) (append-nil es)
 
-pub puts_first : (n : ℕ) (event : Event) (events : List Event) (e : Edit) → IsAmong e (puts_of n (event ∷ [])) → IsAmong e (puts_of n (event ∷ events))
+pub puts_first : (n : ℕ) (event : Event) (events : List Event) (e : Edit) → IsAmong e (puts_of n (event ∷ []))
+    → IsAmong e (puts_of n (event ∷ events))
 puts_first n (Put i f) events e a =
     elim (nat_lt i n) as (λ b. IsAmong e (cond b (f ∷ []) []) → IsAmong e (cond b (f ∷ puts_of n events) (puts_of n events))) [
       | true ↦ λ h. elim h [ inl same ↦ inl same | inr none ↦ absurd none ]
@@ -67,7 +70,8 @@ puts_first n (Ask i) events e a = absurd a
 puts_first n (Cut j b places) events e a = absurd a
 puts_first n (Give p k) events e a = absurd a
 
-pub puts_rest : (n : ℕ) (event : Event) (events : List Event) (e : Edit) → IsAmong e (puts_of n events) → IsAmong e (puts_of n (event ∷ events))
+pub puts_rest : (n : ℕ) (event : Event) (events : List Event) (e : Edit) → IsAmong e (puts_of n events)
+    → IsAmong e (puts_of n (event ∷ events))
 puts_rest n (Put i f) events e a =
     elim (nat_lt i n) as (λ b. IsAmong e (cond b (f ∷ puts_of n events) (puts_of n events))) [ true ↦ inr a | false ↦ a ]
 puts_rest n (Ask i) events e a = a
@@ -110,7 +114,9 @@ module _ (count : ℕ) (IsPut : Edit → Type 0) where
       below_trans (greatest_at q p.had) _ _ (h q) (larger-mono (finmap.get p.entries q) (finmap.get n.store q) (finmap.get p.entries q) (finmap.get m.store q) (below_refl (finmap.get p.entries q)) (up q))
 
   -- a node that took more
-  grew : (i k : ℕ) (s : EntryMap) (es : List Edit) (ns : List Node) (m : Node) → slice_get (changed_at i (taken s es) ns) k ≡ Some m → (n : Node) × (slice_get ns k ≡ Some n) × IsStoreBelow n.store m.store
+  grew : (i k : ℕ) (s : EntryMap) (es : List Edit) (ns : List Node) (m : Node)
+      → slice_get (changed_at i (taken s es) ns) k ≡ Some m
+      → (n : Node) × (slice_get ns k ≡ Some n) × IsStoreBelow n.store m.store
   grew i k s es ns m h =
       let r = slice_get-changed_at i (taken s es) ns k m h in (
         r.0,
@@ -198,7 +204,9 @@ module _ (count : ℕ) (IsPut : Edit → Type 0) where
               below_trans (Some x) (Some r.0) (finmap.get asker.store q) small r.3
         ] refl
 
-    passed_at : (q : PlaceParts) (ask : VersionMap) (places : Option (List PlaceParts)) (x : Entry) → passed (is_wanted ask places) q (Some x) ≡ cond (is_asked q places && is_newer x.version (finmap.get ask q)) (Some x) None
+    passed_at : (q : PlaceParts) (ask : VersionMap) (places : Option (List PlaceParts)) (x : Entry)
+        → passed (is_wanted ask places) q (Some x)
+        ≡ cond (is_asked q places && is_newer x.version (finmap.get ask q)) (Some x) None
     passed_at q ask places x = refl
 
     -- a node cuts a piece for an ask
@@ -225,7 +233,8 @@ module _ (count : ℕ) (IsPut : Edit → Type 0) where
       had_put = λ e h. sound.puts e (IsAmong_from_filter (λ f. is_asked f.place places) e n.took h);
     }
 
-    cut_keeps : (w : EventWorld) (j a : ℕ) (places : Option (List PlaceParts)) → IsSound w → IsSound (cut_for w places (slice_get w.nodes j) (slice_get w.asks a))
+    cut_keeps : (w : EventWorld) (j a : ℕ) (places : Option (List PlaceParts)) → IsSound w
+        → IsSound (cut_for w places (slice_get w.nodes j) (slice_get w.asks a))
     cut_keeps w j a places sound =
         elim (slice_get w.nodes j) as (λ o. slice_get w.nodes j ≡ o → IsSound (cut_for w places o (slice_get w.asks a))) [
           | None ↦ λ _. sound
@@ -293,13 +302,15 @@ module _ (count : ℕ) (IsPut : Edit → Type 0) where
               ))
         ] refl
 
-    pub happens_keeps : (w : EventWorld) (event : Event) → IsSound w → ((e : Edit) → IsAmong e (puts_of count (event ∷ [])) → IsPut e) → IsSound (happens w event)
+    pub happens_keeps : (w : EventWorld) (event : Event) → IsSound w
+        → ((e : Edit) → IsAmong e (puts_of count (event ∷ [])) → IsPut e) → IsSound (happens w event)
     happens_keeps w (Put i e) sound puts = put_keeps w i e sound (λ real. puts e (subst (λ (b : Bool). IsAmong e (cond b (e ∷ []) [])) (sym real) (inl refl)))
     happens_keeps w (Ask i) sound puts = ask_keeps w i sound
     happens_keeps w (Cut j a places) sound puts = cut_keeps w j a places sound
     happens_keeps w (Give p k) sound puts = give_keeps w p k sound
 
-    pub after_keeps : (events : List Event) (w : EventWorld) → IsSound w → ((e : Edit) → IsAmong e (puts_of count events) → IsPut e) → IsSound (after events w)
+    pub after_keeps : (events : List Event) (w : EventWorld) → IsSound w
+        → ((e : Edit) → IsAmong e (puts_of count events) → IsPut e) → IsSound (after events w)
     after_keeps [] w sound puts = sound
     after_keeps (event ∷ events) w sound puts =
         after_keeps events (happens w event)

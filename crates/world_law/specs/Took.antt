@@ -27,9 +27,12 @@ pub data Took (n : ℕ) : List Event → ℕ → Edit → Type 0 where
   -- the node put e
   put : {history : List Event} {k : ℕ} {e : Edit} → k < n → Took n (Put k e ∷ history) k e
   -- e is an entry of a piece that was given to the node
-  entry : {history : List Event} {p k : ℕ} {e : Edit} (piece : Piece) → k < n → slice_get (world_of n history).pieces p ≡ Some piece → IsAmong e (edits_of piece.entries) → Took n (Give p k ∷ history) k e
+  entry : {history : List Event} {p k : ℕ} {e : Edit} (piece : Piece) → k < n → slice_get (world_of n history).pieces p
+      ≡ Some piece → IsAmong e (edits_of piece.entries) → Took n (Give p k ∷ history) k e
   -- the piece was cut for the node's own ask, and the cutting node had taken e before, at one of the places
-  whole : {history : List Event} {p k : ℕ} {e : Edit} (earlier : List Event) (j a : ℕ) (places : Option (List PlaceParts)) → k < n → WasCut n history p earlier j a places → IsAskOf (world_of n earlier) a k →
+  whole : {history : List Event} {p k : ℕ} {e : Edit} (earlier : List Event) (j a : ℕ)
+      (places : Option (List PlaceParts)) → k < n → WasCut n history p earlier j a places
+      → IsAskOf (world_of n earlier) a k →
       is_asked e.place places ≡ true → Took n earlier j e → Took n (Give p k ∷ history) k e
   -- the node took e earlier
   stays : {history : List Event} {k : ℕ} {e : Edit} (event : Event) → Took n history k e → Took n (event ∷ history) k e

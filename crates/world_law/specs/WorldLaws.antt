@@ -52,7 +52,8 @@ within_push [] x i lt = absurd (omega arith)
 within_push (y ∷ ys) x zero lt = refl
 within_push (y ∷ ys) x (suc i) lt = within_push ys x i (omega arith)
 
-changed_at-push : (i : ℕ) (f : Node → Node) (ns : List Node) (m : Node) → i < length ns → changed_at i f (ns ++ m ∷ []) ≡ changed_at i f ns ++ m ∷ []
+changed_at-push : (i : ℕ) (f : Node → Node) (ns : List Node) (m : Node) → i < length ns
+    → changed_at i f (ns ++ m ∷ []) ≡ changed_at i f ns ++ m ∷ []
 changed_at-push i f [] m lt = absurd (omega arith)
 changed_at-push zero f (n ∷ ns) m lt = refl
 changed_at-push (suc i) f (n ∷ ns) m lt = ap (λ (ms : List Node). n ∷ ms) (changed_at-push i f ns m (omega arith))
@@ -83,14 +84,16 @@ one_node_more n (Cut j a places ∷ es) h =
     ∙ ap (λ (o : Option Node). cut_for (with_new_node w) places o (slice_get w.asks a)) (within_push w.nodes _ j (omega (arith, node_count n es, h.0)))
     ∙ by (slice_get w.nodes j) (slice_get w.asks a)
   where
-    by : (o : Option Node) (q : Option Asked) → cut_for (with_new_node (world_of n es)) places o q ≡ with_new_node (cut_for (world_of n es) places o q)
+    by : (o : Option Node) (q : Option Asked)
+        → cut_for (with_new_node (world_of n es)) places o q ≡ with_new_node (cut_for (world_of n es) places o q)
     by None q = refl
     by (Some node) None = refl
     by (Some node) (Some ask) = refl
 one_node_more n (Give p k ∷ es) h =
     ap (λ (v : EventWorld). happens v (Give p k)) (one_node_more n es h.1) ∙ by (node_count n es) (slice_get (world_of n es).pieces p)
   where
-    by : length (world_of n es).nodes ≡ n → (o : Option Piece) → given_to (with_new_node (world_of n es)) k o ≡ with_new_node (given_to (world_of n es) k o)
+    by : length (world_of n es).nodes ≡ n → (o : Option Piece)
+        → given_to (with_new_node (world_of n es)) k o ≡ with_new_node (given_to (world_of n es) k o)
     by count None = refl
     by count (Some piece) = λ j. record (world_of n es) { nodes = changed_at-push k (taken piece.entries (edits_with piece k)) (world_of n es).nodes (record { store = finmap.empty; took = [] }) (omega (arith, count, h.0)) j }
 
@@ -122,7 +125,8 @@ puts_of-Put n history i e lt = cond-true _ _ _ (lt_true i n lt)
 -- What a node took.
 
 module _ (s : EntryMap) (xs : List Edit) where
-  took_here : (i : ℕ) (ns : List Node) → i < length ns → took_by (slice_get (changed_at i (taken s xs) ns) i) ≡ took_by (slice_get ns i) ++ xs
+  took_here : (i : ℕ) (ns : List Node) → i < length ns
+      → took_by (slice_get (changed_at i (taken s xs) ns) i) ≡ took_by (slice_get ns i) ++ xs
   took_here i [] lt = absurd (omega arith)
   took_here zero (n ∷ ns) lt = refl
   took_here (suc i) (n ∷ ns) lt = took_here i ns (omega arith)
@@ -156,7 +160,8 @@ module _ (w : EventWorld) where
       by (Some node) None = refl
       by (Some node) (Some ask) = refl
 
-  pub took-Give : (p k : ℕ) (piece : Piece) → slice_get w.pieces p ≡ Some piece → k < length w.nodes → took (happens w (Give p k)) k ≡ took w k ++ edits_with piece k
+  pub took-Give : (p k : ℕ) (piece : Piece) → slice_get w.pieces p ≡ Some piece → k < length w.nodes
+      → took (happens w (Give p k)) k ≡ took w k ++ edits_with piece k
   took-Give p k piece is lt = ap (λ (o : Option Piece). took (given_to w k o) k) is ∙ took_here piece.entries (edits_with piece k) k w.nodes lt
 
   pub took-Give_elsewhere : (p k l : ℕ) → l ≢ k → took (happens w (Give p k)) l ≡ took w l
@@ -171,7 +176,8 @@ module _ (w : EventWorld) where
   pub asked_is : (i : ℕ) (node : Node) → slice_get w.nodes i ≡ Some node → happens w (Ask i) ≡ record w { asks = w.asks ++ record { node = i; versions = digest_of node.store } ∷ [] }
   asked_is i node is = ap (asked_by w i) is
 
-  pub cut_is : (j a : ℕ) (places : Option (List PlaceParts)) (node : Node) (ask : Asked) → slice_get w.nodes j ≡ Some node → slice_get w.asks a ≡ Some ask
+  pub cut_is : (j a : ℕ) (places : Option (List PlaceParts)) (node : Node) (ask : Asked)
+      → slice_get w.nodes j ≡ Some node → slice_get w.asks a ≡ Some ask
       → happens w (Cut j a places) ≡ record w { pieces = w.pieces ++ record { entries = cut node.store ask.versions places; asker = ask.node; had = at_places places node.took } ∷ [] }
   cut_is j a places node ask at asked = ap (λ (o : Option Node). cut_for w places o (slice_get w.asks a)) at ∙ ap (cut_for w places (Some node)) asked
 
@@ -185,7 +191,8 @@ push_keeps (z ∷ xs) y zero x h = h
 push_keeps (z ∷ xs) y (suc i) x h = push_keeps xs y i x h
 
 -- a piece stays after every event
-pub piece_stays : (w : EventWorld) (event : Event) (p : ℕ) (piece : Piece) → slice_get w.pieces p ≡ Some piece → slice_get (happens w event).pieces p ≡ Some piece
+pub piece_stays : (w : EventWorld) (event : Event) (p : ℕ) (piece : Piece) → slice_get w.pieces p ≡ Some piece
+    → slice_get (happens w event).pieces p ≡ Some piece
 piece_stays w (Put i e) p piece h = h
 piece_stays w (Ask i) p piece h = by (slice_get w.nodes i)
   where
@@ -204,7 +211,8 @@ piece_stays w (Give q k) p piece h = by (slice_get w.pieces q)
     by None = h
     by (Some given) = h
 
-taken_stays : (i k : ℕ) (s : EntryMap) (xs : List Edit) (ns : List Node) (e : Edit) → IsAmong e (took_by (slice_get ns k)) → IsAmong e (took_by (slice_get (changed_at i (taken s xs) ns) k))
+taken_stays : (i k : ℕ) (s : EntryMap) (xs : List Edit) (ns : List Node) (e : Edit)
+    → IsAmong e (took_by (slice_get ns k)) → IsAmong e (took_by (slice_get (changed_at i (taken s xs) ns) k))
 taken_stays i k s xs [] e h = h
 taken_stays zero zero s xs (n ∷ ns) e h = IsAmong-append_left e n.took xs h
 taken_stays zero (suc k) s xs (n ∷ ns) e h = h
@@ -235,7 +243,9 @@ took-with_new_node w k = by w.nodes k
 -- Worlds whose edits are told apart by their versions.
 
 -- if the edits that are put are told apart, every invariant of the theorem holds
-world_sound : (n : ℕ) (all history : List Event) → AreToldApart (puts_of n all) → ((e : Edit) → IsAmong e (puts_of n history) → IsAmong e (puts_of n all)) → IsSound n (λ e. IsAmong e (puts_of n all)) (world_of n history)
+world_sound : (n : ℕ) (all history : List Event) → AreToldApart (puts_of n all)
+    → ((e : Edit) → IsAmong e (puts_of n history) → IsAmong e (puts_of n all))
+    → IsSound n (λ e. IsAmong e (puts_of n all)) (world_of n history)
 world_sound n all [] apart puts = blank_sound n (λ e. IsAmong e (puts_of n all))
 world_sound n all (event ∷ history) apart puts =
     happens_keeps n (λ e. IsAmong e (puts_of n all)) apart (world_of n history) event
@@ -243,12 +253,14 @@ world_sound n all (event ∷ history) apart puts =
     (λ e a. puts e (puts_first n event history e a))
 
 -- each node's store is the sum of what the node took
-pub stores_are_sums : (n : ℕ) (history : List Event) → AreToldApart (puts_of n history) → (k : ℕ) (node : Node) → slice_get (world_of n history).nodes k ≡ Some node → node.store ≡ sum_of (took (world_of n history) k)
+pub stores_are_sums : (n : ℕ) (history : List Event) → AreToldApart (puts_of n history) → (k : ℕ) (node : Node)
+    → slice_get (world_of n history).nodes k ≡ Some node → node.store ≡ sum_of (took (world_of n history) k)
 stores_are_sums n history apart k node at =
     ((world_sound n history history apart (λ e a. a)).nodes k node at).is_sum ∙ ap (λ (o : Option Node). sum_of (took_by o)) (sym at)
 
 -- a given piece is joined to the node's store
-pub given_is_joined : (n : ℕ) (history : List Event) → AreToldApart (puts_of n history) → (p k : ℕ) (piece : Piece) → slice_get (world_of n history).pieces p ≡ Some piece → k < n
+pub given_is_joined : (n : ℕ) (history : List Event) → AreToldApart (puts_of n history) → (p k : ℕ) (piece : Piece)
+    → slice_get (world_of n history).pieces p ≡ Some piece → k < n
     → sum_of (took (world_of n (Give p k ∷ history)) k) ≡ join (sum_of (took (world_of n history) k)) piece.entries
 given_is_joined n history apart p k piece is lt =
     let w = world_of n history in
@@ -258,13 +270,17 @@ given_is_joined n history apart p k piece is lt =
     sym (stores_are_sums n (Give p k ∷ history) apart k _ now)
     ∙ ap (λ s. join s piece.entries) (stores_are_sums n history apart k node.0 node.1)
   where
-    changed : (i : ℕ) (ns : List Node) (m : Node) → slice_get ns i ≡ Some m → slice_get (changed_at i (taken piece.entries (edits_with piece k)) ns) i ≡ Some (taken piece.entries (edits_with piece k) m)
+    changed : (i : ℕ) (ns : List Node) (m : Node) → slice_get ns i ≡ Some m
+        → slice_get (changed_at i (taken piece.entries (edits_with piece k)) ns) i
+        ≡ Some (taken piece.entries (edits_with piece k) m)
     changed i [] m h = cc (h)
     changed zero (x ∷ ns) m h = let same : x ≡ m = cc in ap (λ (y : Node). Some (taken piece.entries (edits_with piece k) y)) same
     changed (suc i) (x ∷ ns) m h = changed i ns m h
 
 -- everything that a node holds was put
-held_was_put : (n : ℕ) (history : List Event) → AreToldApart (puts_of n history) → (k : ℕ) (node : Node) → slice_get (world_of n history).nodes k ≡ Some node → (e : Edit) → IsAmong e (edits_of node.store) → IsAmong e (puts_of n history)
+held_was_put : (n : ℕ) (history : List Event) → AreToldApart (puts_of n history) → (k : ℕ) (node : Node)
+    → slice_get (world_of n history).nodes k ≡ Some node → (e : Edit) → IsAmong e (edits_of node.store)
+    → IsAmong e (puts_of n history)
 held_was_put n history apart k node at e a =
     let sound = (world_sound n history history apart (λ f b. b)).nodes k node at in
     sound.puts e ((sum_of-IsSum node.took).found e.place (entry_of e) (sym (ap (λ (s : EntryMap). finmap.get s e.place) sound.is_sum) ∙ get_from_edits_of e node.store a))
@@ -278,7 +294,8 @@ module _ (n : ℕ) (history : List Event) (apart : AreToldApart (puts_of n histo
 
   -- the piece that one node cuts for another node's latest ask
   pub answer_is : (places : Option (List PlaceParts)) →
-      (piece : Piece) × (slice_get (world_of n (Cut j a places ∷ Ask k ∷ history)).pieces (length w.pieces) ≡ Some piece) × (piece.entries ≡ cut (sum_of (took w j)) (digest_of (sum_of (took w k))) places)
+      (piece : Piece) × (slice_get (world_of n (Cut j a places ∷ Ask k ∷ history)).pieces (length w.pieces)
+      ≡ Some piece) × (piece.entries ≡ cut (sum_of (took w j)) (digest_of (sum_of (took w k))) places)
   answer_is places =
       let there = node_at n history j from in
       let here = node_at n history k to in
@@ -293,7 +310,8 @@ module _ (n : ℕ) (history : List Event) (apart : AreToldApart (puts_of n histo
       )
 
   -- a node that is given the full answer to its latest ask holds the join of both stores
-  pub merge_is_joined : sum_of (took (world_of n (Give (length w.pieces) k ∷ Cut j a None ∷ Ask k ∷ history)) k) ≡ join (sum_of (took w k)) (sum_of (took w j))
+  pub merge_is_joined : sum_of (took (world_of n (Give (length w.pieces) k ∷ Cut j a None ∷ Ask k ∷ history)) k)
+      ≡ join (sum_of (took w k)) (sum_of (took w j))
   merge_is_joined =
       let there = node_at n history j from in
       let here = node_at n history k to in

@@ -35,7 +35,8 @@ fn writers_with(number: u32, store: &Store) -> Result<BTreeSet<u32>, AllocError>
 impl Shell {
     /// A shell with one node, which holds what a replica does.
     pub(crate) fn begun(alloc: Global, name: &[u8], replica: Replica) -> Result<Shell, AllocError>
-        ensures begun { IfOk result (λ shell. Holds (kept_in shell) (begun name.now replica.writer replica.store)) }
+        ensures begun { IfOk result
+            (λ shell. Holds (kept_in shell) (begun name.now replica.writer replica.store)) }
     {
         let writers = writers_with(replica.writer(), replica.store())?;
         let mut numbers = BTreeMap::new(alloc);
@@ -61,14 +62,19 @@ impl Shell {
         writer: &mut K,
         pending: &[u8],
     ) -> Result<(), KeptFault>
-        ensures written { OnOk result (Appends (K.contents writer.old) (K.contents writer.new) pending.now) }
-        ensures prefix { OnErr result (AppendsPrefix (K.contents writer.old) (K.contents writer.new) pending.now) }
+        ensures written { OnOk result
+            (Appends (K.contents writer.old) (K.contents writer.new) pending.now) }
+        ensures prefix { OnErr result
+            (AppendsPrefix (K.contents writer.old) (K.contents writer.new) pending.now) }
 
         // What the first node holds is kept before an answer is written.
-        ensures held { OnOk result (FirstIsHeld (kept_in self.now) (H.holds home.old) (H.holds home.new)) }
-        ensures first { (writer.new ≡ writer.old) ⊎ FirstIsHeld (kept_in self.now) (H.holds home.old) (H.holds home.new) }
+        ensures held { OnOk result
+            (FirstIsHeld (kept_in self.now) (H.holds home.old) (H.holds home.new)) }
+        ensures first { (writer.new ≡ writer.old)
+            ⊎ FirstIsHeld (kept_in self.now) (H.holds home.old) (H.holds home.new) }
         ensures kept { StaysKept (H.keeps home.old) (H.keeps home.new) }
-        ensures write { IsErrOf result KeptFault.Write → FailedSince (K.refusals writer.old) (K.refusals writer.new) }
+        ensures write { IsErrOf result KeptFault.Write
+            → FailedSince (K.refusals writer.old) (K.refusals writer.new) }
         ensures unrefused { OnOk result (K.refusals writer.new ≡ K.refusals writer.old) }
         ensures read { IsErrOf result KeptFault.Read → ⊥ }
     {

@@ -95,7 +95,8 @@ impl Shell {
     // Where a command writes: the index of the node with a name, and the place that a text writes.
     fn site(&self, alloc: Global, node: &[u8], place: &[u8]) -> Result<(usize, Place), Fault>
         ensures within { IfOk result (λ site. site.0 < length self.now.nodes.items) }
-        ensures found { MatchResult result (λ site. IsSite (kept_in self.now) node.now place.now site.0 site.1)
+        ensures found { MatchResult result
+            (λ site. IsSite (kept_in self.now) node.now place.now site.0 site.1)
             (HasNoSite (kept_in self.now) node.now place.now) }
     {
         let at = self.node_at(alloc, node)?;

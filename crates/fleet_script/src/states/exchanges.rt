@@ -36,7 +36,8 @@ impl Shell {
         to: &[u8],
         places: Words<'_>,
     ) -> Rendered
-        ensures done { Executes self.old self.new (Part piece.now from.now to.now places.entry) result }
+        ensures done { Executes self.old self.new
+            (Part piece.now from.now to.now places.entry) result }
         ensures worker_count { self.new.workers ≡ self.old.workers }
     {
         let from = self.node_at(alloc, from)?;
@@ -81,8 +82,10 @@ impl Shell {
         requires from_within { from < vec_len self.old.nodes }
         requires to_within { to < vec_len self.old.nodes }
         ensures given { OnOk result (IsGivenAt (kept_in self.old) from to (kept_in self.new)) }
-        ensures changed { IfOk result (λ changed. (d : Replicated) → changed ≡ changed_places
-            (slice_index_or self.old.nodes.items to d).store (slice_index_or self.new.nodes.items to d).store) }
+        ensures changed { IfOk result
+            (λ changed. (d : Replicated)
+            → changed ≡ changed_places (slice_index_or self.old.nodes.items to d).store
+            (slice_index_or self.new.nodes.items to d).store) }
         ensures worker_count { self.new.workers ≡ self.old.workers }
     {
         if from == to {

@@ -50,8 +50,9 @@ impl Shell {
         host: Option<Word<'_>>,
         inquiry: Inquiry<'_>,
     ) -> Rendered
-        ensures done { Goes (kept_in self.old) (kept_in self.new) (λ before outcome after.
-            Reads before outcome after node.now (RendersInquiry before.profile host.entry inquiry.entry)) result }
+        ensures done { Goes (kept_in self.old) (kept_in self.new)
+            (λ before outcome after. Reads before outcome after node.now
+            (RendersInquiry before.profile host.entry inquiry.entry)) result }
     {
         let at = self.node_at(alloc, node)?;
         render_inquiry(

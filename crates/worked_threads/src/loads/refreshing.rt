@@ -31,7 +31,8 @@ impl LoadedStore {
         viewer: &Viewer,
         names: &[UnitName],
     ) -> Result<LoadedStore, LoadFault>
-        ensures load { IfOk result (λ made. IsLoad (host_view_of made.store made.load.viewer) made.load.extra made.load) }
+        ensures load { IfOk result
+            (λ made. IsLoad (host_view_of made.store made.load.viewer) made.load.extra made.load) }
     {
         let load = load_here(alloc, &store, viewer, names)?;
         Ok(LoadedStore { store, load })
@@ -39,10 +40,12 @@ impl LoadedStore {
 
     // Refreshes the load for another store, if these are just the places at which that one shows something else.
     fn refreshed(&self, store: &Store, changed: &[Place]) -> Result<Loaded, LoadFault>
-        requires load { IsLoad (host_view_of self.now.store self.now.load.viewer) self.now.load.extra self.now.load }
+        requires load { IsLoad (host_view_of self.now.store self.now.load.viewer)
+            self.now.load.extra self.now.load }
         requires changed { (p : PlaceParts) → IsAmong p changed.now
             ↔ (visible_at store.now p ≢ visible_at self.now.store p) }
-        ensures load { IfOk result (λ load. IsLoad (host_view_of store.now load.viewer) load.extra load) }
+        ensures load { IfOk result
+            (λ load. IsLoad (host_view_of store.now load.viewer) load.extra load) }
     {
         let load = load_refreshes::refresh(&self.load, store, changed)?;
         Ok(load)
@@ -50,8 +53,10 @@ impl LoadedStore {
 
     // Refreshes the load in place, and gives it away.
     fn given_away(self, store: &Store, changed: &[Place]) -> Result<Refreshed, LoadFault>
-        requires load { IsLoad (host_view_of self.store self.load.viewer) self.load.extra self.load }
-        requires changed { (p : PlaceParts) → IsAmong p changed.now ↔ (visible_at store.now p ≢ visible_at self.store p) }
+        requires load { IsLoad (host_view_of self.store self.load.viewer) self.load.extra
+            self.load }
+        requires changed { (p : PlaceParts) → IsAmong p changed.now
+            ↔ (visible_at store.now p ≢ visible_at self.store p) }
     {
         refresh_in_place(self.load, store, changed)
     }
@@ -154,8 +159,10 @@ fn append_both(
     load: &Loaded,
     here: &Result<Loaded, LoadFault>,
 ) -> Done
-    requires load { IsLoad (host_view_of before.store before.load.viewer) before.load.extra before.load }
-    requires changed { (p : PlaceParts) → IsAmong p changed.now ↔ (visible_at store.now p ≢ visible_at before.store p) }
+    requires load { IsLoad (host_view_of before.store before.load.viewer) before.load.extra
+        before.load }
+    requires changed { (p : PlaceParts) → IsAmong p changed.now
+        ↔ (visible_at store.now p ≢ visible_at before.store p) }
 {
     append_compared(out, load, here)?;
     append_given_away(out, &before.given_away(store, changed), here)
@@ -168,8 +175,10 @@ fn append_refreshed(
     before: LoadedStore,
     store: Store,
 ) -> Result<LoadedStore, LineFault>
-    requires load { IsLoad (host_view_of before.store before.load.viewer) before.load.extra before.load }
-    ensures load { IfOk result (λ made. IsLoad (host_view_of made.store made.load.viewer) made.load.extra made.load) }
+    requires load { IsLoad (host_view_of before.store before.load.viewer) before.load.extra
+        before.load }
+    ensures load { IfOk result
+        (λ made. IsLoad (host_view_of made.store made.load.viewer) made.load.extra made.load) }
 {
     let changed = store.changed(&before.store)?;
     append_changed(out, &changed);
@@ -188,7 +197,8 @@ fn append_refreshed(
 
 // Refreshes the load for each of several numbers of edits, one after another.
 fn append_later(out: &mut Answer, first: LoadedStore, edits: &[Edit], counts: &[usize]) -> Done
-    requires load { IsLoad (host_view_of first.store first.load.viewer) first.load.extra first.load }
+    requires load { IsLoad (host_view_of first.store first.load.viewer) first.load.extra
+        first.load }
 {
     let mut held = first;
     for count in counts {
